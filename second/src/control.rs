@@ -1,0 +1,121 @@
+//! The controller: "State: idle (place 0, left 0), or the place of the next
+//! mode and how many are left. A call takes plant, table, state and reading
+//! ... Idle: the reading must be in R; its tile is found, its first mode
+//! answered. Running: the reading must be in S; the mode at the place is
+//! answered. With modes left the state moves one on, else it is idle."
+//! "Controller: plant, table header, 12, 11, then the tree; the walk tells 1
+//! and 6 of what it reads, passed tiles too, ... and tests no image."
+
+use crate::boxes::Box;
+use crate::file::File;
+use crate::plant::{read_plant, Plant};
+use crate::refusal::{Refusal, READING_OUTSIDE, STATE_CANNOT_BE};
+use crate::table::{read_header, read_node, Node, Pattern};
+use crate::MOST_ROOMS;
+
+/// Idle, or the place of the next mode in the table and how many are left.
+#[derive(Clone, Copy, Debug, PartialEq, Eq, Default)]
+pub struct State {
+    pub place: u64,
+    pub left: u64,
+}
+
+impl State {
+    /// Place 0, left 0.
+    pub const IDLE: State = State { place: 0, left: 0 };
+
+    /// The state with this many modes left, the next at this place.
+    fn after(place: u64, left: u64) -> State {
+        if left == 0 { State::IDLE } else { State { place, left } }
+    }
+}
+
+/// One call: a mode with its state, or a refusal.
+pub fn control(
+    plant_bytes: &[u8],
+    table_bytes: &[u8],
+    state: State,
+    reading: [i64; MOST_ROOMS],
+) -> Result<(u8, State), Refusal> {
+    let plant = read_plant(plant_bytes)?;
+    let mut file = File::new(table_bytes);
+    read_header(&plant, &mut file)?;
+    match mode_there(&plant, table_bytes, state)? {
+        Some(mode) => {
+            reading_in(&plant.s(), &reading)?;
+            Ok((mode, State::after(state.place + 1, state.left - 1)))
+        }
+        None => {
+            reading_in(&plant.r(), &reading)?;
+            start_tile(&plant, &mut file, &reading)
+        }
+    }
+}
+
+/// The mode at a running state's place, None for idle; 12: "left over K; left
+/// 0 with a place other than 0; left above 0 with place below 2, place plus
+/// left beyond the table, or the mode there not below N".
+fn mode_there(plant: &Plant, table: &[u8], state: State) -> Result<Option<u8>, Refusal> {
+    let cannot_be = Refusal::at(STATE_CANNOT_BE, 0);
+    if state == State::IDLE {
+        return Ok(None);
+    }
+    if state.left == 0 || state.left > plant.k || state.place < 2 {
+        return Err(cannot_be);
+    }
+    let end = state.place.checked_add(state.left).ok_or(cannot_be)?;
+    if end > table.len() as u64 {
+        return Err(cannot_be);
+    }
+    let mode = table.get(state.place as usize).copied().ok_or(cannot_be)?;
+    if u64::from(mode) >= plant.modes {
+        return Err(cannot_be);
+    }
+    Ok(Some(mode))
+}
+
+/// 11 at the first dimension in which the reading is outside.
+fn reading_in(allowed: &Box, reading: &[i64; MOST_ROOMS]) -> Result<(), Refusal> {
+    match allowed.first_outside(reading) {
+        Some(dimension) => Err(Refusal::at(READING_OUTSIDE, dimension as u64)),
+        None => Ok(()),
+    }
+}
+
+/// The first mode of the reading's tile and the state behind it.
+fn start_tile(
+    plant: &Plant,
+    file: &mut File,
+    reading: &[i64; MOST_ROOMS],
+) -> Result<(u8, State), Refusal> {
+    let found = find_tile(plant, file, &plant.r(), plant.d, reading)?;
+    // The reading lies in R and children cover their parent, so a tile is found.
+    let (place, pattern) = found.ok_or(Refusal::at(READING_OUTSIDE, 0))?;
+    let left = pattern.modes().len() as u64 - 1;
+    // Node and modes are one byte each, being below 128: the second mode is two on.
+    Ok((pattern.modes()[0], State::after(place + 2, left)))
+}
+
+/// Walks the tree of a box up to the tile that holds the reading: the tile's
+/// first byte and its pattern, or None when the box does not hold it.
+fn find_tile(
+    plant: &Plant,
+    file: &mut File,
+    here: &Box,
+    depth_left: u64,
+    reading: &[i64; MOST_ROOMS],
+) -> Result<Option<(u64, Pattern)>, Refusal> {
+    let place = file.place();
+    match read_node(plant, file, here, depth_left)? {
+        Node::Tile(pattern) => Ok(here.contains(reading).then_some((place, pattern))),
+        Node::Split(children) => {
+            for child in children {
+                let found = find_tile(plant, file, &child, depth_left - 1, reading)?;
+                if found.is_some() {
+                    return Ok(found);
+                }
+            }
+            Ok(None)
+        }
+    }
+}

@@ -1,0 +1,150 @@
+//! A file, read or drafted number by number in order: "Files are judged
+//! number by number in order, 1 before the others at the same number"; "A
+//! number's place is its first byte, that of leftover bytes the first of
+//! them"; "A finished write changes only the bytes written. A refused one
+//! zeros the whole buffer."
+
+use crate::numbers::{groups_of, read_signed, read_unsigned, stored_of};
+use crate::refusal::{Refusal, BROKEN_NUMBER, BUFFER_TOO_SHORT, FORM_NOT_ONE, OUT_OF_RANGE};
+
+/// Bytes under judgement and the place of the next number in them.
+pub struct File<'a> {
+    bytes: &'a [u8],
+    place: usize,
+}
+
+impl<'a> File<'a> {
+    /// A file at its first byte.
+    pub fn new(bytes: &'a [u8]) -> File<'a> {
+        File { bytes, place: 0 }
+    }
+
+    /// The place of the next number.
+    pub fn place(&self) -> u64 {
+        self.place as u64
+    }
+
+    /// The next number, whatever it is: refused with 1 alone.
+    pub fn unsigned(&mut self) -> Result<u64, Refusal> {
+        let (number, next) = read_unsigned(self.bytes, self.place)?;
+        self.place = next;
+        Ok(number)
+    }
+
+    /// The next number, which must lie in least ..= greatest: 1, then 3.
+    pub fn unsigned_in(&mut self, least: u64, greatest: u64) -> Result<u64, Refusal> {
+        let place = self.place();
+        let number = self.unsigned()?;
+        if number < least || number > greatest {
+            return Err(Refusal::at(OUT_OF_RANGE, place));
+        }
+        Ok(number)
+    }
+
+    /// The next signed number, which must lie in least ..= greatest: 1, then 3.
+    pub fn signed_in(&mut self, least: i64, greatest: i64) -> Result<i64, Refusal> {
+        let place = self.place();
+        let (number, next) = read_signed(self.bytes, self.place)?;
+        self.place = next;
+        if number < least || number > greatest {
+            return Err(Refusal::at(OUT_OF_RANGE, place));
+        }
+        Ok(number)
+    }
+
+    /// The form, which must be 1: refused with 1, then 2, at place 0.
+    pub fn form(&mut self) -> Result<(), Refusal> {
+        let place = self.place();
+        if self.unsigned()? != 1 {
+            return Err(Refusal::at(FORM_NOT_ONE, place));
+        }
+        Ok(())
+    }
+
+    /// The next float, "8 bytes, low byte first": refused with 1 where it ends early.
+    pub fn float(&mut self) -> Result<f64, Refusal> {
+        let rest = self.bytes.get(self.place..).unwrap_or(&[]);
+        let Some(eight) = rest.first_chunk::<8>() else {
+            return Err(Refusal::at(BROKEN_NUMBER, self.place()));
+        };
+        self.place += 8;
+        Ok(f64::from_le_bytes(*eight))
+    }
+
+    /// Nothing may be left over: else this refusal number at the first such byte.
+    pub fn end(&self, number: u8) -> Result<(), Refusal> {
+        if self.place < self.bytes.len() {
+            return Err(Refusal::at(number, self.place()));
+        }
+        Ok(())
+    }
+}
+
+/// Room for the longest draft: form, five header numbers, 24 edges and ends,
+/// 320 coefficients, none over 10 bytes; a sheet's draft is shorter.
+const DRAFT_BYTES: usize = 1 + 10 * (5 + 24 + 320);
+
+/// "The file it would be": values written out before they are judged, so a
+/// number in it may be out of range or over 5 bytes.
+pub struct Draft {
+    bytes: [u8; DRAFT_BYTES],
+    length: usize,
+}
+
+impl Draft {
+    /// A draft holding the form, 1, alone ("its form right").
+    pub fn new() -> Draft {
+        let mut draft = Draft { bytes: [0; DRAFT_BYTES], length: 0 };
+        draft.unsigned(1);
+        draft
+    }
+
+    fn put(&mut self, bytes: &[u8]) {
+        self.bytes[self.length..self.length + bytes.len()].copy_from_slice(bytes);
+        self.length += bytes.len();
+    }
+
+    /// Adds a number.
+    pub fn unsigned(&mut self, number: u64) {
+        let (groups, length) = groups_of(number);
+        self.put(&groups[..length]);
+    }
+
+    /// Adds a signed number.
+    pub fn signed(&mut self, number: i64) {
+        self.unsigned(stored_of(number));
+    }
+
+    /// Adds a float, its sign bit and all.
+    pub fn float(&mut self, float: f64) {
+        self.put(&float.to_le_bytes());
+    }
+
+    /// The bytes so far.
+    pub fn bytes(&self) -> &[u8] {
+        &self.bytes[..self.length]
+    }
+}
+
+impl Default for Draft {
+    fn default() -> Draft {
+        Draft::new()
+    }
+}
+
+/// Hands a judged file over: 10 where the buffer is too short for it.
+pub fn deliver(file: &[u8], buffer: &mut [u8]) -> Result<usize, Refusal> {
+    let Some(head) = buffer.get_mut(..file.len()) else {
+        return Err(Refusal::at(BUFFER_TOO_SHORT, 0));
+    };
+    head.copy_from_slice(file);
+    Ok(file.len())
+}
+
+/// "A refused one zeros the whole buffer."
+pub fn zero_if_refused(answer: Result<usize, Refusal>, buffer: &mut [u8]) -> Result<usize, Refusal> {
+    if answer.is_err() {
+        buffer.fill(0);
+    }
+    answer
+}

@@ -1,0 +1,75 @@
+//! The listing: "Header: n, tiles, longest pattern. Then each tile in file
+//! order: lo and hi for each dimension, a colon, its modes. A refusal prints
+//! one line, number and place."
+
+use crate::boxes::Box;
+use crate::file::File;
+use crate::maker::make;
+use crate::plant::{read_plant, Plant};
+use crate::refusal::Refusal;
+use crate::table::{read_header, read_node, Node};
+use crate::LARGEST_TABLE;
+
+/// What the listing program prints for a plant's file.
+pub fn listing(plant_bytes: &[u8]) -> String {
+    match list(plant_bytes) {
+        Ok(lines) => lines,
+        Err(refusal) => refused_line(&refusal),
+    }
+}
+
+/// "refused", number and place, in one line.
+pub fn refused_line(refusal: &Refusal) -> String {
+    format!("refused {} {}\n", refusal.number, refusal.place)
+}
+
+fn list(plant_bytes: &[u8]) -> Result<String, Refusal> {
+    let plant = read_plant(plant_bytes)?;
+    let mut table = vec![0; LARGEST_TABLE];
+    let length = make(plant_bytes, &mut table)?;
+    let mut file = File::new(&table[..length]);
+    read_header(&plant, &mut file)?;
+    let mut tiles = Tiles { lines: String::new(), count: 0, longest: 0 };
+    tiles.list_box(&plant, &mut file, &plant.r(), plant.d)?;
+    Ok(format!("table {} {} {}\n{}", plant.n, tiles.count, tiles.longest, tiles.lines))
+}
+
+/// The tiles listed so far.
+struct Tiles {
+    lines: String,
+    count: usize,
+    longest: usize,
+}
+
+impl Tiles {
+    fn list_box(
+        &mut self,
+        plant: &Plant,
+        file: &mut File,
+        here: &Box,
+        depth_left: u64,
+    ) -> Result<(), Refusal> {
+        match read_node(plant, file, here, depth_left)? {
+            Node::Tile(pattern) => self.list_tile(here, pattern.modes()),
+            Node::Split(children) => {
+                for child in children {
+                    self.list_box(plant, file, &child, depth_left - 1)?;
+                }
+            }
+        }
+        Ok(())
+    }
+
+    fn list_tile(&mut self, tile: &Box, modes: &[u8]) {
+        for side in tile.sides() {
+            self.lines.push_str(&format!("{} {} ", side.lo, side.hi));
+        }
+        self.lines.push(':');
+        for mode in modes {
+            self.lines.push_str(&format!(" {mode}"));
+        }
+        self.lines.push('\n');
+        self.count += 1;
+        self.longest = self.longest.max(modes.len());
+    }
+}

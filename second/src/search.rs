@@ -1,0 +1,170 @@
+//! The search for "the shortest pattern that works, and among equal lengths
+//! the first in mode order, compared from the first mode".
+//!
+//! Beginnings are shared: the boxes along the present beginning are kept, and
+//! a beginning whose image leaves S is dropped with every pattern that starts
+//! so. The last step tests the image against R without dividing: for q > 0,
+//! ceil(v/q) >= lo exactly when v > q*(lo-1), floor(v/q) <= hi exactly when
+//! v < q*(hi+1). Everything is kept doubled, so that the least and greatest of
+//! a row come from the box's middle and reach without asking for any sign:
+//! twice the least is 2b + A*(lo+hi) - |A|*(hi-lo), twice the greatest the same
+//! with +. Fixed memory: one box for each step of the beginning.
+
+use crate::boxes::Box;
+use crate::image::{ceil_div, floor_div};
+use crate::plant::Plant;
+use crate::{LONGEST_PATTERN, MOST_MODES};
+
+/// One row of a mode: A_i1..A_in, their sizes, and 2*b_i.
+#[derive(Clone, Copy)]
+struct Row<const N: usize> {
+    a: [i64; N],
+    size: [i64; N],
+    twice_b: i64,
+}
+
+/// A box as lo+hi and hi-lo of each side.
+#[derive(Clone, Copy)]
+struct Spread<const N: usize> {
+    sum: [i64; N],
+    width: [i64; N],
+}
+
+/// Doubled A*x + b of a row lies above `above` and below `below` exactly when
+/// the image lies in the box these limits were made of.
+#[derive(Clone, Copy)]
+struct Limits<const N: usize> {
+    above: [i64; N],
+    below: [i64; N],
+}
+
+/// The plant of N rooms, laid out for the search.
+pub struct Search<const N: usize> {
+    modes: [[Row<N>; N]; MOST_MODES],
+    mode_count: usize,
+    longest: usize,
+    q: i64,
+    w_lo: [i64; N],
+    w_hi: [i64; N],
+    in_r: Limits<N>,
+    in_s: Limits<N>,
+}
+
+impl<const N: usize> Search<N> {
+    /// Lays a judged plant of N rooms out.
+    pub fn new(plant: &Plant) -> Search<N> {
+        let empty = Row { a: [0; N], size: [0; N], twice_b: 0 };
+        let mut modes = [[empty; N]; MOST_MODES];
+        for (u, mode) in modes.iter_mut().enumerate().take(plant.modes as usize) {
+            for (i, row) in mode.iter_mut().enumerate() {
+                let numbers = plant.row(u, i);
+                row.a.copy_from_slice(&numbers[..N]);
+                row.size = row.a.map(i64::abs);
+                row.twice_b = 2 * numbers[N];
+            }
+        }
+        Search {
+            modes,
+            mode_count: plant.modes as usize,
+            longest: plant.k as usize,
+            q: plant.q as i64,
+            w_lo: std::array::from_fn(|i| plant.edges.w_lo[i]),
+            w_hi: std::array::from_fn(|i| plant.edges.w_hi[i]),
+            in_r: limits(plant, &plant.r()),
+            in_s: limits(plant, &plant.s()),
+        }
+    }
+
+    /// The first pattern that works for a box, written to `pattern`; its
+    /// length, or None where none works.
+    pub fn first_pattern(&self, of: &Box, pattern: &mut [u8; LONGEST_PATTERN]) -> Option<usize> {
+        let sides = of.sides();
+        let start = Spread {
+            sum: std::array::from_fn(|i| sides[i].lo + sides[i].hi),
+            width: std::array::from_fn(|i| sides[i].hi - sides[i].lo),
+        };
+        (1..=self.longest).find(|length| self.extend(&start, &mut pattern[..*length]))
+    }
+
+    /// Whether some pattern of exactly this length works from here; the first
+    /// such is left in `pattern`.
+    fn extend(&self, here: &Spread<N>, pattern: &mut [u8]) -> bool {
+        let Some((first, rest)) = pattern.split_first_mut() else {
+            return false;
+        };
+        if rest.is_empty() {
+            return match self.last_mode(here) {
+                Some(mode) => {
+                    *first = mode as u8;
+                    true
+                }
+                None => false,
+            };
+        }
+        for mode in 0..self.mode_count {
+            let Some(next) = self.image_in_s(here, mode) else {
+                continue;
+            };
+            if self.extend(&next, rest) {
+                *first = mode as u8;
+                return true;
+            }
+        }
+        false
+    }
+
+    /// The first mode whose image lies in R, which lies in S.
+    fn last_mode(&self, here: &Spread<N>) -> Option<usize> {
+        let modes = &self.modes[..self.mode_count];
+        modes.iter().position(|rows| {
+            (0..N).all(|i| {
+                let (least, greatest) = rows[i].twice_least_and_greatest(here);
+                least > self.in_r.above[i] && greatest < self.in_r.below[i]
+            })
+        })
+    }
+
+    /// The image under a mode, where it lies in S.
+    fn image_in_s(&self, here: &Spread<N>, mode: usize) -> Option<Spread<N>> {
+        let mut least = [0; N];
+        let mut greatest = [0; N];
+        for (i, row) in self.modes[mode].iter().enumerate() {
+            (least[i], greatest[i]) = row.twice_least_and_greatest(here);
+            if least[i] <= self.in_s.above[i] || greatest[i] >= self.in_s.below[i] {
+                return None;
+            }
+        }
+        let mut next = Spread { sum: [0; N], width: [0; N] };
+        for i in 0..N {
+            let lo = ceil_div(least[i] / 2 + self.w_lo[i], self.q);
+            let hi = floor_div(greatest[i] / 2 + self.w_hi[i], self.q);
+            next.sum[i] = lo + hi;
+            next.width[i] = hi - lo;
+        }
+        Some(next)
+    }
+}
+
+impl<const N: usize> Row<N> {
+    /// Twice the least and twice the greatest of the row over a box: both even.
+    #[inline(always)]
+    fn twice_least_and_greatest(&self, over: &Spread<N>) -> (i64, i64) {
+        let mut middle = self.twice_b;
+        let mut reach = 0;
+        for j in 0..N {
+            middle += self.a[j] * over.sum[j];
+            reach += self.size[j] * over.width[j];
+        }
+        (middle - reach, middle + reach)
+    }
+}
+
+/// The doubled limits between which an image lies in `target`.
+fn limits<const N: usize>(plant: &Plant, target: &Box) -> Limits<N> {
+    let q = plant.q as i64;
+    let sides = target.sides();
+    Limits {
+        above: std::array::from_fn(|i| 2 * (q * (sides[i].lo - 1) - plant.edges.w_lo[i])),
+        below: std::array::from_fn(|i| 2 * (q * (sides[i].hi + 1) - plant.edges.w_hi[i])),
+    }
+}
