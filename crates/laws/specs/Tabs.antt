@@ -1,0 +1,124 @@
+-- Laws of lists by their entries: `tab`, `tabs`, `padded`, and arrays that are filled from the front. Assumes nothing.
+use Prim.Native.Nat.{ℕ, zero, suc, _+_, _-_, _≤_, _<_}
+use mathlib.Core.Path.{_≡_, refl, sym, ap, _∙_}
+use mathlib.Core.List.{List, [], _∷_, _++_, append-assoc, append-nil}
+use native.Mathlib.Omega.{arith}
+use native.Mathlib.Nat.{add-zero, zero-add}
+use native.Mathlib.Numerals.{add-one}
+use native.Mathlib.Decide.{decLt}
+use lib.ListN.{length, getD, set, replicate, length-append, length-replicate, length-set, getD-replicate, List·getD-append}
+use lib.Seq.{getD-set-same, getD-set-other, getD-append-add, ext-getD}
+use lib.IntN.{ℤ, pos}
+use Rattle.laws.specs.Lists.{at, tab, tabs, padded}
+
+-- ---- tab
+
+module _ {ℓ} {A : Type ℓ} (f : ℕ → A) where
+  pub length-tab : (m i : ℕ) → length (tab f m i) ≡ m
+  unfolding tab
+  length-tab zero i = refl
+  length-tab (suc m) i = ap suc (length-tab m (i + 1))
+
+  pub getD-tab : (d : A) (m i k : ℕ) → k < m → getD (tab f m i) k d ≡ f (i + k)
+  unfolding tab
+  getD-tab d zero i k h = absurd (omega arith)
+  getD-tab d (suc m) i zero h = rw add-zero refl
+  getD-tab d (suc m) i (suc k) h = let q : i + 1 + k ≡ i + suc k = omega arith in getD-tab d m (i + 1) k (omega arith) ∙ rw q refl
+
+  -- j of n are done
+  pub tab-step : (n j : ℕ) → j < n → tab f (n - j) j ≡ f j ∷ tab f (n - (j + 1)) (j + 1)
+  unfolding tab
+  tab-step n j h = let q : n - j ≡ suc (n - (j + 1)) = omega arith in rw q refl
+
+  pub tab-done : (n j : ℕ) → n ≤ j → tab f (n - j) j ≡ []
+  unfolding tab
+  tab-done n j h = let q : n - j ≡ 0 = omega arith in rw q refl
+
+  snoc : (m i : ℕ) → tab f (suc m) i ≡ tab f m i ++ f (i + m) ∷ []
+  unfolding tab
+  snoc zero i = rw add-zero refl
+  snoc (suc m) i = let q : i + 1 + m ≡ i + suc m = omega arith in ap (λ (t : List A). f i ∷ t) (snoc m (i + 1) ∙ rw q refl)
+
+  pub tab-snoc : (m i : ℕ) → tab f (m + 1) i ≡ tab f m i ++ f (i + m) ∷ []
+  tab-snoc m i = rw add-one (snoc m i)
+
+  pub tab-same : (g : ℕ → A) (m i : ℕ) → ((k : ℕ) → i ≤ k → k < i + m → f k ≡ g k) → tab f m i ≡ tab g m i
+  unfolding tab
+  tab-same g zero i h = refl
+  tab-same g (suc m) i h = rw (h i (omega arith) (omega arith), tab-same g m (i + 1) (λ k a b. h k (omega arith) (omega arith))) refl
+
+-- ---- tabs
+
+module _ {ℓ} {A : Type ℓ} (f : ℕ → List A) where
+  snocs : (m i : ℕ) → tabs f (suc m) i ≡ tabs f m i ++ f (i + m)
+  unfolding tabs
+  snocs zero i = rw (add-zero, append-nil) refl
+  snocs (suc m) i =
+      let q : i + 1 + m ≡ i + suc m = omega arith in
+      ap (λ (t : List A). f i ++ t) (snocs m (i + 1) ∙ rw q refl) ∙ sym (append-assoc (f i) (tabs f m (i + 1)) (f (i + suc m)))
+
+  pub tabs-snoc : (m i : ℕ) → tabs f (m + 1) i ≡ tabs f m i ++ f (i + m)
+  tabs-snoc m i = rw add-one (snocs m i)
+
+  pub tabs-same : (g : ℕ → List A) (m i : ℕ) → ((k : ℕ) → i ≤ k → k < i + m → f k ≡ g k) → tabs f m i ≡ tabs g m i
+  unfolding tabs
+  tabs-same g zero i h = refl
+  tabs-same g (suc m) i h = rw (h i (omega arith) (omega arith), tabs-same g m (i + 1) (λ k a b. h k (omega arith) (omega arith))) refl
+
+-- ---- arrays filled from the front
+
+-- of m entries those from i on are 0
+pub record Filled (m i : ℕ) (l : List ℤ) : Type 0 where
+  pub size : length l ≡ m
+  pub rest : (k : ℕ) → i ≤ k → at l k ≡ pos 0
+
+pub filled-none : (m : ℕ) → Filled m 0 (replicate m (pos 0))
+filled-none m = record { size = length-replicate m (pos 0); rest = λ k h. zeros m k }
+  where
+    zeros : (m k : ℕ) → at (replicate m (pos 0)) k ≡ pos 0
+    zeros zero k = refl
+    zeros (suc m) zero = refl
+    zeros (suc m) (suc k) = zeros m k
+
+-- below the place of a store nothing changes
+pub at-below : (l : List ℤ) (i : ℕ) (v : ℤ) (k : ℕ) → k < i → at (set l i v) k ≡ at l k
+at-below l i v k h = getD-set-other l i k v (pos 0) (λ e. absurd (omega arith))
+
+pub at-stored : (l : List ℤ) (i : ℕ) (v : ℤ) → i < length l → at (set l i v) i ≡ v
+at-stored l i v h = getD-set-same l i v (pos 0) h
+
+-- one more is filled
+pub filled-more : {m i : ℕ} {l : List ℤ} (v : ℤ) → Filled m i l → Filled m (i + 1) (set l i v)
+filled-more {m} {i} {l} v f = record {
+  size = length-set l i v ∙ f .size;
+  rest = λ k h. getD-set-other l i k v (pos 0) (λ e. absurd (omega arith)) ∙ f .rest k (omega arith);
+}
+
+pub tab-stored : (l : List ℤ) (i : ℕ) (v : ℤ) → i < length l → tab (at (set l i v)) (i + 1) 0 ≡ tab (at l) i 0 ++ v ∷ []
+tab-stored l i v h =
+    let q : 0 + i ≡ i = zero-add i in
+    let new : at (set l i v) (0 + i) ≡ v = rw q (at-stored l i v h) in
+    tab-snoc (at (set l i v)) i 0 ∙ rw (tab-same (at (set l i v)) (at l) i 0 (λ k a b. at-below l i v k (omega arith)), new) refl
+
+-- such an array is its first entries, made up
+pub filled-padded : {m i : ℕ} {l : List ℤ} → Filled m i l → i ≤ m → padded m (pos 0) (tab (at l) i 0) ≡ l
+filled-padded {m} {i} {l} f h = ext-getD (pos 0) (front ++ zeros) l (long ∙ sym (f .size)) (λ k g. same k (decLt k i) (omega (arith, long)))
+  where
+    front : List ℤ
+    front = tab (at l) i 0
+
+    zeros : List ℤ
+    zeros = replicate (m - length front) (pos 0)
+
+    width : length front ≡ i
+    width = length-tab (at l) i 0
+
+    long : length (front ++ zeros) ≡ m
+    long = length-append front zeros ∙ rw (length-replicate (m - length front) (pos 0)) (omega (arith, width))
+
+    same : (k : ℕ) → Dec (k < i) → k < m → at (front ++ zeros) k ≡ at l k
+    same k (yes a) g = List·getD-append front zeros (pos 0) k (omega (arith, width)) ∙ getD-tab (at l) (pos 0) i 0 k a ∙ rw zero-add refl
+    same k (no a) g =
+        let e : length front + (k - i) ≡ k = omega (arith, width) in
+        ap (at (front ++ zeros)) (sym e) ∙ getD-append-add front zeros (k - i) (pos 0)
+        ∙ getD-replicate (m - length front) (k - i) (pos 0) (pos 0) (omega (arith, width)) ∙ sym (f .rest k (omega arith))

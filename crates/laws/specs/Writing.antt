@@ -1,0 +1,54 @@
+-- What a write of some entries at a place of a buffer does. The place stops at one past the buffer's length, which says that the buffer was too
+-- short, and `sets` stores what fits, so that one statement serves a write that fits and one that does not. Assumes nothing.
+use Prim.Native.Nat.{ℕ, suc, _+_, _≤_, min}
+use mathlib.Core.Path.{_≡_, refl, sym, ap, _∙_}
+use mathlib.Core.List.{List, [], _∷_, _++_}
+use native.Mathlib.Omega.{arith}
+use native.Mathlib.Nat.{add-zero}
+use native.Mathlib.Decide.{decLe}
+use lib.ListN.{length, set, length-append}
+use lib.Seq.{sets, length-sets, set-out}
+
+pub record Put (buf : List ℕ) (at : ℕ) (xs : List ℕ) (next : ℕ) (out : List ℕ) : Type 0 where
+  pub place : next ≡ min (at + length xs) (length buf + 1)
+  pub bytes : out ≡ sets buf at xs
+
+-- past the end nothing is written
+pub sets-out : (xs buf : List ℕ) (i : ℕ) → length buf ≤ i → sets buf i xs ≡ buf
+sets-out [] buf i h = refl
+sets-out (x ∷ xs) buf i h =
+    let e : set buf i x ≡ buf = set-out buf i x h in
+    rw e (sets-out xs buf (suc i) (omega arith))
+
+sets-append : (xs ys buf : List ℕ) (i : ℕ) → sets buf i (xs ++ ys) ≡ sets (sets buf i xs) (i + length xs) ys
+sets-append [] ys buf i = rw add-zero refl
+sets-append (x ∷ xs) ys buf i =
+    let e : i + suc (length xs) ≡ suc i + length xs = omega arith in
+    rw e (sets-append xs ys (set buf i x) (suc i))
+
+sets-stop : (xs buf : List ℕ) (i : ℕ) → sets buf (min i (length buf + 1)) xs ≡ sets buf i xs
+sets-stop xs buf i = go (decLe i (length buf))
+  where
+    go : Dec (i ≤ length buf) → sets buf (min i (length buf + 1)) xs ≡ sets buf i xs
+    go (yes h) = let e : min i (length buf + 1) ≡ i = omega arith in rw e refl
+    go (no h) = sets-out xs buf (min i (length buf + 1)) (omega arith) ∙ sym (sets-out xs buf i (omega arith))
+
+pub put-length : {b : List ℕ} {at : ℕ} {xs : List ℕ} {r : ℕ} {o : List ℕ} → Put b at xs r o → length o ≡ length b
+put-length {b} {at} {xs} {r} {o} p = ap length (p .bytes) ∙ length-sets b at xs
+
+-- nothing written
+pub put-none : (b : List ℕ) (at : ℕ) → at ≤ length b + 1 → Put b at [] at b
+put-none b at h = record { place = omega arith; bytes = refl }
+
+-- one write after another
+pub put-append : {b : List ℕ} {at : ℕ} {xs ys : List ℕ} {r r2 : ℕ} {o o2 : List ℕ} → Put b at xs r o → Put o r ys r2 o2 → Put b at (xs ++ ys) r2 o2
+put-append {b} {at} {xs} {ys} {r} {r2} {o} {o2} p q =
+    let n : length o ≡ length b = put-length p in
+    let k : length (xs ++ ys) ≡ length xs + length ys = length-append xs ys in
+    record { place = omega (arith, p .place, q .place); bytes = q .bytes ∙ chain }
+  where
+    stop : sets (sets b at xs) (min (at + length xs) (length b + 1)) ys ≡ sets (sets b at xs) (at + length xs) ys
+    stop = let e : length b ≡ length (sets b at xs) = sym (length-sets b at xs) in rw e (sets-stop ys (sets b at xs) (at + length xs))
+
+    chain : sets o r ys ≡ sets b at (xs ++ ys)
+    chain = rw (p .bytes, p .place) (stop ∙ sym (sets-append xs ys b at))

@@ -1,0 +1,16 @@
+pub mod Refusals
+pub mod Numbers
+pub mod Files
+pub mod Boxes
+pub mod Images
+pub mod Buffers
+pub mod Plants
+pub mod Rules
+pub mod Trees
+pub mod Verdicts
+pub mod Defined
+pub mod Control
+pub mod Runs
+pub mod Tables
+pub mod Sheets
+pub mod Computing

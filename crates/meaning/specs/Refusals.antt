@@ -1,0 +1,131 @@
+-- What each number says: document 01's table of refusals, one definition a row, and what each answer shows of it.
+-- A place or step that the table does not name is 0.
+use Prim.Native.Nat.{ℕ}
+use mathlib.Core.List.{List, [], _∷_}
+use lib.IntN.{ℤ, pos}
+use Rattle.meaning.specs.declared.Refusal.{Refusal}
+use Rattle.meaning.specs.declared.Number.{Number}
+use Rattle.meaning.specs.declared.Signed.{Signed}
+use Rattle.meaning.specs.declared.Rule.{Rule}
+use Rattle.meaning.specs.declared.Walk.{Walk}
+use Rattle.meaning.specs.declared.Found.{Found}
+use Rattle.meaning.specs.declared.Whole.{Whole}
+use Rattle.meaning.specs.declared.Verdict.{Verdict}
+use Rattle.meaning.specs.declared.Written.{Written}
+use Rattle.meaning.specs.declared.Answer.{Answer}
+
+abbrev pub refusal : ℕ → ℕ → ℕ → Refusal
+refusal n p i = record { number = n; place = p; step = i }
+
+-- 1: a number or float ends early, is over 5 bytes, or not shortest; its first byte
+abbrev pub broken : ℕ → Refusal
+broken at = refusal 1 at 0
+
+-- 2: form is not 1
+abbrev pub wrongForm : Refusal
+wrongForm = refusal 2 0 0
+
+-- 3: plant or sheet number out of range, lo > hi, emitter kind over 2, or bytes left over; that byte
+abbrev pub unfit : ℕ → Refusal
+unfit at = refusal 3 at 0
+
+-- 4: R not in S; first dimension, from 0
+abbrev pub notInSafe : ℕ → Refusal
+notInSafe i = refusal 4 i 0
+
+-- 5: band too narrow; first dimension, from 0
+abbrev pub narrow : ℕ → Refusal
+narrow i = refusal 5 i 0
+
+-- 6: table's n differs, node over K, mode not below N, a split too deep or not possible, bytes left over; that byte
+abbrev pub badTable : ℕ → Refusal
+badTable at = refusal 6 at 0
+
+-- 7: an image leaves S; tile's first byte, step from 1
+abbrev pub leaves : ℕ → ℕ → Refusal
+leaves at i = refusal 7 at i
+
+-- 8: last image not in R; tile's first byte, last step
+abbrev pub misses : ℕ → ℕ → Refusal
+misses at i = refusal 8 at i
+
+-- 9: no table
+abbrev pub noTable : Refusal
+noTable = refusal 9 0 0
+
+-- 10: buffer too short
+abbrev pub short : Refusal
+short = refusal 10 0 0
+
+-- 11: reading outside R (idle) or S (running); first dimension, from 0
+abbrev pub outside : ℕ → Refusal
+outside i = refusal 11 i 0
+
+-- 12: state cannot be
+abbrev pub badState : Refusal
+badState = refusal 12 0 0
+
+-- 13: sheet float not finite, time ≤ 0, or loss, exchange or p below 0; its first byte
+abbrev pub badFloat : ℕ → Refusal
+badFloat at = refusal 13 at 0
+
+-- 14: sheet result not finite or outside the plant's range; which number of the plant file, its form being 0
+abbrev pub badResult : ℕ → Refusal
+badResult k = refusal 14 k 0
+
+-- ---- number (0: done), place, step and values of each case of each answer
+
+pub record Shown : Type 0 where
+  pub number : ℕ
+  pub place : ℕ
+  pub step : ℕ
+  pub values : List ℤ
+
+abbrev done : List ℤ → Shown
+done vs = record { number = 0; place = 0; step = 0; values = vs }
+
+abbrev told : Refusal → List ℤ → Shown
+told r vs = record { number = r .number; place = r .place; step = r .step; values = vs }
+
+-- the number that was asked for at a place, and the place behind it
+abbrev pub numberShown : ℕ → Number → Shown
+numberShown at (Number.Value v next) = done (pos v ∷ pos next ∷ [])
+numberShown at Number.Broken = told (broken at) []
+
+abbrev pub signedShown : ℕ → Signed → Shown
+signedShown at (Signed.Value v next) = done (v ∷ pos next ∷ [])
+signedShown at Signed.Broken = told (broken at) []
+
+-- a tile's pattern, the tile's first byte being at a place
+abbrev pub ruleShown : ℕ → Rule → Shown
+ruleShown at Rule.Works = done []
+ruleShown at (Rule.Leaves i) = told (leaves at i) []
+ruleShown at (Rule.Misses i) = told (misses at i) []
+
+-- the place behind what was walked over; the place of a tile's first mode and how many modes it has
+abbrev pub walkShown : Walk → Shown
+walkShown (Walk.Next at) = done (pos at ∷ [])
+walkShown (Walk.Refused r) = told r []
+
+abbrev pub foundShown : Found → Shown
+foundShown (Found.Tile from k) = done (pos from ∷ pos k ∷ [])
+foundShown (Found.Refused r) = told r []
+
+-- the k-th number of the plant made of a sheet
+abbrev pub wholeShown : ℕ → Whole → Shown
+wholeShown k (Whole.Near v) = done (v ∷ [])
+wholeShown k Whole.Out = told (badResult k) []
+
+abbrev pub verdictShown : Verdict → Shown
+verdictShown Verdict.Accepted = done []
+verdictShown (Verdict.Refused r) = told r []
+
+-- how many bytes were written
+abbrev pub writtenShown : Written → Shown
+writtenShown (Written.Length m) = done (pos m ∷ [])
+writtenShown (Written.Refused r) = told r []
+
+-- The mode and the next state. A refused controller call returns idle, and the C face shows mode 255.
+abbrev pub answerShown : Answer → Shown
+answerShown (Answer.Mode u s) = done (pos u ∷ pos (s .place) ∷ pos (s .left) ∷ [])
+answerShown (Answer.Refused r) = told r (pos 255 ∷ pos 0 ∷ pos 0 ∷ [])

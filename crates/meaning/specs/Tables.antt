@@ -1,0 +1,83 @@
+-- Document 01's rules of a plant, and its three answers about tables over bytes: the checker's, the maker's, the controller's.
+use Prim.Native.Nat.{ℕ}
+use mathlib.Core.Bool.{Bool, false}
+use mathlib.Core.List.{List}
+use mathlib.Core.Option.{Option, none, some}
+use lib.IntN.{ℤ}
+use Rattle.laws.specs.Lists.{at, tab}
+use Rattle.meaning.specs.declared.Refusal.{Refusal}
+use Rattle.meaning.specs.declared.Plant.{Plant}
+use Rattle.meaning.specs.declared.Verdict.{Verdict}
+use Rattle.meaning.specs.declared.State.{State}
+use Rattle.meaning.specs.declared.Answer.{Answer}
+use Rattle.meaning.specs.Refusals.{noTable}
+use Rattle.meaning.specs.Boxes.{Side, fits, within, children}
+use Rattle.meaning.specs.Images.{image, follows}
+use Rattle.meaning.specs.Files.{Judged, good, bad}
+use Rattle.meaning.specs.Plants.{plantJudged, rootOf, safeOf, stepOf}
+use Rattle.meaning.specs.Rules.{Rules, holds}
+use Rattle.meaning.specs.Trees.{Tree, tableOf}
+use Rattle.meaning.specs.Verdicts.{verdict}
+use Rattle.meaning.specs.Defined.{definedTree}
+use Rattle.meaning.specs.Control.{call}
+use Rattle.meaning.specs.Runs.{Run}
+use Rattle.meaning.specs.Buffers.{Left, left}
+
+-- a reading is the first n of four numbers; those beyond n are ignored
+abbrev pub readingOf : ℕ → List ℤ → List ℤ
+readingOf n x = tab (at x) n 0
+
+abbrev pub rulesOf : Plant → Rules
+rulesOf p = record {
+  Box = List Side;
+  Reading = List ℤ;
+  Kept = List Side;
+  fits = λ b x. fits b (readingOf (p .n) x);
+  children = children;
+  within = within;
+  begin = λ b. b;
+  image = λ u b. image (stepOf p u) b;
+  kept = λ b. b;
+  root = rootOf p;
+  goal = rootOf p;
+  safe = safeOf p;
+  n = p .n;
+  D = p .d;
+  K = p .k;
+  N = p .modes;
+  follows = λ u x y. follows (stepOf p u) (readingOf (p .n) x) (readingOf (p .n) y);
+}
+
+abbrev pub onPlant : {A : Type 0} → Judged Plant → (Refusal → A) → (Plant → A) → A
+onPlant (bad e) refuse rest = refuse e
+onPlant (good p) refuse rest = rest p
+
+-- Checker: plant, then the table in order
+unfoldable pub checked : List ℕ → List ℕ → Verdict
+checked plant table = onPlant (plantJudged plant) Verdict.Refused λ p. verdict (rulesOf p) table
+
+-- Maker: plant, 9, 10
+abbrev pub tableBytes : Rules → Option Tree → Judged (List ℕ)
+tableBytes r none = bad noTable
+tableBytes r (some t) = good (tableOf r t)
+
+unfoldable pub made : List ℕ → Judged (List ℕ)
+made plant = onPlant (plantJudged plant) bad λ p. tableBytes (rulesOf p) (definedTree (rulesOf p))
+
+unfoldable pub makerLeft : List ℕ → List ℕ → Left
+makerLeft plant buf = left (made plant) buf
+
+-- Controller: plant, then the call
+unfoldable pub controlled : List ℕ → List ℕ → State → List ℤ → Answer
+controlled plant table st x = onPlant (plantJudged plant) Answer.Refused λ p. call (rulesOf p) table st x
+
+-- ---- the runs of a table on a plant, by the controller's own answers: none where the plant is refused
+
+abbrev pub startsIn : List ℕ → List ℤ → Bool
+startsIn plant x = onPlant (plantJudged plant) (λ _. false) λ p. holds (rulesOf p) (rootOf p) x
+
+abbrev pub mayFollow : List ℕ → ℕ → List ℤ → List ℤ → Bool
+mayFollow plant u x y = onPlant (plantJudged plant) (λ _. false) λ p. rulesOf p .follows u x y
+
+abbrev pub TableRun : List ℕ → List ℕ → State → List ℤ → Type 0
+TableRun plant table = Run (controlled plant table) (startsIn plant) (mayFollow plant)

@@ -1,0 +1,94 @@
+-- The checker's verdict on a table (document 01, "Table file", rows 1, 2, 6, 7, 8 and the order of judgement): the header, then the tree in
+-- file order; a tile's modes are all read before its images; leftover bytes last. One walk serves the checker, whose judge of a tile is
+-- the tile rule, and the passing of a subtree, whose judge lets every tile be.
+use Prim.Native.Nat.{ℕ, zero, suc}
+use mathlib.Core.List.{List, [], _∷_}
+use lib.ListN.{length}
+use lib.Dec.{ltb, leb, eqb}
+use Rattle.laws.specs.Guards.{guard}
+use Rattle.meaning.specs.declared.Refusal.{Refusal}
+use Rattle.meaning.specs.declared.Number.{Number}
+use Rattle.meaning.specs.declared.Rule.{Rule}
+use Rattle.meaning.specs.declared.Rule.the-variants.{Works, Leaves, Misses}
+use Rattle.meaning.specs.declared.Walk.{Walk}
+use Rattle.meaning.specs.declared.Verdict.{Verdict}
+use Rattle.meaning.specs.Refusals.{broken, wrongForm, badTable, leaves, misses}
+use Rattle.meaning.specs.Numbers.{numberAt}
+use Rattle.meaning.specs.Files.{Read, read, refused, before}
+use Rattle.meaning.specs.Rules.{Rules, rule}
+
+abbrev pub onNumber {ℓ} : {A : Type ℓ} → Number → A → (ℕ → ℕ → A) → A
+onNumber Number.Broken otherwise rest = otherwise
+onNumber (Number.Value v next) otherwise rest = rest v next
+
+abbrev pub onWalk {ℓ} : {A : Type ℓ} → Walk → (Refusal → A) → (ℕ → A) → A
+onWalk (Walk.Refused e) refuse rest = refuse e
+onWalk (Walk.Next at) refuse rest = rest at
+
+-- a tile's judge has spoken
+abbrev pub onRule : Rule → ℕ → ℕ → Walk
+onRule Works at next = Walk.Next next
+onRule (Leaves i) at next = Walk.Refused (leaves at i)
+onRule (Misses i) at next = Walk.Refused (misses at i)
+
+-- a tile's modes were read
+abbrev pub onModes : Read (List ℕ) → ℕ → (List ℕ → Rule) → Walk
+onModes (refused e) at judge = Walk.Refused e
+onModes (read us next) at judge = onRule (judge us) at next
+
+-- children one after another
+unfoldable pub each : {B : Type 0} → (ℕ → B → Walk) → List B → ℕ → Walk
+each one [] at = Walk.Next at
+each one (b ∷ bs) at = onWalk (one at b) Walk.Refused λ next. each one bs next
+
+-- a split's children; where there are none it is not possible
+abbrev pub splitAt : {A B : Type 0} → List B → A → (List B → A) → A
+splitAt [] otherwise rest = otherwise
+splitAt (b ∷ bs) otherwise rest = rest (b ∷ bs)
+
+-- a node's number: 0 is a split, k in 1..K a tile, anything else out of place
+abbrev pub onSize : {A : Type 0} → ℕ → ℕ → A → A → (ℕ → A) → A
+onSize K zero otherwise split tile = split
+onSize K (suc k) otherwise split tile = guard (leb (suc k) K) otherwise λ _. tile (suc k)
+
+module _ (r : Rules) where
+  open Rules r using (Box, children, root, n, D, K, N)
+
+  -- k modes, each below N
+  unfoldable pub modesAt : ℕ → List ℕ → ℕ → Read (List ℕ)
+  modesAt zero s at = read [] at
+  modesAt (suc k) s at =
+      onNumber (numberAt s at) (refused (broken at)) λ u next.
+      guard (ltb u N) (refused (badTable at)) λ _.
+      before u (modesAt k s next)
+
+  -- a node at `at`: how a refusal is told, what a split does, what a tile of k modes does, each with the place behind the number
+  abbrev pub nodeAt : {A : Type 0} → List ℕ → ℕ → (Refusal → A) → (ℕ → A) → (ℕ → ℕ → A) → A
+  nodeAt s at refuse split tile =
+      onNumber (numberAt s at) (refuse (broken at)) λ k next.
+      onSize K k (refuse (badTable at)) (split next) (λ k. tile k next)
+
+  -- the tree at `at`, over a box with depth d left
+  unfoldable pub walk : (Box → List ℕ → Rule) → ℕ → List ℕ → ℕ → Box → Walk
+  walk judge zero s at b = nodeAt s at Walk.Refused
+      (λ next. Walk.Refused (badTable at))
+      (λ k next. onModes (modesAt k s next) at (judge b))
+  walk judge (suc d) s at b = nodeAt s at Walk.Refused
+      (λ next. splitAt (children b) (Walk.Refused (badTable at)) λ cs. each (λ p c. walk judge d s p c) cs next)
+      (λ k next. onModes (modesAt k s next) at (judge b))
+
+  -- form 1, then n: the place behind them
+  unfoldable pub header : List ℕ → Walk
+  header s =
+      onNumber (numberAt s 0) (Walk.Refused (broken 0)) λ form at.
+      guard (eqb form 1) (Walk.Refused wrongForm) λ _.
+      onNumber (numberAt s at) (Walk.Refused (broken at)) λ m next.
+      guard (eqb m n) (Walk.Refused (badTable at)) λ _.
+      Walk.Next next
+
+  unfoldable pub verdict : List ℕ → Verdict
+  verdict s =
+      onWalk (header s) Verdict.Refused λ at.
+      onWalk (walk (rule r) D s at root) Verdict.Refused λ next.
+      guard (eqb next (length s)) (Verdict.Refused (badTable next)) λ _.
+      Verdict.Accepted
