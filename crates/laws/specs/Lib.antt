@@ -1,7 +1,9 @@
 pub mod Division
+pub mod Expressions
 pub mod Guards
 pub mod Integers
 pub mod Lists
-pub mod Tabs
 pub mod Standing
+pub mod Tabs
+pub mod Tests
 pub mod Writing

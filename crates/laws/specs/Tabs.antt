@@ -1,9 +1,9 @@
 -- Laws of lists by their entries: `tab`, `tabs`, `padded`, and arrays that are filled from the front. Assumes nothing.
-use Prim.Native.Nat.{ℕ, zero, suc, _+_, _-_, _≤_, _<_}
+use Prim.Native.Nat.{ℕ, zero, suc, _+_, _-_, _*_, _≤_, _<_}
 use mathlib.Core.Path.{_≡_, refl, sym, ap, _∙_}
 use mathlib.Core.List.{List, [], _∷_, _++_, append-assoc, append-nil}
 use native.Mathlib.Omega.{arith}
-use native.Mathlib.Nat.{add-zero, zero-add}
+use native.Mathlib.Nat.{add-zero, zero-add, add-comm, mul-zero, mul-suc}
 use native.Mathlib.Numerals.{add-one}
 use native.Mathlib.Decide.{decLt}
 use lib.ListN.{length, getD, set, replicate, length-append, length-replicate, length-set, getD-replicate, List·getD-append}
@@ -64,6 +64,25 @@ module _ {ℓ} {A : Type ℓ} (f : ℕ → List A) where
   unfolding tabs
   tabs-same g zero i h = refl
   tabs-same g (suc m) i h = rw (h i (omega arith) (omega arith), tabs-same g m (i + 1) (λ k a b. h k (omega arith) (omega arith))) refl
+
+-- lists of one length w behind one another: how long they are, and the j-th entry of the i-th
+module _ {ℓ} {A : Type ℓ} (f : ℕ → List A) (w : ℕ) (even : (k : ℕ) → length (f k) ≡ w) where
+  pub length-tabs : (m i : ℕ) → length (tabs f m i) ≡ w * m
+  unfolding tabs
+  length-tabs zero i = sym (mul-zero w)
+  length-tabs (suc m) i = length-append (f i) (tabs f m (i + 1)) ∙ rw (even i, length-tabs m (i + 1), mul-suc) (add-comm w (w * m))
+
+  pub getD-tabs : (d : A) (m b i j : ℕ) → i < m → j < w → getD (tabs f m b) (w * i + j) d ≡ getD (f (b + i)) j d
+  unfolding tabs
+  getD-tabs d zero b i j h l = absurd (omega arith)
+  getD-tabs d (suc m) b zero j h l =
+      let q : w * 0 + j ≡ j = omega (arith, mul-zero w) in
+      let z : b + 0 ≡ b = add-zero b in
+      rw (q, z) (List·getD-append (f b) (tabs f m (b + 1)) d j (omega (arith, even b)))
+  getD-tabs d (suc m) b (suc i) j h l =
+      let q : w * suc i + j ≡ length (f b) + (w * i + j) = omega (arith, mul-suc w i, even b) in
+      let z : b + 1 + i ≡ b + suc i = omega arith in
+      rw q (getD-append-add (f b) (tabs f m (b + 1)) (w * i + j) d) ∙ getD-tabs d m (b + 1) i j (omega arith) l ∙ rw z refl
 
 -- ---- arrays filled from the front
 

@@ -22,12 +22,13 @@ sideAt lo hi i = side (at lo i) (at hi i)
 abbrev pub sidesOf : ℕ → List ℤ → List ℤ → List Side
 sidesOf n lo hi = tab (sideAt lo hi) n 0
 
--- a reading in a box, dimension by dimension
+-- a reading in a box, dimension by dimension; they have as many dimensions
 abbrev pub has : Side → ℤ → Bool
 has s x = leZ (s .lo) x && leZ x (s .hi)
 
 unfoldable pub fits : List Side → List ℤ → List Bool
-fits [] xs = []
+fits [] [] = []
+fits [] (x ∷ xs) = false ∷ []
 fits (s ∷ ss) [] = false ∷ []
 fits (s ∷ ss) (x ∷ xs) = has s x ∷ fits ss xs
 
@@ -36,7 +37,8 @@ abbrev pub covers : Side → Side → Bool
 covers b a = leZ (b .lo) (a .lo) && leZ (a .hi) (b .hi)
 
 unfoldable pub lies : List Side → List Side → List Bool
-lies [] bs = []
+lies [] [] = []
+lies [] (b ∷ bs) = false ∷ []
 lies (a ∷ ss) [] = false ∷ []
 lies (a ∷ ss) (b ∷ bs) = covers b a ∷ lies ss bs
 

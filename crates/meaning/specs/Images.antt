@@ -33,7 +33,8 @@ reached q x r y =
     leZ (r .low) z && leZ z (r .high)
 
 unfoldable pub reachedAll : ℕ → List ℤ → List Row → List ℤ → List Bool
-reachedAll q x [] ys = []
+reachedAll q x [] [] = []
+reachedAll q x [] (y ∷ ys) = false ∷ []
 reachedAll q x (r ∷ rs) [] = false ∷ []
 reachedAll q x (r ∷ rs) (y ∷ ys) = reached q x r y ∷ reachedAll q x rs ys
 

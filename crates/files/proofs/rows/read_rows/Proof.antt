@@ -1,0 +1,100 @@
+-- `rows::read_rows` reads the coefficients number by number. Assumes nothing.
+use Prim.Native.Nat.{_-_}
+use mathlib.Core.Path.{refl, sym, _∙_}
+use native.Mathlib.Omega.{arith}
+use mir.Syntax.{w64}
+use mir.Val.{SFits}
+use mir.Facts.{toZ-ofZ}
+use denote.Ref.{now}
+use borrow.Author.Needs.{needs}
+use Rattle.meaning.specs.Plants.{coefCount}
+use Rattle.files.proofs.rows.Laws.{few-numbers, EntriesUpTo, entries-none, entries-more, rows-fails, rows-all}
+use Rattle.files.proofs.rows.read_rows.Statement.{statement}
+use Rattle.files.proofs.rows.read_rows.Tie as tie
+
+abbrev Inv-loop : tie.InvT-loop
+Inv-loop s at n modes count coef₀ p₀ column₀ c₀ coef p column c = EntriesUpTo s at n count c column p coef
+
+abbrev μ-loop : tie.MeasureT-loop
+μ-loop s at n modes count coef₀ p₀ column₀ c₀ coef p column c = count - c
+
+mul-count : tie.Need-mul-count Inv-loop μ-loop
+mul-count c = record { fits = omega (arith, few-numbers (c .before .args .modes) (c .before .args .n) (omega arith) (omega arith) .0) }
+
+add-count : tie.Need-add-count Inv-loop μ-loop
+add-count c = omega arith
+
+mul-count-2 : tie.Need-mul-count-2 Inv-loop μ-loop
+mul-count-2 c = record { fits = omega (arith, few-numbers (c .before .args .modes) (c .before .args .n) (omega arith) (omega arith) .1) }
+
+loop-holds : tie.Need-loop-holds Inv-loop μ-loop
+loop-holds c = let t = c .before .args in entries-none (now (t .s)) (t .at) (t .n) (coefCount (t .modes) (t .n))
+
+entry-requires : tie.Need-entry-requires Inv-loop μ-loop
+entry-requires c κs = tt
+
+enum-known-v : tie.Need-enum-known-v Inv-loop μ-loop
+enum-known-v c = search needs
+
+enum-told : tie.Need-enum-told Inv-loop μ-loop
+enum-told c = search needs
+
+fault-requires : tie.Need-fault-requires Inv-loop μ-loop
+fault-requires c κs = tt
+
+returns : tie.Need-returns Inv-loop μ-loop
+returns c =
+    let l = c .before .before .before .before .before in
+    let t = l .before .before .args in
+    rw (c .fault .ensures) (rows-fails (t .modes) (l .loop .inv) (omega arith) (sym (c .before .before .before .entry .ensures) ∙ c .before .enum-told .given .1))
+
+mul-coef : tie.Need-mul-coef Inv-loop μ-loop
+mul-coef c = let t = c .before .before .before .before .before .before .before .args in omega (arith, few-numbers (t .modes) (t .n) (omega arith) (omega arith) .1)
+
+array-set-from-coef : tie.Need-array-set-from-coef Inv-loop μ-loop
+array-set-from-coef c = let t = c .before .before .before .before .before .before .before .args in omega (arith, few-numbers (t .modes) (t .n) (omega arith) (omega arith) .1)
+
+next-column-requires : tie.Need-next-column-requires Inv-loop μ-loop
+next-column-requires c κs = tt
+
+add-c : tie.Need-add-c Inv-loop μ-loop
+add-c c = let t = c .before .before .before .before .before .before .before .before .args in omega (arith, few-numbers (t .modes) (t .n) (omega arith) (omega arith) .1)
+
+loop-less : tie.Need-loop-less Inv-loop μ-loop
+loop-less c = omega arith
+
+loop-again : tie.Need-loop-again Inv-loop μ-loop
+loop-again c =
+    let l = c .before .before .before .before .before .before in
+    let t = l .before .before .args in
+    let v = c .before .before .v .given in
+    let f : SFits w64 (v .0 .0) = record { sfits = c .before .known-told .given .0 .1 } in
+    let q = few-numbers (t .modes) (t .n) (omega arith) (omega arith) .1 in
+    rw (c .next-column .ensures, toZ-ofZ f)
+    (entries-more (l .loop .inv) (v .0 .0) (v .0 .1 .0) (omega arith) q (sym (c .before .before .before .before .entry .ensures) ∙ v .1))
+
+returns-2 : tie.Need-returns-2 Inv-loop μ-loop
+returns-2 c = rows-all (c .before .before .before .args .modes) (c .before .loop .inv) (omega arith) _ refl
+
+pub read-rows-spec : {M : Type 1} → statement M
+read-rows-spec =
+    tie.close
+    (tie.spec
+    Inv-loop
+    μ-loop
+    mul-count
+    add-count
+    mul-count-2
+    loop-holds
+    entry-requires
+    enum-known-v
+    enum-told
+    fault-requires
+    returns
+    mul-coef
+    array-set-from-coef
+    next-column-requires
+    add-c
+    loop-less
+    loop-again
+    returns-2)

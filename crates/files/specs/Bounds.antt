@@ -1,0 +1,66 @@
+-- R, S and w as the code reads them: the parts of the form that they are, with their values; zeros beyond n. Assumes nothing.
+use Prim.Native.Nat.{ℕ, _≤_, _<_}
+use mathlib.Core.Path.{_≡_}
+use mathlib.Core.Bool.{true}
+use mathlib.Core.List.{List, [], _∷_}
+use lib.IntN.{ℤ, natAbs}
+use lib.Signed.{leZ}
+use Rattle.laws.specs.Lists.{at, tabs}
+use Rattle.laws.specs.Tabs.{Filled}
+use Rattle.meaning.specs.declared.Walk.{Walk}
+use Rattle.meaning.specs.Files.{Form}
+use Rattle.meaning.specs.Plants.{edgeLimit, bandLimit, ranged, span, times, edgesOf, bandOf}
+use Rattle.files.specs.declared.bounds.Span.{Span}
+use Rattle.files.specs.declared.bounds.Edges.{Edges}
+use Rattle.files.specs.declared.bounds.Bands.{Bands}
+use Rattle.files.specs.Parts.{Holds, Fails}
+
+-- lo in least..most, hi in lo..most
+abbrev pub spanIn : ℤ → ℤ → Form → Form
+spanIn least most rest = ranged least most λ lo. ranged lo most λ _. rest
+
+pub record Spanned (least most : ℤ) (s : List ℕ) (from : ℕ) (lo hi : ℤ) (next : ℕ) : Type 0 where
+  pub part : Holds (spanIn least most) s from (lo ∷ hi ∷ []) next
+  pub low : leZ least lo ≡ true
+  pub order : leZ lo hi ≡ true
+  pub high : leZ hi most ≡ true
+
+abbrev pub SpanTold : ℤ → ℤ → List ℕ → ℕ → Span → Type 0
+SpanTold least most s from (Span.Ends lo hi next) = Spanned least most s from lo hi next
+SpanTold least most s from (Span.Refused e) = Fails (spanIn least most) s from e
+
+-- one dimension's R and S
+abbrev pub edgesPart : Form → Form
+edgesPart rest = span edgeLimit (span edgeLimit rest)
+
+pub record EdgesRead (s : List ℕ) (from n : ℕ) (r : Edges) (next : ℕ) : Type 0 where
+  pub part : Holds (times n edgesPart) s from (tabs (edgesOf (r .rlo) (r .rhi) (r .slo) (r .shi)) n 0) next
+  pub rlo-filled : Filled 4 n (r .rlo)
+  pub rhi-filled : Filled 4 n (r .rhi)
+  pub slo-filled : Filled 4 n (r .slo)
+  pub shi-filled : Filled 4 n (r .shi)
+
+abbrev pub EdgesAs : List ℕ → ℕ → ℕ → Edges → Walk → Type 0
+EdgesAs s from n r (Walk.Next next) = EdgesRead s from n r next
+EdgesAs s from n r (Walk.Refused e) = Fails (times n edgesPart) s from e
+
+abbrev pub EdgesTold : List ℕ → ℕ → ℕ → Edges → Type 0
+EdgesTold s from n r = EdgesAs s from n r (r .answer)
+
+-- both ends of each band lie within its limit
+abbrev pub BandSizes : ℕ → List ℤ → List ℤ → Type 0
+BandSizes n wlo whi = (i : ℕ) → i < n → (natAbs (at wlo i) ≤ bandLimit) × (natAbs (at whi i) ≤ bandLimit)
+
+-- the bands, and their sizes
+pub record BandsRead (s : List ℕ) (from n : ℕ) (r : Bands) (next : ℕ) : Type 0 where
+  pub part : Holds (times n (span bandLimit)) s from (tabs (bandOf (r .wlo) (r .whi)) n 0) next
+  pub wlo-filled : Filled 4 n (r .wlo)
+  pub whi-filled : Filled 4 n (r .whi)
+  pub sizes : BandSizes n (r .wlo) (r .whi)
+
+abbrev pub BandsAs : List ℕ → ℕ → ℕ → Bands → Walk → Type 0
+BandsAs s from n r (Walk.Next next) = BandsRead s from n r next
+BandsAs s from n r (Walk.Refused e) = Fails (times n (span bandLimit)) s from e
+
+abbrev pub BandsTold : List ℕ → ℕ → ℕ → Bands → Type 0
+BandsTold s from n r = BandsAs s from n r (r .answer)

@@ -1,0 +1,164 @@
+// R, S and w of each dimension, which plants and sheets hold alike: read, and judged against one another.
+use crate::fields;
+use meaning::Refusal;
+use meaning::Signed;
+use meaning::Walk;
+ghost use mathlib.Core.Path.{_≡_};
+ghost use Prim.Native.Nat.{_≤_};
+ghost use mathlib.Core.List.{map};
+ghost use Rattle.laws.specs.Lists.{firstFalse};
+ghost use Rattle.meaning.specs.Boxes.{sidesOf, lies};
+ghost use Rattle.meaning.specs.Plants.{wide};
+ghost use Rattle.files.specs.Bounds.{SpanTold, EdgesTold, BandsTold, BandSizes};
+
+// A lo with its hi and the place behind them.
+pub enum Span {
+    Ends(i64, i64, usize),
+    Refused(Refusal),
+}
+
+// lo within least..most, then hi within lo..most.
+pub fn read_span(s: &[u8], at: usize, least: i64, most: i64) -> Span
+    ensures { λ r. ⌜ SpanTold least most (now (s .entry)) at r ⌝ }
+{
+    let Signed::Value(lo, mid) = fields::ranged(s, at, least, most) else {
+        return Span::Refused(fields::fault(s, at));
+    };
+    let Signed::Value(hi, next) = fields::ranged(s, mid, lo, most) else {
+        return Span::Refused(fields::fault(s, mid));
+    };
+    Span::Ends(lo, hi, next)
+}
+
+// The edges of R and S, zeros beyond n, and the place behind them.
+pub struct Edges {
+    pub answer: Walk,
+    pub rlo: [i64; 4],
+    pub rhi: [i64; 4],
+    pub slo: [i64; 4],
+    pub shi: [i64; 4],
+}
+
+pub fn read_edges(s: &[u8], at: usize, n: usize) -> Edges
+    requires { ⌜ n ≤ 4 ⌝ }
+    ensures { λ r. ⌜ EdgesTold (now (s .entry)) at n r ⌝ }
+{
+    let mut rlo = [0i64; 4];
+    let mut rhi = [0i64; 4];
+    let mut slo = [0i64; 4];
+    let mut shi = [0i64; 4];
+    let mut p = at;
+    let mut i: usize = 0;
+    while i < n {
+        match read_span(s, p, -1_000_000, 1_000_000) {
+            Span::Refused(e) => {
+                return Edges {
+                    answer: Walk::Refused(e),
+                    rlo,
+                    rhi,
+                    slo,
+                    shi,
+                };
+            }
+            Span::Ends(a, b, mid) => match read_span(s, mid, -1_000_000, 1_000_000) {
+                Span::Refused(e) => {
+                    return Edges {
+                        answer: Walk::Refused(e),
+                        rlo,
+                        rhi,
+                        slo,
+                        shi,
+                    };
+                }
+                Span::Ends(c, d, next) => {
+                    rlo[i] = a;
+                    rhi[i] = b;
+                    slo[i] = c;
+                    shi[i] = d;
+                    p = next;
+                }
+            },
+        }
+        i += 1;
+    }
+    Edges {
+        answer: Walk::Next(p),
+        rlo,
+        rhi,
+        slo,
+        shi,
+    }
+}
+
+// The bands, zeros beyond n, and the place behind them.
+pub struct Bands {
+    pub answer: Walk,
+    pub wlo: [i64; 4],
+    pub whi: [i64; 4],
+}
+
+pub fn read_bands(s: &[u8], at: usize, n: usize) -> Bands
+    requires { ⌜ n ≤ 4 ⌝ }
+    ensures { λ r. ⌜ BandsTold (now (s .entry)) at n r ⌝ }
+{
+    let mut wlo = [0i64; 4];
+    let mut whi = [0i64; 4];
+    let mut p = at;
+    let mut i: usize = 0;
+    while i < n {
+        match read_span(s, p, -1_000_000_000, 1_000_000_000) {
+            Span::Refused(e) => {
+                return Bands {
+                    answer: Walk::Refused(e),
+                    wlo,
+                    whi,
+                };
+            }
+            Span::Ends(a, b, next) => {
+                wlo[i] = a;
+                whi[i] = b;
+                p = next;
+            }
+        }
+        i += 1;
+    }
+    Bands {
+        answer: Walk::Next(p),
+        wlo,
+        whi,
+    }
+}
+
+// The first dimension in which the side of the first box does not lie in that of the second; n where all do.
+pub fn first_out(n: usize, alo: [i64; 4], ahi: [i64; 4], blo: [i64; 4], bhi: [i64; 4]) -> usize
+    requires { ⌜ n ≤ 4 ⌝ }
+    ensures { λ r. ⌜ r ≡ firstFalse (lies (sidesOf n alo ahi) (sidesOf n blo bhi)) ⌝ }
+{
+    let mut i: usize = 0;
+    while i < n {
+        if alo[i] < blo[i] {
+            return i;
+        }
+        if bhi[i] < ahi[i] {
+            return i;
+        }
+        i += 1;
+    }
+    i
+}
+
+// The first dimension whose band is narrower than q - 1; n where none is.
+pub fn first_narrow(n: usize, q: usize, wlo: [i64; 4], whi: [i64; 4]) -> usize
+    requires { ⌜ n ≤ 4 ⌝ ∗ ⌜ q ≤ 10000 ⌝ ∗ ⌜ BandSizes n wlo whi ⌝ }
+    ensures { λ r. ⌜ r ≡ firstFalse (map (wide q) (sidesOf n wlo whi)) ⌝ }
+{
+    let need = q as i64 - 1;
+    let mut i: usize = 0;
+    while i < n {
+        if whi[i] - wlo[i] < need {
+            return i;
+        }
+        i += 1;
+    }
+    i
+}

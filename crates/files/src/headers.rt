@@ -1,0 +1,51 @@
+// The header that plants and sheets begin with: form 1, n, a number in 1..most, q, K, D.
+use crate::fields;
+use crate::numbers;
+use crate::refusals;
+use meaning::Number;
+use meaning::Refusal;
+ghost use Rattle.files.specs.Headers.{HeaderTold};
+
+pub struct Header {
+    pub n: usize,
+    pub m: usize,
+    pub q: usize,
+    pub k: usize,
+    pub d: usize,
+}
+
+// The header and the place behind it.
+pub enum HeaderRead {
+    Header(Header, usize),
+    Refused(Refusal),
+}
+
+pub fn read_header(s: &[u8], most: usize) -> HeaderRead
+    ensures { λ r. ⌜ HeaderTold most (now (s .entry)) r ⌝ }
+{
+    let Number::Value(form, a) = numbers::number(s, 0) else {
+        return HeaderRead::Refused(refusals::broken(0));
+    };
+    if form != 1 {
+        return HeaderRead::Refused(refusals::wrong_form());
+    }
+    let Number::Value(n, b) = fields::counted(s, a, 1, 4) else {
+        return HeaderRead::Refused(fields::fault(s, a));
+    };
+    let Number::Value(m, c) = fields::counted(s, b, 1, most) else {
+        return HeaderRead::Refused(fields::fault(s, b));
+    };
+    let Number::Value(q, e) = fields::counted(s, c, 1, 10_000) else {
+        return HeaderRead::Refused(fields::fault(s, c));
+    };
+    let Number::Value(k, f) = fields::counted(s, e, 1, 6) else {
+        return HeaderRead::Refused(fields::fault(s, e));
+    };
+    let Number::Value(d, next) = fields::counted(s, f, 0, 6) else {
+        return HeaderRead::Refused(fields::fault(s, f));
+    };
+    if 12 < n * d {
+        return HeaderRead::Refused(refusals::unfit(f));
+    }
+    HeaderRead::Header(Header { n, m, q, k, d }, next)
+}

@@ -1,0 +1,9 @@
+// Files of document 01, read and written: seven-bit numbers (numbers), the rows of the table of refusals (refusals), plants (plants).
+// What they mean stands in crates/meaning; a file's parts are read by private modules (fields, headers, bounds).
+mod bounds;
+mod fields;
+mod headers;
+pub mod numbers;
+pub mod plants;
+pub mod refusals;
+mod rows;

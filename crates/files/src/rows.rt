@@ -1,0 +1,59 @@
+// The rows of a plant's modes: one flat array filled with zeros, then with the rows, number by number in file order.
+use crate::fields;
+use meaning::Signed;
+use meaning::Walk;
+ghost use mathlib.Core.Path.{_≡_};
+ghost use Prim.Native.Nat.{_≤_};
+ghost use lib.IntN.{pos, negℤ};
+ghost use Rattle.files.specs.Fields.{rangedAt};
+ghost use Rattle.files.specs.Rows.{limitAt, nextColumn, RowsTold};
+
+// The coefficients, zeros beyond the last row, and the place behind them.
+pub struct Rows {
+    pub answer: Walk,
+    pub coef: [i64; 320],
+}
+
+// The number of a row's column: one of n entries of A, or b behind them.
+fn entry(s: &[u8], at: usize, n: usize, column: usize) -> Signed
+    ensures { λ r. ⌜ r ≡ rangedAt (now (s .entry)) at (negℤ (pos (limitAt n column))) (pos (limitAt n column)) ⌝ }
+{
+    if column < n {
+        fields::ranged(s, at, -20_000, 20_000)
+    } else {
+        fields::ranged(s, at, -10_000_000_000, 10_000_000_000)
+    }
+}
+
+fn next_column(n: usize, column: usize) -> usize
+    ensures { λ r. ⌜ r ≡ nextColumn n column ⌝ }
+{
+    if column < n { column + 1 } else { 0 }
+}
+
+pub fn read_rows(s: &[u8], at: usize, n: usize, modes: usize) -> Rows
+    requires { ⌜ n ≤ 4 ⌝ ∗ ⌜ modes ≤ 16 ⌝ }
+    ensures { λ r. ⌜ RowsTold (now (s .entry)) at n modes r ⌝ }
+{
+    let count = modes * n * (n + 1);
+    let mut coef = [0i64; 320];
+    let mut p = at;
+    let mut column: usize = 0;
+    let mut c: usize = 0;
+    while c < count {
+        let Signed::Value(v, next) = entry(s, p, n, column) else {
+            return Rows {
+                answer: Walk::Refused(fields::fault(s, p)),
+                coef,
+            };
+        };
+        coef[c] = v;
+        p = next;
+        column = next_column(n, column);
+        c += 1;
+    }
+    Rows {
+        answer: Walk::Next(p),
+        coef,
+    }
+}
