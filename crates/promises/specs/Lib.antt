@@ -1,3 +1,16 @@
 pub mod Numbers
+pub mod Bytes
 pub mod Plants
+pub mod Laws
+pub mod Walking
+pub mod Shapes
+pub mod Layouts
+pub mod Accept
+pub mod Unique
+pub mod First
+pub mod Exists
+pub mod Finds
+pub mod Local
+pub mod Underway
+pub mod Demand
 pub mod Starred

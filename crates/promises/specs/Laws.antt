@@ -1,0 +1,46 @@
+-- What the theorems over tables ask of the rules, each theorem naming only what it needs. Definitions alone: that document 01's rules are so is
+-- proved with its split and its image.
+use Prim.Native.Nat.{ℕ, _+_, _^_, _≤_, _<_}
+use mathlib.Core.Path.{_≡_}
+use mathlib.Core.Bool.{Bool, true, false}
+use mathlib.Core.List.{List, [], _∷_}
+use Rattle.meaning.specs.Rules.{Rules, holds}
+
+abbrev pub bit : Bool → ℕ
+bit true = 1
+bit false = 0
+
+module _ (r : Rules) where
+  open Rules r using (Box, Reading, Kept, children, within, begin, image, kept, root, goal, safe, n, K, N, follows)
+
+  -- n, each node and each mode are numbers of at most five bytes
+  pub record Sizes : Type 0 where
+    pub dimensions : n < 2 ^ 35
+    pub nodes : K < 2 ^ 35
+    pub modes : N ≤ 2 ^ 35
+
+  -- A mode is one byte. The controller's state counts bytes as modes, so that this is needed wherever it is run, and only there.
+  abbrev pub OneByte : Type 0
+  OneByte = N ≤ 128
+
+  -- how many of the boxes hold a reading
+  unfoldable pub holding : List Box → Reading → ℕ
+  holding [] x = 0
+  holding (b ∷ bs) x = bit (holds r b x) + holding bs x
+
+  -- where a box is split, a reading of it is in exactly one child, and any other in none
+  abbrev pub Splits : Type 0
+  Splits = (b : Box) (x : Reading) → (children b ≡ [] → ⊥) → holding (children b) x ≡ bit (holds r b x)
+
+  -- A pattern that works keeps its word.
+  pub record Motion : Type 1 where
+    -- a reading is where what was kept says: in a box when a pattern begins, in the image after each mode
+    pub Inv : Kept → Reading → Type 0
+    pub at-begin : (b : Box) (x : Reading) → holds r b x ≡ true → Inv (begin b) x
+    pub at-image : (k : Kept) (u : ℕ) (x y : Reading) → Inv k x → follows u x y ≡ true → Inv (image u k) y
+    pub in-kept : (k : Kept) (x : Reading) → Inv k x → holds r (kept k) x ≡ true
+    -- a box that lies in another holds no reading that the other does not
+    pub inside : (a b : Box) (x : Reading) → within a b ≡ true → holds r a x ≡ true → holds r b x ≡ true
+    -- the goal lies in R, and R in S
+    pub home : (x : Reading) → holds r goal x ≡ true → holds r root x ≡ true
+    pub root-safe : (x : Reading) → holds r root x ≡ true → holds r safe x ≡ true
