@@ -1,9 +1,10 @@
 -- The header of a plant or a sheet, as the code reads it: form 1, n, a number in 1..most, q, K, D; or the refusal. Assumes nothing.
 use Prim.Native.Nat.{ℕ, _≤_}
 use mathlib.Core.Path.{_≡_}
-use mathlib.Core.List.{List, [], _∷_}
+use mathlib.Core.List.{List, [], _∷_, _++_}
 use lib.IntN.{pos}
 use Rattle.meaning.specs.Files.{Form, refused, valuesAt}
+use Rattle.meaning.specs.Numbers.{bytesOf}
 use Rattle.meaning.specs.Plants.{headed}
 use Rattle.files.specs.declared.headers.Header.{Header}
 use Rattle.files.specs.declared.headers.HeaderRead.{HeaderRead}
@@ -26,3 +27,6 @@ pub record Headed (most : ℕ) (s : List ℕ) (h : Header) (next : ℕ) : Type 0
 abbrev pub HeaderTold : ℕ → List ℕ → HeaderRead → Type 0
 HeaderTold most s (HeaderRead.Header h next) = Headed most s h next
 HeaderTold most s (HeaderRead.Refused e) = (rest : ℕ → ℕ → Form) → valuesAt (headed most rest) s 0 ≡ refused e
+
+abbrev pub headBytes : Header → List ℕ
+headBytes h = bytesOf 1 ++ (bytesOf (h .n) ++ (bytesOf (h .m) ++ (bytesOf (h .q) ++ (bytesOf (h .k) ++ bytesOf (h .d)))))

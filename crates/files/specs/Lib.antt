@@ -1,7 +1,9 @@
 pub mod Fields
+pub mod Signed
 pub mod FieldLaws
 pub mod Parts
 pub mod Headers
 pub mod Bounds
 pub mod Rows
 pub mod Plants
+pub mod Drafts

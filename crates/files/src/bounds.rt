@@ -1,14 +1,18 @@
 // R, S and w of each dimension, which plants and sheets hold alike: read, and judged against one another.
 use crate::fields;
+use crate::numbers;
 use meaning::Refusal;
 use meaning::Signed;
 use meaning::Walk;
 ghost use mathlib.Core.Path.{_≡_};
-ghost use Prim.Native.Nat.{_≤_};
+ghost use Prim.Native.Nat.{_+_, _≤_};
+ghost use lib.ListN.{length};
 ghost use mathlib.Core.List.{map};
-ghost use Rattle.laws.specs.Lists.{firstFalse};
+ghost use Rattle.laws.specs.Lists.{tabs, firstFalse};
+ghost use Rattle.laws.specs.Writing.{Put};
 ghost use Rattle.meaning.specs.Boxes.{sidesOf, lies};
-ghost use Rattle.meaning.specs.Plants.{wide};
+ghost use Rattle.meaning.specs.Plants.{edgesOf, bandOf, wide};
+ghost use Rattle.files.specs.Signed.{signedBytes};
 ghost use Rattle.files.specs.Bounds.{SpanTold, EdgesTold, BandsTold, BandSizes};
 
 // A lo with its hi and the place behind them.
@@ -161,4 +165,44 @@ pub fn first_narrow(n: usize, q: usize, wlo: [i64; 4], whi: [i64; 4]) -> usize
         i += 1;
     }
     i
+}
+
+// R and S of n dimensions from `at` on, as far as there is room; the place behind them.
+pub fn put_edges(
+    buf: &mut [u8],
+    at: usize,
+    n: usize,
+    rlo: [i64; 4],
+    rhi: [i64; 4],
+    slo: [i64; 4],
+    shi: [i64; 4],
+) -> usize
+    requires { ⌜ n ≤ 4 ⌝ ∗ ⌜ at ≤ length (now buf) + 1 ⌝ }
+    ensures { λ r. ⌜ Put (now (buf .entry)) at (signedBytes (tabs (edgesOf rlo rhi slo shi) n 0)) r (now (buf .exit)) ⌝ }
+{
+    let mut p = at;
+    let mut i: usize = 0;
+    while i < n {
+        p = numbers::put_signed(buf, p, rlo[i]);
+        p = numbers::put_signed(buf, p, rhi[i]);
+        p = numbers::put_signed(buf, p, slo[i]);
+        p = numbers::put_signed(buf, p, shi[i]);
+        i += 1;
+    }
+    p
+}
+
+// The bands of n dimensions, likewise.
+pub fn put_bands(buf: &mut [u8], at: usize, n: usize, wlo: [i64; 4], whi: [i64; 4]) -> usize
+    requires { ⌜ n ≤ 4 ⌝ ∗ ⌜ at ≤ length (now buf) + 1 ⌝ }
+    ensures { λ r. ⌜ Put (now (buf .entry)) at (signedBytes (tabs (bandOf wlo whi) n 0)) r (now (buf .exit)) ⌝ }
+{
+    let mut p = at;
+    let mut i: usize = 0;
+    while i < n {
+        p = numbers::put_signed(buf, p, wlo[i]);
+        p = numbers::put_signed(buf, p, whi[i]);
+        i += 1;
+    }
+    p
 }

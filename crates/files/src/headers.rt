@@ -4,7 +4,8 @@ use crate::numbers;
 use crate::refusals;
 use meaning::Number;
 use meaning::Refusal;
-ghost use Rattle.files.specs.Headers.{HeaderTold};
+ghost use Rattle.laws.specs.Writing.{Put};
+ghost use Rattle.files.specs.Headers.{HeaderTold, headBytes};
 
 pub struct Header {
     pub n: usize,
@@ -48,4 +49,16 @@ pub fn read_header(s: &[u8], most: usize) -> HeaderRead
         return HeaderRead::Refused(refusals::unfit(f));
     }
     HeaderRead::Header(Header { n, m, q, k, d }, next)
+}
+
+// The header's bytes at the buffer's beginning, as far as there is room; the place behind them.
+pub fn put_header(buf: &mut [u8], h: Header) -> usize
+    ensures { λ r. ⌜ Put (now (buf .entry)) 0 (headBytes h) r (now (buf .exit)) ⌝ }
+{
+    let mut at = numbers::put_number(buf, 0, 1);
+    at = numbers::put_number(buf, at, h.n);
+    at = numbers::put_number(buf, at, h.m);
+    at = numbers::put_number(buf, at, h.q);
+    at = numbers::put_number(buf, at, h.k);
+    numbers::put_number(buf, at, h.d)
 }

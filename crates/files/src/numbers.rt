@@ -80,3 +80,13 @@ pub fn put_number(buf: &mut [u8], at: usize, v: usize) -> usize
     }
     put_byte(buf, p, x as u8)
 }
+
+// The same of a signed number.
+pub fn put_signed(buf: &mut [u8], at: usize, v: i64) -> usize
+    ensures { λ r. ⌜ Put (now (buf .entry)) at (bytesOf (stored v)) r (now (buf .exit)) ⌝ }
+{
+    if 0 <= v {
+        return put_number(buf, at, (v as usize) * 2);
+    }
+    put_number(buf, at, ((-1 - v) as usize) * 2 + 1)
+}

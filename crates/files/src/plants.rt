@@ -1,5 +1,6 @@
-// Plant files, read.
+// Plant files, read and written.
 use crate::bounds;
+use crate::buffers;
 use crate::headers;
 use crate::headers::Header;
 use crate::headers::HeaderRead;
@@ -10,11 +11,14 @@ use meaning::PlantRead;
 use meaning::Refusal;
 use meaning::Verdict;
 use meaning::Walk;
+use meaning::Written;
 ghost use mathlib.Core.Path.{_≡_};
 ghost use Prim.Native.Nat.{_≤_};
 ghost use Rattle.meaning.specs.Files.{bad};
-ghost use Rattle.meaning.specs.Plants.{readOf, plantRead};
+ghost use Rattle.laws.specs.Writing.{Put};
+ghost use Rattle.meaning.specs.Plants.{readOf, plantRead, plantLeft};
 ghost use Rattle.files.specs.Plants.{refusalOf, bodyRead};
+ghost use Rattle.files.specs.Drafts.{draftBytes};
 
 // A refused plant is all zeros.
 fn refused(e: Refusal) -> PlantRead
@@ -116,5 +120,62 @@ pub fn read_plant(s: &[u8]) -> PlantRead
     match headers::read_header(s, 16) {
         HeaderRead::Refused(e) => refused(e),
         HeaderRead::Header(h, at) => read_body(s, h, at),
+    }
+}
+
+// The file that the values would be, as far as there is room; the place behind it. Where n or N is out of range the header says it all.
+fn put_plant(p: Plant, buf: &mut [u8]) -> usize
+    ensures { λ r. ⌜ Put (now (buf .entry)) 0 (draftBytes p) r (now (buf .exit)) ⌝ }
+{
+    let n = p.n;
+    let modes = p.modes;
+    let h = Header {
+        n,
+        m: modes,
+        q: p.q,
+        k: p.k,
+        d: p.d,
+    };
+    let past_header = headers::put_header(buf, h);
+    if 4 < n {
+        return past_header;
+    }
+    if 16 < modes {
+        return past_header;
+    }
+    let rlo = p.rlo;
+    let rhi = p.rhi;
+    let slo = p.slo;
+    let shi = p.shi;
+    let past_edges = bounds::put_edges(buf, past_header, n, rlo, rhi, slo, shi);
+    let wlo = p.wlo;
+    let whi = p.whi;
+    let past_bands = bounds::put_bands(buf, past_edges, n, wlo, whi);
+    let coef = p.coef;
+    rows::put_rows(buf, past_bands, coef, modes * n * (n + 1))
+}
+
+// A plant as values, judged as the file it would be, then 10. Finished, only the file's bytes are changed; refused, the buffer is all zeros.
+pub fn write_plant(p: Plant, buf: &mut [u8]) -> Written
+    ensures answer { λ r. ⌜ r ≡ plantLeft p (now (buf .entry)) .answer ⌝ }
+    ensures bytes { λ r. ⌜ now (buf .exit) ≡ plantLeft p (now (buf .entry)) .buffer ⌝ }
+{
+    let mut draft = [0u8; 3500];
+    let drafted = put_plant(p, &mut draft);
+    let read = read_plant(&draft[..drafted]);
+    let verdict = read.verdict;
+    match verdict {
+        Verdict::Refused(e) => {
+            buffers::clear(buf);
+            Written::Refused(e)
+        }
+        Verdict::Accepted => {
+            let length = put_plant(p, buf);
+            if buf.len() < length {
+                buffers::clear(buf);
+                return Written::Refused(refusals::short());
+            }
+            Written::Length(length)
+        }
     }
 }

@@ -1,11 +1,17 @@
 // The rows of a plant's modes: one flat array filled with zeros, then with the rows, number by number in file order.
 use crate::fields;
+use crate::numbers;
 use meaning::Signed;
 use meaning::Walk;
 ghost use mathlib.Core.Path.{_≡_};
-ghost use Prim.Native.Nat.{_≤_};
+ghost use Prim.Native.Nat.{_+_, _≤_};
+ghost use lib.ListN.{length};
 ghost use lib.IntN.{pos, negℤ};
+ghost use Rattle.laws.specs.Lists;
+ghost use Rattle.laws.specs.Lists.{tab};
+ghost use Rattle.laws.specs.Writing.{Put};
 ghost use Rattle.files.specs.Fields.{rangedAt};
+ghost use Rattle.files.specs.Signed.{signedBytes};
 ghost use Rattle.files.specs.Rows.{limitAt, nextColumn, RowsTold};
 
 // The coefficients, zeros beyond the last row, and the place behind them.
@@ -56,4 +62,18 @@ pub fn read_rows(s: &[u8], at: usize, n: usize, modes: usize) -> Rows
         answer: Walk::Next(p),
         coef,
     }
+}
+
+// The first `count` coefficients from `at` on, as far as there is room; the place behind them.
+pub fn put_rows(buf: &mut [u8], at: usize, coef: [i64; 320], count: usize) -> usize
+    requires { ⌜ count ≤ 320 ⌝ ∗ ⌜ at ≤ length (now buf) + 1 ⌝ }
+    ensures { λ r. ⌜ Put (now (buf .entry)) at (signedBytes (tab (Lists.at coef) count 0)) r (now (buf .exit)) ⌝ }
+{
+    let mut p = at;
+    let mut c: usize = 0;
+    while c < count {
+        p = numbers::put_signed(buf, p, coef[c]);
+        c += 1;
+    }
+    p
 }

@@ -1,4 +1,7 @@
+pub mod Counting
 pub mod Division
+pub mod DivisionLaws
+pub mod Every
 pub mod Expressions
 pub mod Guards
 pub mod Integers

@@ -50,6 +50,15 @@ module _ {ℓ} {A : Type ℓ} (f : ℕ → A) where
 -- ---- tabs
 
 module _ {ℓ} {A : Type ℓ} (f : ℕ → List A) where
+  -- j of n are done
+  pub tabs-step : (n j : ℕ) → j < n → tabs f (n - j) j ≡ f j ++ tabs f (n - (j + 1)) (j + 1)
+  unfolding tabs
+  tabs-step n j h = let q : n - j ≡ suc (n - (j + 1)) = omega arith in rw q refl
+
+  pub tabs-done : (n j : ℕ) → n ≤ j → tabs f (n - j) j ≡ []
+  unfolding tabs
+  tabs-done n j h = let q : n - j ≡ 0 = omega arith in rw q refl
+
   snocs : (m i : ℕ) → tabs f (suc m) i ≡ tabs f m i ++ f (i + m)
   unfolding tabs
   snocs zero i = rw (add-zero, append-nil) refl
@@ -83,6 +92,19 @@ module _ {ℓ} {A : Type ℓ} (f : ℕ → List A) (w : ℕ) (even : (k : ℕ) �
       let q : w * suc i + j ≡ length (f b) + (w * i + j) = omega (arith, mul-suc w i, even b) in
       let z : b + 1 + i ≡ b + suc i = omega arith in
       rw q (getD-append-add (f b) (tabs f m (b + 1)) (w * i + j) d) ∙ getD-tabs d m (b + 1) i j (omega arith) l ∙ rw z refl
+
+-- ---- the first k of m entries, made up
+
+module _ (f : ℕ → ℤ) (m k : ℕ) where
+  pub padded-size : k ≤ m → length (padded m (pos 0) (tab f k 0)) ≡ m
+  padded-size h =
+      let e = length-tab f k 0 in
+      length-append (tab f k 0) (replicate (m - length (tab f k 0)) (pos 0)) ∙ rw (length-replicate (m - length (tab f k 0)) (pos 0)) (omega arith)
+
+  pub padded-at : (i : ℕ) → i < k → at (padded m (pos 0) (tab f k 0)) i ≡ f i
+  padded-at i h =
+      List·getD-append (tab f k 0) (replicate (m - length (tab f k 0)) (pos 0)) (pos 0) i (omega (arith, length-tab f k 0))
+      ∙ getD-tab f (pos 0) k 0 i h ∙ rw zero-add refl
 
 -- ---- arrays filled from the front
 
@@ -121,23 +143,20 @@ tab-stored l i v h =
 
 -- such an array is its first entries, made up
 pub filled-padded : {m i : ℕ} {l : List ℤ} → Filled m i l → i ≤ m → padded m (pos 0) (tab (at l) i 0) ≡ l
-filled-padded {m} {i} {l} f h = ext-getD (pos 0) (front ++ zeros) l (long ∙ sym (f .size)) (λ k g. same k (decLt k i) (omega (arith, long)))
+filled-padded {m} {i} {l} f h = ext-getD (pos 0) (padded m (pos 0) front) l (long ∙ sym (f .size)) (λ k g. same k (decLt k i) (omega (arith, long)))
   where
     front : List ℤ
     front = tab (at l) i 0
 
-    zeros : List ℤ
-    zeros = replicate (m - length front) (pos 0)
-
     width : length front ≡ i
     width = length-tab (at l) i 0
 
-    long : length (front ++ zeros) ≡ m
-    long = length-append front zeros ∙ rw (length-replicate (m - length front) (pos 0)) (omega (arith, width))
+    long : length (padded m (pos 0) front) ≡ m
+    long = padded-size (at l) m i h
 
-    same : (k : ℕ) → Dec (k < i) → k < m → at (front ++ zeros) k ≡ at l k
-    same k (yes a) g = List·getD-append front zeros (pos 0) k (omega (arith, width)) ∙ getD-tab (at l) (pos 0) i 0 k a ∙ rw zero-add refl
+    same : (k : ℕ) → Dec (k < i) → k < m → at (padded m (pos 0) front) k ≡ at l k
+    same k (yes a) g = padded-at (at l) m i k a
     same k (no a) g =
         let e : length front + (k - i) ≡ k = omega (arith, width) in
-        ap (at (front ++ zeros)) (sym e) ∙ getD-append-add front zeros (k - i) (pos 0)
+        ap (at (padded m (pos 0) front)) (sym e) ∙ getD-append-add front (replicate (m - length front) (pos 0)) (k - i) (pos 0)
         ∙ getD-replicate (m - length front) (k - i) (pos 0) (pos 0) (omega (arith, width)) ∙ sym (f .rest k (omega arith))

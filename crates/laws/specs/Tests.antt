@@ -1,13 +1,54 @@
--- Lists of tests: the first that does not hold, found in a loop, and what it says of all. Assumes nothing.
+-- Tests: what one says that holds, by its halves and as an order of ℤ; and lists of tests, the first that does not hold, found in a loop, and what
+-- it says of all. Relies on the order of page Integers.
 use Prim.Native.Nat.{ℕ, zero, suc, _+_, _-_, _≤_, _<_}
 use mathlib.Core.Path.{_≡_, refl, sym, ap, _∙_}
 use mathlib.Core.Bool.{Bool, true, false, _&&_}
 use mathlib.Core.List.{List, [], _∷_, map}
 use native.Mathlib.Omega.{arith}
 use native.Mathlib.Nat.{zero-add, add-zero}
+use lib.Dec.{T}
 use lib.ListN.{length}
+use lib.IntN.{ℤ}
+use lib.Signed.{leZ, ltZ, _≤ℤ_, _<ℤ_}
+use Rattle.laws.specs.Integers.{leZ-true, lt-nle}
 use Rattle.laws.specs.Lists.{tab, all, firstFalse}
 use Rattle.laws.specs.Tabs.{tab-step, tab-done}
+
+-- what a test that cannot hold proves
+pub never {ℓ} : {A : Type ℓ} → false ≡ true → A
+never e = absurd (let z : _≡_ {A = ℕ} 0 1 = cc in omega arith)
+
+-- ---- both halves of a test
+
+pub first : (a b : Bool) → (a && b) ≡ true → a ≡ true
+first true b e = refl
+first false b e = e
+
+pub second : (a b : Bool) → (a && b) ≡ true → b ≡ true
+second true b e = e
+second false b e = never e
+
+pub both : {a b : Bool} → a ≡ true → b ≡ true → (a && b) ≡ true
+both p q = simp (p, q)
+
+-- ---- the order as a test
+
+is-true : (t : Bool) → T t → t ≡ true
+is-true true h = refl
+is-true false h = absurd h
+
+pub true-leZ : {a b : ℤ} → a ≤ℤ b → leZ a b ≡ true
+true-leZ {a} {b} h = is-true (leZ a b) (h .le)
+
+pub false-leZ : {a b : ℤ} → b <ℤ a → leZ a b ≡ false
+false-leZ {a} {b} h = lt-nle b a (is-true (ltZ b a) (h .lt))
+
+-- two orders that hold, as one test and as facts: a side that has a count or covers another, a number in its range
+pub orders : (a b c d : ℤ) → (leZ a b && leZ c d) ≡ true → (a ≤ℤ b) × (c ≤ℤ d)
+orders a b c d e = (leZ-true a b (first (leZ a b) (leZ c d) e), leZ-true c d (second (leZ a b) (leZ c d) e))
+
+pub ordered : {a b c d : ℤ} → a ≤ℤ b → c ≤ℤ d → (leZ a b && leZ c d) ≡ true
+ordered h k = both (true-leZ h) (true-leZ k)
 
 -- ---- n tests, of which the first i hold
 
@@ -54,3 +95,12 @@ pub map-tab : {A : Type 0} (t : A → Bool) (f : ℕ → A) (n i : ℕ) → map 
 unfolding tab
 map-tab t f zero i = refl
 map-tab t f (suc n) i = ap (λ (ts : List Bool). t (f i) ∷ ts) (map-tab t f n (i + 1))
+
+-- where all of m tests hold, each does
+pub all-tab : (t : ℕ → Bool) (m i k : ℕ) → k < m → all (tab t m i) ≡ true → t (i + k) ≡ true
+unfolding tab all
+all-tab t zero i k h e = absurd (omega arith)
+all-tab t (suc m) i zero h e = rw add-zero (first (t i) (all (tab t m (i + 1))) e)
+all-tab t (suc m) i (suc k) h e =
+    let q : i + suc k ≡ i + 1 + k = omega arith in
+    rw q (all-tab t m (i + 1) k (omega arith) (second (t i) (all (tab t m (i + 1))) e))

@@ -52,3 +52,24 @@ put-append {b} {at} {xs} {ys} {r} {r2} {o} {o2} p q =
 
     chain : sets o r ys ≡ sets b at (xs ++ ys)
     chain = rw (p .bytes, p .place) (stop ∙ sym (sets-append xs ys b at))
+
+-- ---- a write that is under way: of the entries `whole`, `rest` are still to be written, from p on
+
+pub record Under (buf₀ : List ℕ) (at : ℕ) (whole rest : List ℕ) (p : ℕ) (buf : List ℕ) : Type 0 where
+  pub long : length buf ≡ length buf₀
+  pub within : p ≤ length buf + 1
+  -- whoever writes the rest has written the whole
+  pub goes : (next : ℕ) (out : List ℕ) → Put buf p rest next out → Put buf₀ at whole next out
+
+pub under-none : (buf : List ℕ) (at : ℕ) (whole : List ℕ) → at ≤ length buf + 1 → Under buf at whole whole at buf
+under-none buf at whole h = record { long = refl; within = h; goes = λ next out t. t }
+
+pub under-more : {buf₀ : List ℕ} {at : ℕ} {whole xs rest : List ℕ} {p next : ℕ} {buf out : List ℕ} → Under buf₀ at whole (xs ++ rest) p buf → Put buf p xs next out → Under buf₀ at whole rest next out
+under-more {buf₀} {at} {whole} {xs} {rest} {p} {next} {buf} {out} u t = record {
+  long = put-length t ∙ u .long;
+  within = omega (arith, t .place, put-length t);
+  goes = λ n o v. u .goes n o (put-append t v);
+}
+
+pub under-done : {buf₀ : List ℕ} {at : ℕ} {whole : List ℕ} {p : ℕ} {buf : List ℕ} → Under buf₀ at whole [] p buf → Put buf₀ at whole p buf
+under-done {p = p} {buf = buf} u = u .goes p buf (put-none buf p (u .within))

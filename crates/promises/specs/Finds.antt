@@ -7,6 +7,7 @@ use mathlib.Core.Bool.{Bool, true, false, cond}
 use mathlib.Core.List.{List, [], _∷_, _++_, append-nil}
 use native.Mathlib.Omega.{arith}
 use lib.ListN.{length}
+use Rattle.laws.specs.Counting.{bit, count}
 use Rattle.laws.specs.Standing.{Stands, stand-front, stand-back}
 use Rattle.meaning.specs.declared.Rule.the-variants.{Works}
 use Rattle.meaning.specs.declared.Walk.{Walk}
@@ -16,7 +17,7 @@ use Rattle.meaning.specs.Rules.{Rules, holds}
 use Rattle.meaning.specs.Trees.{Tree, Forest, split, tile, leaf, more, modesBytes, layout, layouts, Pattern, tableOf, Over, Overs, Tile, tilesOf, tilesIn}
 use Rattle.meaning.specs.Verdicts.{walk}
 use Rattle.meaning.specs.Control.{among, find, idle, modeAt, call}
-use Rattle.promises.specs.Laws.{Sizes, bit, holding, Splits}
+use Rattle.promises.specs.Laws.{Sizes, holding, Splits}
 use Rattle.promises.specs.Walking.{lookAmong, find-split, find-tile}
 use Rattle.promises.specs.Shapes.{Good, over-map}
 use Rattle.promises.specs.Layouts.{tile-read, split-read, walk-reads, header-read, headed, table-stands}
@@ -61,7 +62,7 @@ module _ (r : Rules) where
     -- ---- no tile holds a reading that its box does not
 
     mutual
-      unfolding Over holding tilesOf having
+      unfolding Over count tilesOf having
 
       none-tree : (t : Tree) (d : ℕ) (b : Box) (at : ℕ) → Over r P t d b → holds r b x ≡ false → having x (tilesOf r t b at) ≡ []
       none-tree (tile us) d b at o h = simp h
@@ -102,7 +103,7 @@ module _ (r : Rules) where
         → (holds r b x ≡ true → OneTile P x s at (tilesOf r t b at) (find r d s at b x))
         → (holding r bs x ≡ 1 → OneTile P x s (at + length (layout t)) (tilesIn r f bs (at + length (layout t))) (lookAmong r x d s node bs (at + length (layout t))))
         → (c : Bool) → holds r b x ≡ c → OneTile P x s at (tilesIn r (more t f) (b ∷ bs) at) (lookAmong r x d s node (b ∷ bs) at)
-    unfolding holding tilesOf among
+    unfolding count tilesOf among
     first-or-later t f d s node at b bs o os p h first later true c =
         let z : holding r bs x ≡ 0 = let g : bit (holds r b x) ≡ 1 = ap bit c in omega arith in
         let w : having x (tilesIn r (more t f) (b ∷ bs) at) ≡ having x (tilesOf r t b at) =
@@ -117,7 +118,7 @@ module _ (r : Rules) where
         seen (omega arith) w (rw (c, pass t d s at b m o p) refl) (later z)
 
     mutual
-      unfolding Over layout tilesOf having holding
+      unfolding Over layout tilesOf having count
 
       tree-finds : (t : Tree) (d : ℕ) (s : List ℕ) (at : ℕ) (b : Box) (m : ℕ) → Over r P t d b → Stands s at (layout t) m → holds r b x ≡ true
           → OneTile P x s at (tilesOf r t b at) (find r d s at b x)

@@ -10,11 +10,11 @@ use native.Mathlib.Omega.{arith}
 use native.Mathlib.Decide.{ℕ-discrete, decLt}
 use lib.ListN.{length}
 use Rattle.laws.specs.Guards.{guard}
-use Rattle.meaning.specs.declared.Rule.{Rule}
 use Rattle.meaning.specs.declared.Rule.the-variants.{Works}
-use Rattle.meaning.specs.Rules.{Rules, rule, ruleFrom, onGoal, onSafe}
+use Rattle.meaning.specs.Rules.{Rules, rule, ruleFrom}
 use Rattle.meaning.specs.Trees.{below, Pattern}
 use Rattle.meaning.specs.Defined.{orElse, mapSome, firstMode, exactly, shortest, firstPattern}
+use Rattle.promises.specs.Patterns.{goal-works, safe-works}
 
 pub none-some : {A : Type 0} {a : A} → none ≡ some a → ⊥
 none-some e = let z : _≡_ {A = ℕ} 0 1 = cc in omega arith
@@ -81,16 +81,6 @@ untried try (suc m) u e v l h = go (try u) refl e (λ q y. untried try m (suc u)
     go none q e k (yes c) = rw (← c) q
     go none q e k (no c) = k e (omega arith)
 
--- ---- a rule that works has passed its tests
-
-pub goal-works : (t : Bool) (i : ℕ) → onGoal t i ≡ Works → t ≡ true
-goal-works true i e = refl
-goal-works false i e = absurd (let z : _≡_ {A = ℕ} 0 1 = cc in omega arith)
-
-pub safe-works : (t : Bool) (i : ℕ) (rest : ℕ → Rule) → onSafe t i rest ≡ Works → (t ≡ true) × (rest (suc i) ≡ Works)
-safe-works true i rest e = (refl, e)
-safe-works false i rest e = absurd (let z : _≡_ {A = ℕ} 0 1 = cc in omega arith)
-
 module _ (r : Rules) where
   open Rules r using (Box, Kept, within, begin, image, kept, goal, safe, K, N)
 
@@ -134,11 +124,11 @@ module _ (r : Rules) where
 
   exactly-none : (m : ℕ) (k : Kept) (us : List ℕ) (i : ℕ) → exactly r m k ≡ none → length us ≡ m → below N us → ruleFrom r i k us ≡ Works → ⊥
   unfolding exactly ruleFrom below
-  exactly-none zero k [] i e l h w = none-some {a = []} (sym e ∙ rw (goal-works (within (kept k) goal) i w) refl)
+  exactly-none zero k [] i e l h w = none-some {a = []} (sym e ∙ rw (goal-works (within (kept k) goal) i .0 w) refl)
   exactly-none zero k (u ∷ us) i e l h w = omega arith
   exactly-none (suc m) k [] i e l h w = omega arith
   exactly-none (suc m) k (u ∷ us) i e l h w =
-      let s = safe-works (within (kept (image u k)) safe) i (λ j. ruleFrom r j (image u k) us) w in
+      let s = safe-works (within (kept (image u k)) safe) i (λ j. ruleFrom r j (image u k) us) .0 w in
       exactly-none m (image u k) us (suc i) (rw (s .0) at (untried (behind m k) N 0 e u (omega arith) (omega (arith, h .0)))) (omega arith) (h .1) (s .1)
 
   exactly-foremost : (m : ℕ) (k : Kept) (us vs : List ℕ) (i : ℕ) → exactly r m k ≡ some us → length vs ≡ m → below N vs → ruleFrom r i k vs ≡ Works
@@ -152,7 +142,7 @@ module _ (r : Rules) where
   exactly-foremost zero k us (v ∷ vs) i e l h w = absurd (omega arith)
   exactly-foremost (suc m) k us [] i e l h w = absurd (omega arith)
   exactly-foremost (suc m) k us (v ∷ vs) i e l h w =
-      let s = safe-works (within (kept (image v k)) safe) i (λ j. ruleFrom r j (image v k) vs) w in
+      let s = safe-works (within (kept (image v k)) safe) i (λ j. ruleFrom r j (image v k) vs) .0 w in
       go (s .0) (tried (behind m k) N 0 us e)
       (λ q. exactly-none m (image v k) vs (suc i) q (omega arith) (h .1) (s .1))
       (λ ws q. exactly-foremost m (image v k) ws vs (suc i) q (omega arith) (h .1) (s .1))

@@ -1,14 +1,11 @@
--- What the theorems over tables ask of the rules, each theorem naming only what it needs. Definitions alone: that document 01's rules are so is
--- proved with its split and its image.
-use Prim.Native.Nat.{ℕ, _+_, _^_, _≤_, _<_}
+-- What the theorems over tables ask of the rules, each theorem naming only what it needs. Definitions alone: that document 01's rules of a sound
+-- plant are so is page PlantMotion.
+use Prim.Native.Nat.{ℕ, _^_, _≤_, _<_}
 use mathlib.Core.Path.{_≡_}
-use mathlib.Core.Bool.{Bool, true, false}
-use mathlib.Core.List.{List, [], _∷_}
+use mathlib.Core.Bool.{true}
+use mathlib.Core.List.{List, []}
+use Rattle.laws.specs.Counting.{bit, count}
 use Rattle.meaning.specs.Rules.{Rules, holds}
-
-abbrev pub bit : Bool → ℕ
-bit true = 1
-bit false = 0
 
 module _ (r : Rules) where
   open Rules r using (Box, Reading, Kept, children, within, begin, image, kept, root, goal, safe, n, K, N, follows)
@@ -24,9 +21,8 @@ module _ (r : Rules) where
   OneByte = N ≤ 128
 
   -- how many of the boxes hold a reading
-  unfoldable pub holding : List Box → Reading → ℕ
-  holding [] x = 0
-  holding (b ∷ bs) x = bit (holds r b x) + holding bs x
+  abbrev pub holding : List Box → Reading → ℕ
+  holding bs x = count (λ b. holds r b x) bs
 
   -- where a box is split, a reading of it is in exactly one child, and any other in none
   abbrev pub Splits : Type 0

@@ -13,4 +13,14 @@ pub mod Finds
 pub mod Local
 pub mod Underway
 pub mod Demand
+pub mod Boxes
+pub mod Splits
+pub mod Children
+pub mod Images
+pub mod Reached
+pub mod Patterns
+pub mod Sound
+pub mod PlantMotion
+pub mod Forms
+pub mod Judged
 pub mod Starred

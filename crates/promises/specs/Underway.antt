@@ -18,7 +18,7 @@ use Rattle.meaning.specs.Verdicts.{header}
 use Rattle.meaning.specs.Control.{idle, modeAt, call}
 use Rattle.promises.specs.Laws.{OneByte, Motion}
 use Rattle.promises.specs.Bytes.{one-byte}
-use Rattle.promises.specs.First.{goal-works, safe-works}
+use Rattle.promises.specs.Patterns.{goal-works, safe-works}
 
 -- the state with these modes to come, the next of them at that place
 abbrev pub stateOf : List ℕ → ℕ → State
@@ -74,7 +74,7 @@ module _ (r : Rules) (one : OneByte r) (motion : Motion r) (s : List ℕ) where
 
     ready-works : (within (kept (image u (h .k))) safe ≡ true) × (ruleFrom r (suc (h .i)) (image u (h .k)) vs ≡ Works)
     unfolding ruleFrom
-    ready-works = safe-works (within (kept (image u (h .k))) safe) (h .i) (λ m. ruleFrom r m (image u (h .k)) vs) (h .works)
+    ready-works = safe-works (within (kept (image u (h .k))) safe) (h .i) (λ m. ruleFrom r m (image u (h .k)) vs) .0 (h .works)
 
   pub ready-next : (u : ℕ) (vs : List ℕ) (place : ℕ) (x : Reading) → Ready r motion s (u ∷ vs) place x → (y : Reading) → follows u x y ≡ true
       → Pending r motion s goal vs (place + 1) y
@@ -82,7 +82,7 @@ module _ (r : Rules) (one : OneByte r) (motion : Motion r) (s : List ℕ) where
   ready-next u [] place x h y f =
       let c = image u (h .k) in
       let there = motion .at-image (h .k) u x y (h .here) f in
-      motion .inside (kept c) goal y (goal-works (within (kept c) goal) (suc (h .i)) (ready-works u [] place x h .1)) (motion .in-kept c y there)
+      motion .inside (kept c) goal y (goal-works (within (kept c) goal) (suc (h .i)) .0 (ready-works u [] place x h .1)) (motion .in-kept c y there)
   ready-next u (v ∷ ws) place x h y f =
       let c = image u (h .k) in
       let w = ready-works u (v ∷ ws) place x h in

@@ -1,8 +1,8 @@
 -- R, S and w read against the form: a span by its two numbers, and the loops over dimensions. Assumes nothing.
-use Prim.Native.Nat.{ℕ, zero, suc, _+_, _≤_, _<_}
+use Prim.Native.Nat.{ℕ, zero, suc, _+_, _-_, _≤_, _<_}
 use mathlib.Core.Path.{_≡_, refl, ap, _∙_}
 use mathlib.Core.Bool.{Bool, true, false, _&&_}
-use mathlib.Core.List.{List, [], _∷_, map}
+use mathlib.Core.List.{List, [], _∷_, _++_, map}
 use native.Mathlib.Omega.{arith}
 use native.Mathlib.Decide.{ℕ-discrete}
 use lib.ListN.{length, set, replicate}
@@ -12,13 +12,15 @@ use mir.Syntax.{w64}
 use mir.Val.{SFits, toZ, ofZ}
 use mir.Facts.{toZ-pos, toZ-ofZ}
 use Rattle.laws.specs.Integers.{zarith, abs-sub, within, leZ-true, lt-nle, nlt-le}
-use Rattle.laws.specs.Lists.{at, tab}
-use Rattle.laws.specs.Tabs.{Filled, filled-none, filled-more, at-below, at-stored}
+use Rattle.laws.specs.Lists.{at, tab, tabs}
+use Rattle.laws.specs.Tabs.{Filled, filled-none, filled-more, at-below, at-stored, tabs-step, tabs-done}
 use Rattle.laws.specs.Tests.{map-tab}
 use Rattle.meaning.specs.declared.Signed.{Signed}
 use Rattle.meaning.specs.Files.{before}
 use Rattle.meaning.specs.Boxes.{sideAt, sidesOf, lies}
 use Rattle.meaning.specs.Plants.{edgeLimit, bandLimit, ranged, span, times, edgesOf, bandOf, wide}
+use Rattle.meaning.specs.Numbers.{bytesOf, stored}
+use Rattle.files.specs.Signed.{signedBytes}
 use Rattle.files.specs.Fields.{rangedAt, faultAt}
 use Rattle.files.specs.FieldLaws.{ranged-was, ranged-fault}
 use Rattle.files.specs.Parts.{behind, Fails, holds-then, holds-fails, fails-then, Rows, rows-none, rows-more, rows-fails, rows-all}
@@ -228,3 +230,19 @@ module _ (q : ℕ) (wlo whi : List ℤ) (i : ℕ) (h : q ≤ 10000) (l : natAbs 
   pub thick : ltZ (toZ w64 (ofZ w64 (at whi i -ℤ at wlo i))) (toZ w64 (ofZ w64 (toZ w64 q -ℤ pos 1))) ≡ false → broad q wlo whi i ≡ true
   unfolding broad
   thick e = nlt-le (at whi i -ℤ at wlo i) (pos q -ℤ pos 1) (read-test false e)
+
+-- ---- written: one dimension more, or none
+
+pub edges-step : (rlo rhi slo shi : List ℤ) (n i : ℕ) → i < n → signedBytes (tabs (edgesOf rlo rhi slo shi) (n - i) i)
+    ≡ bytesOf (stored (at rlo i)) ++ (bytesOf (stored (at rhi i)) ++ (bytesOf (stored (at slo i)) ++ (bytesOf (stored (at shi i)) ++ signedBytes (tabs (edgesOf rlo rhi slo shi) (n - (i + 1)) (i + 1)))))
+unfolding signedBytes
+edges-step rlo rhi slo shi n i h = ap signedBytes (tabs-step (edgesOf rlo rhi slo shi) n i h)
+
+pub bands-step : (wlo whi : List ℤ) (n i : ℕ) → i < n → signedBytes (tabs (bandOf wlo whi) (n - i) i)
+    ≡ bytesOf (stored (at wlo i)) ++ (bytesOf (stored (at whi i)) ++ signedBytes (tabs (bandOf wlo whi) (n - (i + 1)) (i + 1)))
+unfolding signedBytes
+bands-step wlo whi n i h = ap signedBytes (tabs-step (bandOf wlo whi) n i h)
+
+pub tabs-over : (f : ℕ → List ℤ) (n i : ℕ) → n ≤ i → signedBytes (tabs f (n - i) i) ≡ []
+unfolding signedBytes
+tabs-over f n i h = ap signedBytes (tabs-done f n i h)

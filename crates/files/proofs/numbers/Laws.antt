@@ -1,7 +1,7 @@
 -- Laws of the number reader's and writer's loops, in the terms of their proofs. Assumes nothing.
 use Prim.Native.Nat.{ℕ, zero, suc, _+_, _-_, _*_, _/_, _%_, _^_, _<_, _≤_}
-use mathlib.Core.Path.{_≡_, refl, sym, ap, _∙_}
-use mathlib.Core.Bool.{cond}
+use mathlib.Core.Path.{_≡_, refl, sym, ap, _∙_, subst}
+use mathlib.Core.Bool.{true, false, cond}
 use mathlib.Core.List.{List, [], _∷_}
 use native.Mathlib.Omega.{arith}
 use native.Mathlib.Nat.{mul-le-mul-right}
@@ -9,13 +9,16 @@ use lib.ListN.{length, getD}
 use lib.Pow.{pow-mono, pow-add}
 use lib.Dec.{ltb}
 use borrow.Author.Tests.{le-ltb, lt-ltb, ne-eqb}
-use lib.IntN.{pos, negsuc, _-ℤ_}
+use lib.Dec.{T, leb, leb·zero}
+use lib.IntN.{ℤ, pos, negsuc, natAbs, _-ℤ_}
+use lib.Signed.{leZ, nonNeg}
+use Rattle.laws.specs.Integers.{zarith, sub}
 use mir.Syntax.{w64}
 use mir.Val.{SFits, toZ, ofZ}
 use mir.Facts.{toZ-pos, toZ-ofZ}
 use Rattle.meaning.specs.declared.Number.{Number}
 use Rattle.meaning.specs.declared.Signed.{Signed}
-use Rattle.meaning.specs.Numbers.{groupsAt, lastGroup, groupsOf, asSigned}
+use Rattle.meaning.specs.Numbers.{groupsAt, lastGroup, groupsOf, stored, asSigned}
 
 -- ---- the reader: one law for each way out of a turn, after k of at most 5 bytes. The weight of group k is 2 ^ (7 * k)
 pub weight-le : (k w : ℕ) → w ≡ 2 ^ (7 * k) → k < 5 → w ≤ 2 ^ 28
@@ -99,3 +102,24 @@ last-of-all k x h = let q : 9 - k ≡ 0 = omega arith in rw q refl
 pub more-groups : (k x : ℕ) → k < 9 → 128 ≤ x → groupsOf (9 - k) x ≡ (x % 128 + 128) ∷ groupsOf (9 - (k + 1)) (x / 128)
 unfolding groupsOf
 more-groups k x h l = let q : 9 - k ≡ suc (9 - (k + 1)) = omega arith in rw q (simp (le-ltb _ _ l))
+
+-- ---- a signed number's stored form, as the machine makes it
+
+pub stored-up : (v : ℤ) → leZ (pos 0) v ≡ true → SFits w64 v → T (nonNeg v) × (natAbs v < 2 ^ 63) × (natAbs v * 2 ≡ stored v)
+stored-up (pos n) e f = (tt, f .sfits, omega arith)
+stored-up (negsuc n) e f = absurd (subst T (sym e) tt)
+
+turned : (n : ℕ) → negsuc 0 -ℤ negsuc n ≡ pos n
+turned n = omega (zarith, sub (negsuc 0) (negsuc n))
+
+pub stored-down : (v : ℤ) → leZ (pos 0) v ≡ false → SFits w64 v
+    → SFits w64 (negsuc 0 -ℤ v) × T (nonNeg (negsuc 0 -ℤ v)) × (natAbs (negsuc 0 -ℤ v) < 2 ^ 63) × (natAbs (negsuc 0 -ℤ v) * 2 + 1 ≡ stored v)
+stored-down (pos n) e f = absurd (omega (arith, (let z : T (leZ (pos 0) (pos n)) = leb·zero-T n in no (subst T e z))))
+  where
+    leb·zero-T : (n : ℕ) → T (leb 0 n)
+    leb·zero-T n = subst T (sym (leb·zero n)) tt
+
+    no : ⊥ → 1 ≤ 0
+    no z = absurd z
+stored-down (negsuc n) e f =
+    rw (turned n) (record { sfits = f .sfits }, tt, f .sfits, omega arith)

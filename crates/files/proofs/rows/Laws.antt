@@ -1,7 +1,7 @@
 -- The loop over a plant's coefficients: c of them are done. Assumes nothing.
 use Prim.Native.Nat.{ℕ, suc, _+_, _-_, _*_, _≤_, _<_}
 use mathlib.Core.Path.{_≡_, refl, sym, ap, _∙_}
-use mathlib.Core.List.{List, [], _∷_}
+use mathlib.Core.List.{List, [], _∷_, _++_}
 use native.Mathlib.Omega.{arith}
 use native.Mathlib.Decide.{decLt}
 use native.Mathlib.Nat.{mul-le-mul}
@@ -9,11 +9,13 @@ use lib.ListN.{set, replicate}
 use lib.IntN.{ℤ, pos, negℤ}
 use borrow.Author.Tests.{lt-ltb, le-ltb}
 use Rattle.laws.specs.Lists.{at, tab}
-use Rattle.laws.specs.Tabs.{Filled, filled-none, filled-more, tab-stored}
+use Rattle.laws.specs.Tabs.{Filled, filled-none, filled-more, tab-stored, tab-step, tab-done}
 use Rattle.meaning.specs.declared.Signed.{Signed}
 use Rattle.meaning.specs.Files.{Form, refused, valuesAt}
 use Rattle.meaning.specs.Plants.{limited, times, row, coefCount}
 use Rattle.files.specs.declared.rows.Rows.{Rows}
+use Rattle.meaning.specs.Numbers.{bytesOf, stored}
+use Rattle.files.specs.Signed.{signedBytes}
 use Rattle.files.specs.Fields.{rangedAt, faultAt}
 use Rattle.files.specs.FieldLaws.{ranged-was, ranged-fault}
 use Rattle.files.specs.Parts.{behind, behind-append, behind-refused, Fails}
@@ -94,3 +96,13 @@ module _ {s : List ℕ} {from n : ℕ} (modes : ℕ) {c column p : ℕ} {coef : 
 
       none : (rest : Form) → entriesFrom n column (coefCount modes n - c) rest ≡ rest
       none rest = let q : coefCount modes n - c ≡ 0 = omega arith in rw q refl
+
+-- ---- written: one number more, or none
+
+pub row-step : (coef : List ℤ) (count c : ℕ) → c < count → signedBytes (tab (at coef) (count - c) c) ≡ bytesOf (stored (at coef c)) ++ signedBytes (tab (at coef) (count - (c + 1)) (c + 1))
+unfolding signedBytes
+row-step coef count c h = ap signedBytes (tab-step (at coef) count c h)
+
+pub tab-over : (coef : List ℤ) (count c : ℕ) → count ≤ c → signedBytes (tab (at coef) (count - c) c) ≡ []
+unfolding signedBytes
+tab-over coef count c h = ap signedBytes (tab-done (at coef) count c h)

@@ -1,0 +1,65 @@
+-- Document 01's rules of a sound plant meet the laws of page Laws; so a pattern that works for a box keeps every run in S and brings it back
+-- to R (S5), and some reading always follows (S12). Relies on pages Images, Splits, Patterns and Reached.
+-- Readings are lists of any length: those beyond n are ignored, and 0 stands where one is missing.
+use Prim.Native.Nat.{ℕ}
+use mathlib.Core.Path.{_≡_, refl, sym, _∙_}
+use mathlib.Core.Bool.{true}
+use mathlib.Core.List.{List}
+use native.Mathlib.Omega.{arith}
+use native.Mathlib.Nat.{zero-add}
+use lib.ListN.{length}
+use lib.Seq.{ext-getD}
+use lib.IntN.{ℤ, pos}
+use Rattle.laws.specs.Every.{Every, every-tab}
+use Rattle.laws.specs.Lists.{at}
+use Rattle.laws.specs.Tabs.{length-tab, getD-tab}
+use Rattle.meaning.specs.declared.Plant.{Plant}
+use Rattle.meaning.specs.declared.Rule.the-variants.{Works}
+use Rattle.meaning.specs.Boxes.{Side}
+use Rattle.meaning.specs.Plants.{rootOf, safeOf, rowOf, stepOf}
+use Rattle.meaning.specs.Rules.{rule, holds}
+use Rattle.meaning.specs.Tables.{readingOf, rulesOf}
+use Rattle.promises.specs.Boxes.{within-fits}
+use Rattle.promises.specs.Images.{image-holds}
+use Rattle.promises.specs.Laws.{Splits, Motion}
+use Rattle.promises.specs.Patterns.{Through, Arrives, works-arrives}
+use Rattle.promises.specs.Reached.{Wide, reached-size, some-follows}
+use Rattle.promises.specs.Sound.{Sound}
+use Rattle.promises.specs.Splits.{one-child}
+
+-- a reading of just n counts is taken as it is
+whole : (n : ℕ) (y : List ℤ) → length y ≡ n → readingOf n y ≡ y
+whole n y e =
+    ext-getD (pos 0) (readingOf n y) y (length-tab (at y) n 0 ∙ sym e)
+    (λ i l. getD-tab (at y) (pos 0) n 0 i (omega (arith, length-tab (at y) n 0)) ∙ rw zero-add refl)
+
+module _ (p : Plant) where
+  pub splits : Splits (rulesOf p)
+  splits b x some = one-child b (readingOf (p .n) x) some
+
+  module _ (s : Sound p) where
+    -- all that is known of a reading is that the image holds it
+    pub motion : Motion (rulesOf p)
+    motion = record {
+      Inv = λ b x. holds (rulesOf p) b x ≡ true;
+      at-begin = λ b x h. h;
+      at-image = λ b u x y h f. image-holds (stepOf p u) b (readingOf (p .n) x) (readingOf (p .n) y) (s .q-low) h f;
+      in-kept = λ b x h. h;
+      inside = λ a b x w h. within-fits a b (readingOf (p .n) x) w h;
+      home = λ x h. h;
+      root-safe = λ x h. within-fits (rootOf p) (safeOf p) (readingOf (p .n) x) (s .root-safe) h;
+    }
+
+    -- S5: where a pattern works for a box, every run through it from a reading of the box stays in S and ends in R
+    pub plant-works : (b : List Side) (us : List ℕ) → rule (rulesOf p) b us ≡ Works
+        → (x : List ℤ) → holds (rulesOf p) b x ≡ true → (ys : List (List ℤ)) → Through (rulesOf p) us x ys → Arrives (rulesOf p) x ys
+    plant-works = works-arrives (rulesOf p) motion
+
+    -- S12: in every mode some reading follows every reading
+    pub plant-follows : (u : ℕ) (x : List ℤ) → (y : List ℤ) × (rulesOf p .follows u x y ≡ true)
+    plant-follows u x =
+        let z = readingOf (p .n) x in
+        let wide : Every (Wide (p .q)) (stepOf p u .rows) = every-tab (Wide (p .q)) (rowOf p u) (p .n) 0 (λ i l h. s .wide i (omega arith)) in
+        let f = some-follows (stepOf p u) z (s .q-low) wide in
+        let e = reached-size (p .q) z (stepOf p u .rows) (f .0) (f .1) ∙ length-tab (rowOf p u) (p .n) 0 in
+        (f .0, rw (whole (p .n) (f .0) e) (f .1))
