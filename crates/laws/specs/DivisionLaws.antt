@@ -89,3 +89,10 @@ module _ (q : ℕ) (positive : 1 ≤ q) where
       let turned = floor-banded (negℤ m) (negℤ high) (negℤ low) (omega (zarith, neg low, neg high, sub (negℤ low) (negℤ high), sub high low)) in
       rw (negℤ-+ℤ m low)
       (omega (zarith, turned, neg m, neg low, neg high, mul-neg (pos q) f, neg (pos q *ℤ f), sub (pos q *ℤ f) (negℤ m), sub (pos q *ℤ negℤ f) m))
+
+  -- between two numbers that are q − 1 apart there is a multiple of q
+  pub ceil-floor : (x y : ℤ) → (x +ℤ pos q) ≤ℤ (y +ℤ pos 1) → ceilZ x q ≤ℤ floorZ y q
+  ceil-floor x y e =
+      let f = floorZ (negℤ x) q in
+      floor-greatest (ceilZ x q) y .1
+      (omega (zarith, floor-high (negℤ x), add (pos q *ℤ f) (pos q), neg x, mul-neg (pos q) f, neg (pos q *ℤ f), add x (pos q), add y (pos 1)))

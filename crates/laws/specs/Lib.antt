@@ -6,6 +6,7 @@ pub mod Expressions
 pub mod Guards
 pub mod Integers
 pub mod Lists
+pub mod Rounding
 pub mod Standing
 pub mod Tabs
 pub mod Tests

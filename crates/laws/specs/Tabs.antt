@@ -1,9 +1,9 @@
 -- Laws of lists by their entries: `tab`, `tabs`, `padded`, and arrays that are filled from the front. Assumes nothing.
 use Prim.Native.Nat.{ℕ, zero, suc, _+_, _-_, _*_, _≤_, _<_}
 use mathlib.Core.Path.{_≡_, refl, sym, ap, _∙_}
-use mathlib.Core.List.{List, [], _∷_, _++_, append-assoc, append-nil}
+use mathlib.Core.List.{List, [], _∷_, _++_, map, append-assoc, append-nil}
 use native.Mathlib.Omega.{arith}
-use native.Mathlib.Nat.{add-zero, zero-add, add-comm, mul-zero, mul-suc}
+use native.Mathlib.Nat.{add-zero, sub-zero, zero-add, add-comm, mul-zero, mul-suc}
 use native.Mathlib.Numerals.{add-one}
 use native.Mathlib.Decide.{decLt}
 use lib.ListN.{length, getD, set, replicate, length-append, length-replicate, length-set, getD-replicate, List·getD-append}
@@ -30,6 +30,9 @@ module _ {ℓ} {A : Type ℓ} (f : ℕ → A) where
   unfolding tab
   tab-step n j h = let q : n - j ≡ suc (n - (j + 1)) = omega arith in rw q refl
 
+  pub tab-all : (n : ℕ) → tab f (n - 0) 0 ≡ tab f n 0
+  tab-all n = rw sub-zero refl
+
   pub tab-done : (n j : ℕ) → n ≤ j → tab f (n - j) j ≡ []
   unfolding tab
   tab-done n j h = let q : n - j ≡ 0 = omega arith in rw q refl
@@ -46,6 +49,11 @@ module _ {ℓ} {A : Type ℓ} (f : ℕ → A) where
   unfolding tab
   tab-same g zero i h = refl
   tab-same g (suc m) i h = rw (h i (omega arith) (omega arith), tab-same g m (i + 1) (λ k a b. h k (omega arith) (omega arith))) refl
+
+pub map-tab : {A B : Type 0} (g : A → B) (f : ℕ → A) (m i : ℕ) → map g (tab f m i) ≡ tab (λ k. g (f k)) m i
+unfolding tab
+map-tab g f zero i = refl
+map-tab g f (suc m) i = rw (map-tab g f m (i + 1)) refl
 
 -- ---- tabs
 

@@ -3,7 +3,7 @@
 use Prim.Native.Nat.{ℕ, zero, suc, _+_, _-_, _≤_, _<_}
 use mathlib.Core.Path.{_≡_, refl, sym, ap, _∙_}
 use mathlib.Core.Bool.{Bool, true, false, _&&_}
-use mathlib.Core.List.{List, [], _∷_, map}
+use mathlib.Core.List.{List, [], _∷_}
 use native.Mathlib.Omega.{arith}
 use native.Mathlib.Nat.{zero-add, add-zero}
 use lib.Dec.{T}
@@ -12,7 +12,7 @@ use lib.IntN.{ℤ}
 use lib.Signed.{leZ, ltZ, _≤ℤ_, _<ℤ_}
 use Rattle.laws.specs.Integers.{leZ-true, lt-nle}
 use Rattle.laws.specs.Lists.{tab, all, firstFalse}
-use Rattle.laws.specs.Tabs.{tab-step, tab-done}
+use Rattle.laws.specs.Tabs.{length-tab, tab-step, tab-done}
 
 -- what a test that cannot hold proves
 pub never {ℓ} : {A : Type ℓ} → false ≡ true → A
@@ -89,12 +89,12 @@ first-behind [] h = refl
 first-behind (false ∷ ts) h = absurd (omega arith)
 first-behind (true ∷ ts) h = first-behind ts (omega arith)
 
--- ---- tests of the entries of a list
+module _ {t : ℕ → Bool} {n i : ℕ} (w : HoldUpTo t n i) where
+  pub fails-here : i < n → t i ≡ false → false ≡ all (tab t n 0)
+  fails-here h e = sym (first-within (tab t n 0) (omega (arith, first-here w h e, length-tab t n 0)))
 
-pub map-tab : {A : Type 0} (t : A → Bool) (f : ℕ → A) (n i : ℕ) → map t (tab f n i) ≡ tab (λ k. t (f k)) n i
-unfolding tab
-map-tab t f zero i = refl
-map-tab t f (suc n) i = ap (λ (ts : List Bool). t (f i) ∷ ts) (map-tab t f n (i + 1))
+  pub all-hold : n ≤ i → true ≡ all (tab t n 0)
+  all-hold h = sym (first-behind (tab t n 0) (omega (arith, first-none w h, length-tab t n 0)))
 
 -- where all of m tests hold, each does
 pub all-tab : (t : ℕ → Bool) (m i k : ℕ) → k < m → all (tab t m i) ≡ true → t (i + k) ≡ true

@@ -15,8 +15,8 @@ use Rattle.laws.specs.Guards.{guard}
 use Rattle.laws.specs.Integers.{zarith, leZ-true}
 use Rattle.laws.specs.Integers as Z
 use Rattle.laws.specs.Lists.{at, tab, padded, all, firstFalse}
-use Rattle.laws.specs.Tabs.{padded-size, padded-at}
-use Rattle.laws.specs.Tests.{never, first, second, orders, map-tab, all-tab}
+use Rattle.laws.specs.Tabs.{padded-size, padded-at, map-tab}
+use Rattle.laws.specs.Tests.{never, first, second, orders, all-tab}
 use Rattle.meaning.specs.declared.Plant.{Plant}
 use Rattle.meaning.specs.Refusals.{unfit, notInSafe, narrow}
 use Rattle.meaning.specs.Boxes.{Side, sideAt, sidesOf, lies, within}

@@ -13,8 +13,7 @@ use mir.Val.{SFits, toZ, ofZ}
 use mir.Facts.{toZ-pos, toZ-ofZ}
 use Rattle.laws.specs.Integers.{zarith, abs-sub, within, leZ-true, lt-nle, nlt-le}
 use Rattle.laws.specs.Lists.{at, tab, tabs}
-use Rattle.laws.specs.Tabs.{Filled, filled-none, filled-more, at-below, at-stored, tabs-step, tabs-done}
-use Rattle.laws.specs.Tests.{map-tab}
+use Rattle.laws.specs.Tabs.{Filled, filled-none, filled-more, at-below, at-stored, tabs-step, tabs-done, map-tab}
 use Rattle.meaning.specs.declared.Signed.{Signed}
 use Rattle.meaning.specs.Files.{before}
 use Rattle.meaning.specs.Boxes.{sideAt, sidesOf, lies}

@@ -1,0 +1,193 @@
+-- Laws of images for the proofs of module images and of its callers: the terms of a row and their sum, term by term; the sides of an image; and
+-- that an image inside S is a small box again. Assumes nothing.
+use Prim.Native.Nat.{ℕ, suc, _+_, _-_, _*_, _≤_, _<_}
+use mathlib.Core.Path.{_≡_, refl, sym, ap, _∙_}
+use mathlib.Core.Bool.{true}
+use mathlib.Core.List.{List, [], _∷_}
+use native.Mathlib.Omega.{arith}
+use native.Mathlib.Nat.{mul-le-mul, mul-le-mul-left, zero-add}
+use lib.ListN.{length, set}
+use lib.IntN.{ℤ, pos, negsuc, natAbs, _+ℤ_, _-ℤ_, _*ℤ_, +ℤ-assoc, +ℤ-idl, +ℤ-idr}
+use mir.Syntax.{w64}
+use mir.Val.{toZ}
+use lib.Signed.{_≤ℤ_, _<ℤ_, ≤ℤ-refl}
+use Rattle.laws.specs.Integers.{zarith, of-le, add, sub, mul, abs-add, abs-mul}
+use Rattle.laws.specs.Expressions.{Ex, var, held, _⊕_, mach, up}
+use Rattle.laws.specs.Division.{floorZ, ceilZ}
+use Rattle.laws.specs.DivisionLaws.{ceil-floor}
+use Rattle.laws.specs.Lists.{at, tab, all}
+use Rattle.laws.specs.Tabs.{tab-step, tab-done, tab-snoc, map-tab}
+use Rattle.laws.specs.Tests.{orders, all-tab}
+use Rattle.meaning.specs.declared.Plant.{Plant}
+use Rattle.meaning.specs.Boxes.{Side, side, sideAt, covers, within}
+use Rattle.meaning.specs.Images.{Row, leastOf, greatestOf, extreme, imageSide, image}
+use Rattle.meaning.specs.Plants.{edgeLimit, entryLimit, safeOf, stepOf}
+use Rattle.tables.specs.Boxes.{Bounded, Small}
+use Rattle.tables.specs.declared.boxes.Bx.{Bx}
+use Rattle.tables.specs.Images.{termLimit, rowFrom, stepFrom, Extremes}
+use Rattle.promises.specs.Sound.{Sound}
+use Rattle.tables.proofs.frames.Laws.{safe-small, divisor, band-wide}
+use Rattle.tables.proofs.boxes.Laws.{small-tab, small-side, between, sides-stored, lies-tab}
+
+-- ---- one term: by the sign of a; and the greatest is the least of the turned side
+
+module _ (a l h : ℤ) where
+  pub least-above : pos 0 ≤ℤ a → (a *ℤ l ≡ leastOf a (side l h)) × (a *ℤ h ≡ greatestOf a (side l h))
+  least-above k = go a k
+    where
+      go : (a : ℤ) → pos 0 ≤ℤ a → (a *ℤ l ≡ leastOf a (side l h)) × (a *ℤ h ≡ greatestOf a (side l h))
+      go (pos m) k = (refl, refl)
+      go (negsuc m) k = absurd (k .le)
+
+  pub least-below : a <ℤ pos 0 → (a *ℤ h ≡ leastOf a (side l h)) × (a *ℤ l ≡ greatestOf a (side l h))
+  least-below k = go a k
+    where
+      none : {m : ℕ} → pos m <ℤ pos 0 → ⊥
+      none {m} k = omega zarith
+
+      go : (a : ℤ) → a <ℤ pos 0 → (a *ℤ h ≡ leastOf a (side l h)) × (a *ℤ l ≡ greatestOf a (side l h))
+      go (pos m) k = absurd (none k)
+      go (negsuc m) k = (refl, refl)
+
+turned : (a : ℤ) (s : Side) → leastOf a (side (s .hi) (s .lo)) ≡ greatestOf a s
+turned (pos a) s = refl
+turned (negsuc a) s = refl
+
+abs-least : {m k : ℕ} (a : ℤ) (s : Side) → natAbs a ≤ m → natAbs (s .lo) ≤ k → natAbs (s .hi) ≤ k → natAbs (leastOf a s) ≤ m * k
+abs-least (pos a) s f g h = omega (zarith, abs-mul (pos a) (s .lo), mul-le-mul f g)
+abs-least (negsuc a) s f g h = omega (zarith, abs-mul (negsuc a) (s .hi), mul-le-mul f h)
+
+pub least-small : (a : ℤ) (s : Side) → natAbs a ≤ entryLimit → Bounded edgeLimit s → natAbs (leastOf a s) ≤ termLimit
+least-small a s f b = abs-least a s f (b .low) (b .high)
+
+pub greatest-small : (a : ℤ) (s : Side) → natAbs a ≤ entryLimit → Bounded edgeLimit s → natAbs (greatestOf a s) ≤ termLimit
+greatest-small a s f b = rw (← turned a s) (abs-least a (side (s .hi) (s .lo)) f (b .high) (b .low))
+
+-- ---- the sum of the terms, with j of n behind it: stated once for the least and the greatest
+
+pub record Summed (of : ℤ → Side → ℤ) (es : ℕ → ℤ) (ss : ℕ → Side) (n j : ℕ) (z : ℤ) : Type 0 where
+  pub small : natAbs z ≤ termLimit * j
+  pub sum : z +ℤ extreme of (tab es (n - j) j) (tab ss (n - j) j) ≡ extreme of (tab es n 0) (tab ss n 0)
+
+module _ (of : ℤ → Side → ℤ) (es : ℕ → ℤ) (ss : ℕ → Side) (n : ℕ) where
+  pub summed-none : Summed of es ss n 0 (pos 0)
+  summed-none = record { small = omega arith; sum = +ℤ-idl (extreme of (tab es (n - 0) 0) (tab ss (n - 0) 0)) ∙ (let q : n - 0 ≡ n = omega arith in rw q refl) }
+
+  pub summed-more : {j : ℕ} {z : ℤ} → Summed of es ss n j z → j < n → natAbs (of (es j) (ss j)) ≤ termLimit → Summed of es ss n (j + 1) (z +ℤ of (es j) (ss j))
+  unfolding extreme
+  summed-more {j} {z} s h k = record {
+    small = omega (arith, s .small, abs-add z (of (es j) (ss j)));
+    sum = +ℤ-assoc z (of (es j) (ss j)) (extreme of (tab es (n - (j + 1)) (j + 1)) (tab ss (n - (j + 1)) (j + 1))) ∙ (rw (step j h) at (s .sum));
+  }
+    where
+      step : (j : ℕ) → j < n → extreme of (tab es (n - j) j) (tab ss (n - j) j) ≡ of (es j) (ss j) +ℤ extreme of (tab es (n - (j + 1)) (j + 1)) (tab ss (n - (j + 1)) (j + 1))
+      step j h = rw (tab-step es n j h, tab-step ss n j h) refl
+
+  pub summed-done : {j : ℕ} {z : ℤ} → Summed of es ss n j z → n ≤ j → z ≡ extreme of (tab es n 0) (tab ss n 0)
+  unfolding extreme
+  summed-done {j} {z} s h = sym (+ℤ-idr z) ∙ (rw (done j h) at (s .sum))
+    where
+      done : (j : ℕ) → n ≤ j → extreme of (tab es (n - j) j) (tab ss (n - j) j) ≡ pos 0
+      done j h = rw (tab-done es n j h) refl
+
+-- one more term as the machine adds it: the loop's variable holds `bits`, and z is what the call for the term gave
+module _ (of : ℤ → Side → ℤ) (es : ℕ → ℤ) (ss : ℕ → Side) (n j bits : ℕ) (z : ℤ)
+    (r : n ≤ 4) (h : j < n) (s : Summed of es ss n j (toZ w64 bits)) (e : z ≡ of (es j) (ss j)) (k : natAbs (of (es j) (ss j)) ≤ termLimit) where
+  abbrev pub next : Ex
+  next = held (toZ w64 bits) (toZ w64 bits) 60_000_000_000 refl (omega (arith, s .small)) ⊕ var z termLimit (rw e k)
+
+  pub summed-next : Summed of es ss n (j + 1) (mach next)
+  summed-next = up (λ (y : ℤ). Summed of es ss n (j + 1) y) next tt (rw e (summed-more of es ss n s h k))
+
+-- ---- the image, side by side
+
+-- one side, of what the calls answer
+pub side-is : {es : List ℤ} {b : List Side} {lo hi : ℤ} (x y o wl wh : ℤ) (q : ℕ) → Extremes es b lo hi → x ≡ ceilZ (lo +ℤ o +ℤ wl) q → y ≡ floorZ (hi +ℤ o +ℤ wh) q
+    → side x y ≡ imageSide q b (record { entries = es; offset = o; low = wl; high = wh })
+side-is x y o wl wh q e f g = rw (f, g, e .least, e .greatest) refl
+
+-- side i of the image of b
+abbrev pub imageSideAt : ℕ → ℕ → Bx → List ℤ → ℕ → List Side → ℕ → Side
+imageSideAt n q w coef u b i = imageSide q b (rowFrom n w coef u i)
+
+pub image-tab : (n q : ℕ) (w : Bx) (coef : List ℤ) (u : ℕ) (b : List Side) → image (stepFrom n q w coef u) b ≡ tab (imageSideAt n q w coef u b) n 0
+unfolding image
+image-tab n q w coef u b = map-tab (imageSide q b) (rowFrom n w coef u) n 0
+
+-- one more side is stored
+pub image-more : (f : ℕ → Side) (lo hi : List ℤ) (i : ℕ) (x y : ℤ) → i < length lo → i < length hi → side x y ≡ f i → tab (sideAt lo hi) i 0 ≡ tab f i 0
+    → tab (sideAt (set lo i x) (set hi i y)) (i + 1) 0 ≡ tab f (i + 1) 0
+image-more f lo hi i x y h k e t =
+    let q : 0 + i ≡ i = zero-add i in
+    sides-stored lo hi i x y h k ∙ rw (e, t) (sym (tab-snoc f i 0 ∙ rw q refl))
+
+pub image-done : (f : ℕ → Side) (lo hi : List ℤ) (n i : ℕ) → i ≡ n → tab (sideAt lo hi) i 0 ≡ tab f i 0 → tab (sideAt lo hi) n 0 ≡ tab f n 0
+image-done f lo hi n i q e = rw q at e
+
+-- ---- an image that lies in S is small again: its edges lie between those of S, and the band rule keeps them in order
+
+least-greatest : (a : ℤ) (s : Side) → s .lo ≤ℤ s .hi → leastOf a s ≤ℤ greatestOf a s
+least-greatest (pos a) s h = omega (zarith, mul (pos a) (s .lo), mul (pos a) (s .hi), mul-le-mul-left a (of-le h))
+least-greatest (negsuc a) s h = omega (zarith, mul (negsuc a) (s .lo), mul (negsuc a) (s .hi), mul-le-mul-left (suc a) (of-le h))
+
+extreme-order : (k : ℕ) (es : List ℤ) (b : List Side) → Small k b → extreme leastOf es b ≤ℤ extreme greatestOf es b
+unfolding extreme Small
+extreme-order k [] b s = ≤ℤ-refl (pos 0)
+extreme-order k (a ∷ es) [] s = ≤ℤ-refl (pos 0)
+extreme-order k (a ∷ es) (x ∷ b) s =
+    omega (zarith, of-le (extreme-order k es b (s .1)), of-le (least-greatest a x (s .0 .order)), add (leastOf a x) (extreme leastOf es b), add (greatestOf a x) (extreme greatestOf es b))
+
+side-order : (k q : ℕ) (b : List Side) (r : Row) → Small k b → 1 ≤ q → (pos q -ℤ pos 1) ≤ℤ (r .high -ℤ r .low) → imageSide q b r .lo ≤ℤ imageSide q b r .hi
+side-order k q b r s h w =
+    let l = extreme leastOf (r .entries) b in
+    let g = extreme greatestOf (r .entries) b in
+    ceil-floor q h (l +ℤ r .offset +ℤ r .low) (g +ℤ r .offset +ℤ r .high)
+    (omega (
+      zarith,
+      of-le (extreme-order k (r .entries) b s),
+      of-le w,
+      sub (pos q) (pos 1),
+      sub (r .high) (r .low),
+      add l (r .offset),
+      add (l +ℤ r .offset) (r .low),
+      add (l +ℤ r .offset +ℤ r .low) (pos q),
+      add g (r .offset),
+      add (g +ℤ r .offset) (r .high),
+      add (g +ℤ r .offset +ℤ r .high) (pos 1),
+    ))
+
+inside-small : {k : ℕ} (a s : Side) → Bounded k s → covers s a ≡ true → a .lo ≤ℤ a .hi → Bounded k a
+inside-small a s b e o =
+    let t = orders (s .lo) (a .lo) (a .hi) (s .hi) e in
+    record {
+      low = between (s .lo) (s .hi) (a .lo) (b .low) (b .high) (t .0) (omega (zarith, t));
+      high = between (s .lo) (s .hi) (a .hi) (b .low) (b .high) (omega (zarith, t)) (t .1);
+      order = o;
+    }
+
+pub small-image : (p : Plant) → Sound p → (u : ℕ) (b : List Side) → Small edgeLimit b → within (image (stepOf p u) b) (safeOf p) ≡ true → Small edgeLimit (image (stepOf p u) b)
+small-image p g u b s e = rw (image-tab n q w cs u b) (small-tab f n 0 (λ j l h. at-side j (omega arith)))
+  where
+    n : ℕ
+    n = p .n
+
+    q : ℕ
+    q = p .q
+
+    w : Bx
+    w = record { lo = p .wlo; hi = p .whi }
+
+    cs : List ℤ
+    cs = p .coef
+
+    f : ℕ → Side
+    f = imageSideAt n q w cs u b
+
+    inside : all (tab (λ j. covers (sideAt (p .slo) (p .shi) j) (f j)) n 0) ≡ true
+    inside = sym (ap all (lies-tab f (sideAt (p .slo) (p .shi)) n 0)) ∙ (rw (image-tab n q w cs u b) at e)
+
+    at-side : (j : ℕ) → j < p .n → Bounded edgeLimit (f j)
+    at-side j h =
+        inside-small (f j) (sideAt (p .slo) (p .shi) j) (small-side (p .slo) (p .shi) n j (safe-small p g) h)
+        (rw zero-add at (all-tab (λ j. covers (sideAt (p .slo) (p .shi) j) (f j)) n 0 j h inside))
+        (side-order edgeLimit q b (rowFrom n w cs u j) s (divisor p g) (band-wide p g j h))

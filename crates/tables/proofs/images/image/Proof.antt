@@ -1,0 +1,141 @@
+-- `images::image`: the sides that are done are those of the image. Assumes nothing.
+use mathlib.Core.Path.{_≡_, refl, sym, _∙_}
+use Prim.Native.Nat.{ℕ, _≤_, _<_, _-_}
+use native.Mathlib.Omega.{arith}
+use denote.Ref.{now}
+use lib.ListN.{length, length-set}
+use mir.Facts.{toZ-ofZ}
+use Rattle.laws.specs.Integers.{ok64}
+use Rattle.laws.specs.Lists.{at, tab}
+use Rattle.laws.specs.Expressions.{Ex, var, exact, under}
+use Rattle.meaning.specs.Boxes.{Side, sideAt}
+use Rattle.meaning.specs.Plants.{bandLimit, rowStart}
+use Rattle.tables.specs.Boxes.{Bounded, boxOf}
+use Rattle.tables.specs.Images.{RowSound}
+use Rattle.tables.proofs.boxes.Laws.{small-side}
+use Rattle.tables.proofs.images.Laws.{imageSideAt, image-tab, image-more, image-done}
+use Rattle.tables.proofs.images.image.Statement.{statement}
+use Rattle.tables.proofs.images.image.Tie as tie
+
+abbrev Inv-loop : tie.InvT-loop
+Inv-loop n q coef u b w lo₀ hi₀ i₀ lo hi i =
+    (i ≤ n) × (length lo ≡ 4) × (length hi ≡ 4) × (tab (sideAt lo hi) i 0 ≡ tab (imageSideAt n q w coef u (boxOf n b)) i 0)
+
+abbrev μ-loop : tie.MeasureT-loop
+μ-loop n q coef u b w lo₀ hi₀ i₀ lo hi i = n - i
+
+-- side i of the image, its row and its band
+abbrev sides : tie.Start Inv-loop μ-loop → ℕ → Side
+sides s = let a = s .args in imageSideAt (a .n) (a .q) (a .t3) (now (a .coef)) (a .u) (boxOf (a .n) (a .b))
+
+module _ (s : tie.Start Inv-loop μ-loop) (i : ℕ) (h : i < s .args .n) where
+  row : RowSound (s .args .n) (now (s .args .coef)) (rowStart (s .args .n) (s .args .u) i)
+  row = s .pre .0 .rows i h
+
+  band : Bounded bandLimit (sideAt (s .args .t3 .lo) (s .args .t3 .hi) i)
+  band = small-side (s .args .t3 .lo) (s .args .t3 .hi) (s .args .n) i (s .pre .0 .bands) h
+
+  abbrev low : Ex
+  low = var (at (s .args .t3 .lo) i) bandLimit (band .low)
+
+  abbrev high : Ex
+  high = var (at (s .args .t3 .hi) i) bandLimit (band .high)
+
+loop-holds : tie.Need-loop-holds Inv-loop μ-loop
+unfolding tab
+loop-holds c = (omega arith, refl, refl, refl)
+
+mul-start : tie.Need-mul-start Inv-loop μ-loop
+mul-start c = omega (arith, row (c .before .before) (c .before .loop .i) (c .loop-test .taken) .inside)
+
+add-start : tie.Need-add-start Inv-loop μ-loop
+add-start c = omega (arith, row (c .before .before) (c .before .loop .i) (c .loop-test .taken) .inside)
+
+add-start-2 : tie.Need-add-start-2 Inv-loop μ-loop
+add-start-2 c = omega (arith, c .before .before .pre .0 .rooms)
+
+mul-start-2 : tie.Need-mul-start-2 Inv-loop μ-loop
+mul-start-2 c = omega (arith, row (c .before .before) (c .before .loop .i) (c .loop-test .taken) .inside)
+
+mul-wl : tie.Need-mul-wl Inv-loop μ-loop
+mul-wl c = omega arith
+
+element-copy-out-wl : tie.Need-element-copy-out-wl Inv-loop μ-loop
+element-copy-out-wl c = omega arith
+
+mul-wh : tie.Need-mul-wh Inv-loop μ-loop
+mul-wh c = omega arith
+
+element-copy-out-wh : tie.Need-element-copy-out-wh Inv-loop μ-loop
+element-copy-out-wh c = omega arith
+
+image-side-requires : tie.Need-image-side-requires Inv-loop μ-loop
+image-side-requires c κs =
+    let s = c .before .before .before .before in
+    let i = c .before .before .before .loop .i in
+    let h = c .before .before .loop-test .taken in
+    ((s .pre .0 .least, s .pre .0 .most, under (low s i h) bandLimit tt, under (high s i h) bandLimit tt), (row s i h, s .pre .1))
+
+mul-lo : tie.Need-mul-lo Inv-loop μ-loop
+mul-lo c = omega arith
+
+array-set-from-lo : tie.Need-array-set-from-lo Inv-loop μ-loop
+array-set-from-lo c = omega arith
+
+mul-hi : tie.Need-mul-hi Inv-loop μ-loop
+mul-hi c = omega arith
+
+array-set-from-hi : tie.Need-array-set-from-hi Inv-loop μ-loop
+array-set-from-hi c = omega arith
+
+add-i : tie.Need-add-i Inv-loop μ-loop
+add-i c = omega arith
+
+loop-less : tie.Need-loop-less Inv-loop μ-loop
+loop-less c = omega arith
+
+loop-again : tie.Need-loop-again Inv-loop μ-loop
+loop-again c =
+    let e = c .before .before .image-side in
+    let l = c .before .before .before .before .before .before .loop in
+    let s = c .before .before .before .before .before .before .before in
+    let h : l .i < s .args .n = omega arith in
+    let g = rw (exact (low s (l .i) h) tt, exact (high s (l .i) h) tt) at (e .ensures) in (
+      omega arith,
+      simp length-set (l .inv .1),
+      simp length-set (l .inv .2),
+      image-more (sides s) (l .lo) (l .hi) (l .i) _ _ (omega (arith, s .pre .0 .rooms)) (omega (arith, s .pre .0 .rooms))
+          (rw (toZ-ofZ (ok64 (e .result .lo) (omega arith)), toZ-ofZ (ok64 (e .result .hi) (omega arith))) g) (l .inv .3),
+    )
+
+returns : tie.Need-returns Inv-loop μ-loop
+returns c =
+    let l = c .before .loop in
+    let s = c .before .before in
+    let a = s .args in
+    image-done (sides s) (l .lo) (l .hi) (a .n) (l .i) (omega arith) (l .inv .3) ∙ sym (image-tab (a .n) (a .q) (a .t3) (now (a .coef)) (a .u) (boxOf (a .n) (a .b)))
+
+pub image-spec : {M : Type 1} → statement M
+image-spec =
+    tie.close
+    (tie.spec
+    Inv-loop
+    μ-loop
+    loop-holds
+    mul-start
+    add-start
+    add-start-2
+    mul-start-2
+    mul-wl
+    element-copy-out-wl
+    mul-wh
+    element-copy-out-wh
+    image-side-requires
+    mul-lo
+    array-set-from-lo
+    mul-hi
+    array-set-from-hi
+    add-i
+    loop-less
+    loop-again
+    returns)

@@ -1,0 +1,130 @@
+-- `tiles::tile_rule`: the rule from the present box on, over the modes that are left, is the whole. Assumes nothing.
+use mathlib.Core.Path.{_≡_, refl, sym, ap, _∙_}
+use mathlib.Core.List.{List}
+use Prim.Native.Nat.{ℕ, _≤_, _<_, _-_}
+use native.Mathlib.Omega.{arith}
+use denote.Ref.{now}
+use Rattle.laws.specs.Lists.{tab}
+use Rattle.laws.specs.Tabs.{tab-all}
+use Rattle.meaning.specs.declared.Plant.{Plant}
+use Rattle.meaning.specs.declared.Rule.the-variants.{Misses}
+use Rattle.meaning.specs.Boxes.{Side}
+use Rattle.meaning.specs.Plants.{edgeLimit}
+use Rattle.meaning.specs.Rules.{rule, ruleFrom}
+use Rattle.meaning.specs.Tables.{rulesOf}
+use Rattle.tables.specs.declared.boxes.Bx.{Bx}
+use Rattle.tables.specs.Boxes.{boxOf, Small}
+use Rattle.tables.specs.Images.{StepSound}
+use Rattle.tables.specs.Frames.{plantFrom}
+use Rattle.tables.specs.Tiles.{modeAt, patternOf}
+use Rattle.tables.proofs.frames.Laws.{rooms, step-sound}
+use Rattle.tables.proofs.tiles.Laws.{rule-works, rule-misses, tile-leaves, tile-more, tile-small}
+use Rattle.tables.proofs.tiles.tile_rule.Statement.{statement}
+use Rattle.tables.proofs.tiles.tile_rule.Tie as tie
+
+abbrev Inv-loop : tie.InvT-loop
+Inv-loop f coef k us n q band safe c₀ i₀ c i =
+    (i ≤ k) × Small edgeLimit (boxOf (f .n) c)
+    × (ruleFrom (rulesOf (plantFrom f coef)) i (boxOf (f .n) c) (tab (modeAt us) (k - i) i) ≡ rule (rulesOf (plantFrom f coef)) (boxOf (f .n) c₀) (patternOf k us))
+
+abbrev μ-loop : tie.MeasureT-loop
+μ-loop f coef k us n q band safe c₀ i₀ c i = k - i
+
+-- the plant, the pattern, a box, and the step of mode i
+module _ (s : tie.Start Inv-loop μ-loop) where
+  abbrev plant : Plant
+  plant = plantFrom (s .args .f) (now (s .args .coef))
+
+  abbrev modes : ℕ → ℕ
+  modes = modeAt (s .args .t4)
+
+  abbrev box : Bx → List Side
+  box b = boxOf (s .args .f .n) b
+
+  sound : (i : ℕ) → i < s .args .k → StepSound (s .args .f .n) (s .args .f .q) (s .args .f .band) (now (s .args .coef)) (modes i)
+  sound i h = step-sound plant (s .pre .0 .0) (modes i) (s .pre .1 .each i h)
+
+loop-holds : tie.Need-loop-holds Inv-loop μ-loop
+loop-holds c =
+    let s = c .before .before in
+    (omega arith, s .pre .0 .1, rw (tab-all (modeAt (s .args .t4)) (s .args .k)) refl)
+
+mul-u : tie.Need-mul-u Inv-loop μ-loop
+mul-u c = omega (arith, c .before .before .before .before .pre .1 .longest)
+
+array-read-u : tie.Need-array-read-u Inv-loop μ-loop
+array-read-u c = omega (arith, c .before .before .before .before .pre .1 .longest)
+
+image-requires : tie.Need-image-requires Inv-loop μ-loop
+image-requires c κs =
+    let s = c .before .before .before .before in
+    let l = c .before .loop in
+    (sound s (l .i) (c .loop-test .taken), l .inv .1)
+
+within-requires : tie.Need-within-requires Inv-loop μ-loop
+within-requires c κs = let s = c .before .before .before .before .before in rooms (plant s) (s .pre .0 .0)
+
+add-i : tie.Need-add-i Inv-loop μ-loop
+add-i c = omega arith
+
+loop-less : tie.Need-loop-less Inv-loop μ-loop
+loop-less c = omega arith
+
+loop-again : tie.Need-loop-again Inv-loop μ-loop
+loop-again c =
+    let l = c .before .before .before .before .loop in
+    let s = c .before .before .before .before .before .before .before in
+    let g = c .before .before .image in
+    let h = c .before .before .before .loop-test .taken in
+    let e = sym (c .before .within .ensures) ∙ c .if1 .taken in (
+      omega arith,
+      tile-small (plant s) (modes s) (s .args .k) (l .i) (box s (l .c)) (box s (g .result)) h (g .ensures) (s .pre .0 .0) (l .inv .1) e,
+      sym (tile-more (plant s) (modes s) (s .args .k) (l .i) (box s (l .c)) (box s (g .result)) h (g .ensures) e) ∙ l .inv .2,
+    )
+
+add-t21 : tie.Need-add-t21 Inv-loop μ-loop
+add-t21 c = omega arith
+
+returns : tie.Need-returns Inv-loop μ-loop
+returns c =
+    let l = c .before .before .before .before .loop in
+    let s = c .before .before .before .before .before .before .before in
+    let g = c .before .before .image in
+    let e = sym (c .before .within .ensures) ∙ c .if1 .left in
+    sym (tile-leaves (plant s) (modes s) (s .args .k) (l .i) (box s (l .c)) (box s (g .result)) (c .before .before .before .loop-test .taken) (g .ensures) e) ∙ l .inv .2
+
+within-requires-2 : tie.Need-within-requires-2 Inv-loop μ-loop
+within-requires-2 c κs = let s = c .before .before .before .before .before in rooms (plant s) (s .pre .0 .0)
+
+returns-2 : tie.Need-returns-2 Inv-loop μ-loop
+returns-2 c =
+    let l = c .before .before .before .before .loop in
+    let s = c .before .before .before .before .before .before .before in
+    sym (rule-works (rulesOf (plant s)) (modes s) (s .args .k) (l .i) (box s (l .c)) (c .before .before .before .loop-test .left) (sym (c .before .within2 .ensures) ∙ c .if2 .taken)) ∙ l .inv .2
+
+returns-3 : tie.Need-returns-3 Inv-loop μ-loop
+returns-3 c =
+    let l = c .before .before .before .before .loop in
+    let s = c .before .before .before .before .before .before .before in
+    let q : s .args .k ≡ l .i = omega arith in
+    ap Misses q ∙ sym (rule-misses (rulesOf (plant s)) (modes s) (s .args .k) (l .i) (box s (l .c)) (c .before .before .before .loop-test .left) (sym (c .before .within2 .ensures) ∙ c .if2 .left)) ∙ l .inv .2
+
+pub tile-rule-spec : {M : Type 1} → statement M
+tile-rule-spec =
+    tie.close
+    (tie.spec
+    Inv-loop
+    μ-loop
+    loop-holds
+    mul-u
+    array-read-u
+    image-requires
+    within-requires
+    add-i
+    loop-less
+    loop-again
+    add-t21
+    returns
+    within-requires-2
+    returns-2
+    returns-3)

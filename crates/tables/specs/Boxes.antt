@@ -1,0 +1,37 @@
+-- Boxes as the code holds them, what it asks of their edges, and one side of a child by the child's number. Definitions alone.
+use Prim.Native.Nat.{ℕ, _/_, _%_, _≤_}
+use mathlib.Core.Bool.{cond}
+use mathlib.Core.List.{List, [], _∷_}
+use lib.Dec.{eqb}
+use lib.IntN.{pos, natAbs, _+ℤ_}
+use lib.Signed.{_≤ℤ_}
+use Rattle.meaning.specs.Boxes.{Side, side, sidesOf, long, middle}
+use Rattle.tables.specs.declared.boxes.Bx.{Bx}
+
+-- the first n sides
+abbrev pub boxOf : ℕ → Bx → List Side
+boxOf n b = sidesOf n (b .lo) (b .hi)
+
+-- edges within ±k, and a side that is not empty
+pub record Bounded (k : ℕ) (s : Side) : Type 0 where
+  pub low : natAbs (s .lo) ≤ k
+  pub high : natAbs (s .hi) ≤ k
+  pub order : s .lo ≤ℤ s .hi
+
+unfoldable pub Small : ℕ → List Side → Type 0
+Small k [] = Unit {0}
+Small k (s ∷ ss) = Bounded k s × Small k ss
+
+-- the two halves of a long side
+abbrev pub lower : Side → Side
+lower s = side (s .lo) (middle s)
+
+abbrev pub upper : Side → Side
+upper s = side (middle s +ℤ pos 1) (s .hi)
+
+-- the half of a side that the lowest bit of x names, and the bits that are left for the other sides; a one-count side takes no bit
+abbrev pub pieceOf : Side → ℕ → Side
+pieceOf s x = cond (long s) (cond (eqb (x % 2) 0) (lower s) (upper s)) s
+
+abbrev pub restOf : Side → ℕ → ℕ
+restOf s x = cond (long s) (x / 2) x

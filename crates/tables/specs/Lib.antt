@@ -1,0 +1,4 @@
+pub mod Boxes
+pub mod Images
+pub mod Frames
+pub mod Tiles

@@ -1,0 +1,150 @@
+// Boxes (document 01, "Split"): the split of a side, the children of a box, a reading in a box, a box in a box.
+// Relies on crates/meaning for what they are. Leaves out who splits which box, and to what depth.
+// Each loop goes through the first n sides; what an array holds behind them is never read.
+ghost use mathlib.Core.Path.{_≡_};
+ghost use mathlib.Core.Bool.{_&&_};
+ghost use mathlib.Core.List.{[]};
+ghost use Prim.Native.Nat.{_≤_, _<_};
+ghost use lib.ListN.{length, getD};
+ghost use lib.IntN.{natAbs};
+ghost use lib.Signed.{leZ};
+ghost use Rattle.laws.specs.Lists.{firstFalse};
+ghost use Rattle.meaning.specs.Boxes.{side, middle, fits, within, children};
+ghost use Rattle.meaning.specs.Plants.{edgeLimit};
+ghost use Rattle.meaning.specs.Tables.{readingOf};
+ghost use Rattle.tables.specs.Boxes.{boxOf, Small, pieceOf, restOf};
+
+pub struct Bx {
+    pub lo: [i64; 4],
+    pub hi: [i64; 4],
+}
+
+// One side of a child, and the bits of the child's number that are left for the other sides.
+struct Piece {
+    lo: i64,
+    hi: i64,
+    bits: usize,
+}
+
+// The floor of (l + h) / 2: a shift copies the sign and so rounds down, below zero too.
+fn middle(l: i64, h: i64) -> i64
+    requires { ⌜ (natAbs l ≤ edgeLimit) × (natAbs h ≤ edgeLimit) ⌝ }
+    ensures { λ r. ⌜ r ≡ middle (side l h) ⌝ }
+{
+    (l + h) >> 1
+}
+
+// The half of the side l..h that the lowest bit of x names; a one-count side stays, and takes no bit.
+fn half(l: i64, h: i64, x: usize) -> Piece
+    requires { ⌜ (natAbs l ≤ edgeLimit) × (natAbs h ≤ edgeLimit) ⌝ }
+    ensures { λ r. ⌜ (side (r .lo) (r .hi) ≡ pieceOf (side l h) x) × (r .bits ≡ restOf (side l h) x) ⌝ }
+{
+    if l < h {
+        let m = middle(l, h);
+        let up = m + 1;
+        let bits = x / 2;
+        if x % 2 == 0 {
+            Piece { lo: l, hi: m, bits }
+        } else {
+            Piece {
+                lo: up,
+                hi: h,
+                bits,
+            }
+        }
+    } else {
+        Piece {
+            lo: l,
+            hi: h,
+            bits: x,
+        }
+    }
+}
+
+// Child x of a box that has more than x children: dimension 1 takes the lowest bit of x.
+pub fn child(n: usize, b: Bx, x: usize) -> Bx
+    requires { ⌜ (n ≤ 4) × Small edgeLimit (boxOf n b) × (x < length (children (boxOf n b))) ⌝ }
+    ensures { λ r. ⌜ boxOf n r ≡ getD (children (boxOf n b)) x [] ⌝ }
+{
+    let mut lo = b.lo;
+    let mut hi = b.hi;
+    let mut bits = x;
+    let mut left = n;
+    while 0 < left {
+        let j = n - left;
+        let l = b.lo[j];
+        let h = b.hi[j];
+        let e = half(l, h, bits);
+        let el = e.lo;
+        let eh = e.hi;
+        lo[j] = el;
+        hi[j] = eh;
+        bits = e.bits;
+        left -= 1;
+    }
+    Bx { lo, hi }
+}
+
+// How many children a box has: 2 to the number of its long sides, and none where there is no long side.
+pub fn count(n: usize, b: Bx) -> usize
+    requires { ⌜ n ≤ 4 ⌝ }
+    ensures { λ r. ⌜ r ≡ length (children (boxOf n b)) ⌝ }
+{
+    let mut k: usize = 1;
+    let mut j: usize = 0;
+    while j < n {
+        let l = b.lo[j];
+        let h = b.hi[j];
+        if l < h {
+            k *= 2;
+        }
+        j += 1;
+    }
+    if k == 1 { 0 } else { k }
+}
+
+// Both orders at once: what a reading in a side and a side in a side ask.
+fn ordered(a: i64, b: i64, c: i64, d: i64) -> bool
+    ensures { λ r. ⌜ r ≡ (leZ a b && leZ c d) ⌝ }
+{
+    if a <= b { c <= d } else { false }
+}
+
+// The first dimension, from 0, in which a reading is outside a box; n where it is inside.
+pub fn missed(n: usize, b: Bx, x: [i64; 4]) -> usize
+    requires { ⌜ n ≤ 4 ⌝ }
+    ensures { λ r. ⌜ r ≡ firstFalse (fits (boxOf n b) (readingOf n x)) ⌝ }
+{
+    let mut j: usize = 0;
+    while j < n {
+        let v = x[j];
+        let l = b.lo[j];
+        let h = b.hi[j];
+        if ordered(l, v, v, h) {
+            j += 1;
+        } else {
+            return j;
+        }
+    }
+    j
+}
+
+// Whether a lies in b.
+pub fn within(n: usize, a: Bx, b: Bx) -> bool
+    requires { ⌜ n ≤ 4 ⌝ }
+    ensures { λ r. ⌜ r ≡ within (boxOf n a) (boxOf n b) ⌝ }
+{
+    let mut j: usize = 0;
+    while j < n {
+        let al = a.lo[j];
+        let ah = a.hi[j];
+        let bl = b.lo[j];
+        let bh = b.hi[j];
+        if ordered(bl, al, ah, bh) {
+            j += 1;
+        } else {
+            return false;
+        }
+    }
+    true
+}

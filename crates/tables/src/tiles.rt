@@ -1,0 +1,45 @@
+// The tile rule (document 01, "Tile rule"): a pattern works for a box when each successive image lies in S and the last lies in R.
+// Relies on images, and on boxes for what lies in what. Leaves out where the pattern comes from.
+// An image that lies in S is a box of small edges again, so the next one is in range.
+use crate::boxes;
+use crate::boxes::Bx;
+use crate::frames::Frame;
+use crate::images;
+use meaning::Rule;
+ghost use mathlib.Core.Path.{_≡_};
+ghost use Rattle.meaning.specs.Plants.{edgeLimit};
+ghost use Rattle.meaning.specs.Rules.{rule};
+ghost use Rattle.meaning.specs.Tables.{rulesOf};
+ghost use Rattle.promises.specs.Sound.{Sound};
+ghost use Rattle.tables.specs.Boxes.{boxOf, Small};
+ghost use Rattle.tables.specs.Frames.{plantFrom};
+ghost use Rattle.tables.specs.Tiles.{patternOf, Pattern};
+
+// The first k modes of us, tried on box b. Leaving S is told before missing R.
+pub fn tile_rule(f: Frame, coef: &[i64], k: usize, us: [usize; 6], b: Bx) -> Rule
+    requires plant { ⌜ Sound (plantFrom f (now coef)) × Small edgeLimit (boxOf (f .n) b) ⌝ }
+    requires pattern { ⌜ Pattern (f .modes) k us ⌝ }
+    ensures { λ r. ⌜ r ≡ rule (rulesOf (plantFrom f (now (coef .entry)))) (boxOf (f .n) b) (patternOf k us) ⌝ }
+{
+    let n = f.n;
+    let q = f.q;
+    let band = f.band;
+    let safe = f.safe;
+    let mut c = b;
+    let mut i: usize = 0;
+    while i < k {
+        let u = us[i];
+        c = images::image(n, q, band, coef, u, c);
+        if boxes::within(n, c, safe) {
+            i += 1;
+        } else {
+            return Rule::Leaves(i + 1);
+        }
+    }
+    let root = f.root;
+    if boxes::within(n, c, root) {
+        Rule::Works
+    } else {
+        Rule::Misses(k)
+    }
+}
