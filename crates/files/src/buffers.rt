@@ -1,4 +1,4 @@
-// Lent buffers.
+// Lent buffers. Relies on nothing. Leaves out what is written into them.
 ghost use mathlib.Core.Path.{_≡_};
 ghost use lib.ListN.{length, replicate};
 

@@ -1,4 +1,4 @@
-// One number of a file, judged: what the fields of a form ask of it.
+// One number of a file, judged: what the fields of a form ask of it. Relies on numbers. Leaves out which field comes next.
 use crate::numbers;
 use crate::refusals;
 use meaning::Number;

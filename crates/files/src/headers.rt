@@ -1,4 +1,4 @@
-// The header that plants and sheets begin with: form 1, n, a number in 1..most, q, K, D.
+// The header that plants and sheets begin with: form 1, n, a number in 1..most, q, K, D. Relies on fields. Leaves out what stands behind it.
 use crate::fields;
 use crate::numbers;
 use crate::refusals;

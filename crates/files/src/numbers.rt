@@ -1,4 +1,4 @@
-// Seven-bit numbers at any position of any slice, read and written.
+// Seven-bit numbers at any position of any slice, read and written. Relies on nothing. Leaves out what a number is for: that is its field's (fields).
 use meaning::Number;
 use meaning::Signed;
 ghost use mathlib.Core.Path.{_≡_};
@@ -20,13 +20,15 @@ pub fn number(s: &[u8], at: usize) -> Number
         }
         let c = s[i] as usize;
         if c < 128 {
+            let next = i + 1;
             if c == 0 {
                 if w == 1 {
-                    return Number::Value(0, i + 1);
+                    return Number::Value(0, next);
                 }
                 return Number::Broken;
             }
-            return Number::Value(v + c * w, i + 1);
+            let value = v + c * w;
+            return Number::Value(value, next);
         }
         v += (c - 128) * w;
         w *= 128;

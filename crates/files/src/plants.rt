@@ -1,4 +1,4 @@
-// Plant files, read and written.
+// Plant files, read and written. Relies on headers, bounds and rows for the parts. Leaves out what a plant does: that is crates/tables.
 use crate::bounds;
 use crate::buffers;
 use crate::headers;

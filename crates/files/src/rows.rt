@@ -1,4 +1,5 @@
-// The rows of a plant's modes: one flat array filled with zeros, then with the rows, number by number in file order.
+// The rows of a plant's modes: one flat array filled with zeros, then with the rows, number by number in file order. Relies on fields.
+// Leaves out which entry means what: row and column are told by the place alone.
 use crate::fields;
 use crate::numbers;
 use meaning::Signed;

@@ -1,3 +1,4 @@
+pub mod Columns
 pub mod Counting
 pub mod Division
 pub mod DivisionLaws

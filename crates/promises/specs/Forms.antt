@@ -1,20 +1,17 @@
 -- What the values of a file satisfy: every value that was read passed its field's test; and what that comes to for a part of a form that is
--- repeated. Relies on meaning's page Files, and on `times` of its page Plants. Any form; how the values stand in the bytes is left out.
+-- repeated. Relies on page Files, and on `times` of meaning's page Plants. Any form; how the values stand in the bytes is left out.
 use Prim.Native.Nat.{ℕ, zero, suc, _+_, _*_, _<_}
 use mathlib.Core.Path.{_≡_, refl}
-use mathlib.Core.Bool.{Bool, true, false}
+use mathlib.Core.Bool.{true}
 use mathlib.Core.List.{List, _∷_}
 use native.Mathlib.Omega.{arith}
 use native.Mathlib.Numerals.{add-one}
 use lib.IntN.{ℤ}
-use Rattle.laws.specs.Guards.{guard}
 use Rattle.laws.specs.Lists.{at}
-use Rattle.laws.specs.Tests.{never}
-use Rattle.meaning.specs.declared.Refusal.{Refusal}
-use Rattle.meaning.specs.Files as F
-use Rattle.meaning.specs.Files.{Form, end, field, Field, Taken, taken, none, takenAs, Read, read, refused, before, onTaken, valuesAt}
+use Rattle.meaning.specs.Files.{Form, end, field, read, valuesAt}
 use Rattle.meaning.specs.Plants as P
 use Rattle.meaning.specs.Plants.{times}
+use Rattle.promises.specs.Files.{field-read}
 
 -- the values from i on are right for a form
 unfoldable pub Right : Form → List ℤ → ℕ → Type 0
@@ -30,28 +27,13 @@ later (field f rest) v vs i h =
 
 -- ---- read values are right
 
-before-right : (f : Field) (rest : ℤ → Form) (v : ℤ) (t : Read (List ℤ)) (vs : List ℤ) (next : ℕ) → f .right v ≡ true
-    → ((more : List ℤ) (m : ℕ) → t ≡ read more m → Right (rest v) more 0) → before v t ≡ read vs next → Right (field f rest) vs 0
-unfolding Right
-before-right f rest v (refused r) vs next ok more e = never (cc)
-before-right f rest v (read more m) vs next ok h e =
-    let q : v ∷ more ≡ vs = cc in
-    rw (← q) (ok, later (rest v) v more 0 (h more m refl))
-
-guard-right : (f : Field) (rest : ℤ → Form) (v : ℤ) (t : Read (List ℤ)) (vs : List ℤ) (next : ℕ) (r : Refusal) (c : Bool) → f .right v ≡ c
-    → ((more : List ℤ) (m : ℕ) → t ≡ read more m → Right (rest v) more 0) → guard c (refused r) (λ _. before v t) ≡ read vs next → Right (field f rest) vs 0
-guard-right f rest v t vs next r true ok h e = before-right f rest v t vs next ok h e
-guard-right f rest v t vs next r false ok h e = never (cc)
-
 pub values-right : (form : Form) (s : List ℕ) (i : ℕ) (vs : List ℤ) (next : ℕ) → valuesAt form s i ≡ read vs next → Right form vs 0
-unfolding F.valuesAt Right
+unfolding Right
 values-right end s i vs next e = tt
-values-right (field f rest) s i vs next e = go (takenAs (f .kind) s i) (λ v m more n. values-right (rest v) s m more n) e
-  where
-    go : (t : Taken) → ((v : ℤ) (m : ℕ) (more : List ℤ) (n : ℕ) → valuesAt (rest v) s m ≡ read more n → Right (rest v) more 0)
-        → onTaken t i (λ v m. guard (f .right v) (refused (f .wrong i)) λ _. before v (valuesAt (rest v) s m)) ≡ read vs next → Right (field f rest) vs 0
-    go none h e = never (cc)
-    go (taken v m) h e = guard-right f rest v (valuesAt (rest v) s m) vs next (f .wrong i) (f .right v) refl (h v m) e
+values-right (field f rest) s i vs next e =
+    let w = field-read f rest s i e in
+    let v = w .value in
+    rw (w .values) (w .right, later (rest v) v (w .others) 0 (values-right (rest v) s (w .mid) (w .others) next (w .behind)))
 
 -- ---- a part that is repeated, of c values that are as Q says: m of them, and what comes behind them
 

@@ -1,30 +1,31 @@
 -- A plant whose file was judged good is sound (page Sound): what document 01 says of a plant's numbers, from the form that its file was
--- read by (page Forms) and the two tests behind it. That its arrays are 0 beyond n is left out.
+-- read by (page Forms) and the two tests behind it (page Related). That its arrays are 0 beyond n is left out.
 use Prim.Native.Nat.{ℕ, _+_, _*_, _≤_, _<_}
 use mathlib.Core.Path.{_≡_, refl, _∙_, subst}
-use mathlib.Core.Bool.{Bool, true, false, _&&_}
+use mathlib.Core.Bool.{true, _&&_}
 use mathlib.Core.List.{List, map}
 use native.Mathlib.Omega.{arith}
 use native.Mathlib.Nat.{mul-le-mul, le-refl, zero-add}
-use lib.Dec.{leb, eqb}
+use lib.Dec.{leb}
 use borrow.Author.Tests.{leb-true}
 use lib.ListN.{length}
 use lib.IntN.{ℤ, pos, natAbs, negℤ, _-ℤ_}
 use lib.Signed.{_≤ℤ_}
-use Rattle.laws.specs.Guards.{guard}
 use Rattle.laws.specs.Integers.{zarith, leZ-true}
 use Rattle.laws.specs.Integers as Z
-use Rattle.laws.specs.Lists.{at, tab, padded, all, firstFalse}
+use Rattle.laws.specs.Lists.{at, tab, padded, all}
 use Rattle.laws.specs.Tabs.{padded-size, padded-at, map-tab}
-use Rattle.laws.specs.Tests.{never, first, second, orders, all-tab}
+use Rattle.laws.specs.Tests.{first, second, orders, all-tab}
 use Rattle.meaning.specs.declared.Plant.{Plant}
-use Rattle.meaning.specs.Refusals.{unfit, notInSafe, narrow}
-use Rattle.meaning.specs.Boxes.{Side, sideAt, sidesOf, lies, within}
-use Rattle.meaning.specs.Files.{Form, end, Read, read, refused, valuesAt, ended, good, bad}
+use Rattle.meaning.specs.Boxes.{sideAt, sidesOf, within}
+use Rattle.meaning.specs.Files.{Form, end, valuesOf, good}
 use Rattle.meaning.specs.Plants as P
-use Rattle.meaning.specs.Plants.{edgeLimit, bandLimit, entryLimit, offsetLimit, limited, span, edgesAndBands, row, times, plantForm, column, coefCount, plantOf, rootOf, safeOf, bandsOf, wide, related, plantRelated, plantJudged, rowStart}
+use Rattle.meaning.specs.Plants.{edgeLimit, bandLimit, entryLimit, offsetLimit, limited, span, edgesAndBands, row, times, plantForm, column, coefCount, plantOf, rootOf, safeOf, bandsOf, wide, plantJudged, rowStart}
+use Rattle.promises.specs.Files.{file-writes}
 use Rattle.promises.specs.Forms as F
 use Rattle.promises.specs.Forms.{Right, values-right, times-right}
+use Rattle.promises.specs.Headers.{most-of}
+use Rattle.promises.specs.Related.{good-was}
 use Rattle.promises.specs.Sound.{Edges, Sound}
 
 -- ---- the parts of the form, as facts
@@ -127,12 +128,8 @@ wide-bands q n lo hi e i h =
 
 -- ---- the whole form
 
-module _ (least most v : ℕ) (e : (leb least v && leb v most) ≡ true) where
-  at-least : least ≤ v
-  at-least = leb-true least v (first (leb least v) (leb v most) e)
-
-  at-most : v ≤ most
-  at-most = leb-true v most (second (leb least v) (leb v most) e)
+at-least : (least most v : ℕ) → (leb least v && leb v most) ≡ true → least ≤ v
+at-least least most v e = leb-true least v (first (leb least v) (leb v most) e)
 
 right-sound : (vs : List ℤ) → Right plantForm vs 0 → within (rootOf (plantOf vs)) (safeOf (plantOf vs)) ≡ true → all (map (wide (plantOf vs .q)) (bandsOf (plantOf vs))) ≡ true → Sound (plantOf vs)
 unfolding F.Right P.plantForm P.headed P.edgesAndBands P.plantOf coefs
@@ -142,8 +139,8 @@ right-sound vs h inSafe allWide =
     let q = natAbs (at vs 3) in
     let k = natAbs (at vs 4) in
     let d = natAbs (at vs 5) in
-    let few = at-most 1 4 n (h .1 .0) in
-    let many = at-most 1 16 modes (h .1 .1 .0) in
+    let few = most-of 1 4 n (h .1 .0) in
+    let many = most-of 1 16 modes (h .1 .1 .0) in
     let edges = times-right vs (λ more. span edgeLimit (span edgeLimit more)) 4 (EdgesAt vs) (edges-right vs) n (times n (span bandLimit) (times (modes * n) (row n) end)) 6 (h .1 .1 .1 .1 .1 .1) in
     let bands = times-right vs (span bandLimit) 2 (λ i. Spans bandLimit (at vs i) (at vs (i + 1))) (span-right vs bandLimit) n (times (modes * n) (row n) end) (6 + 4 * n) (edges .1) in
     let rows = times-right vs (row n) (n + 1) (RowAt vs n) (row-right vs n) (modes * n) end (6 + 4 * n + 2 * n) (bands .1) in
@@ -154,9 +151,9 @@ right-sound vs h inSafe allWide =
       modes-low = at-least 1 16 modes (h .1 .1 .0);
       modes-high = many;
       q-low = at-least 1 10_000 q (h .1 .1 .1 .0);
-      q-high = at-most 1 10_000 q (h .1 .1 .1 .0);
+      q-high = most-of 1 10_000 q (h .1 .1 .1 .0);
       k-low = at-least 1 6 k (h .1 .1 .1 .1 .0);
-      k-high = at-most 1 6 k (h .1 .1 .1 .1 .0);
+      k-high = most-of 1 6 k (h .1 .1 .1 .1 .0);
       d-high = leb-true d 6 (first (leb d 6) (leb (n * d) 12) (h .1 .1 .1 .1 .1 .0));
       nd-high = leb-true (n * d) 12 (second (leb d 6) (leb (n * d) 12) (h .1 .1 .1 .1 .1 .0));
       root = column-edges vs n edgeLimit 6 7 4 few refl (λ i l. edges .0 i l .root);
@@ -169,28 +166,10 @@ right-sound vs h inSafe allWide =
       offsets = λ u i hu hi. rw (coefs-at vs n modes u i n hu hi (le-refl n)) (rows .0 (u * n + i) (nth u i hu hi) .offset);
     }
 
--- ---- what was judged good was read by the form and passed both tests
-
-related-good : (q : ℕ) (root safe bands : List Side) (p p′ : Plant) → related q root safe bands (λ _. good p) ≡ good p′
-    → (within root safe ≡ true) × (all (map (wide q) bands) ≡ true) × (p ≡ p′)
-related-good q root safe bands p p′ e = go (all (lies root safe)) (all (map (wide q) bands)) e
-  where
-    go : (a b : Bool) → guard a (bad (notInSafe (firstFalse (lies root safe)))) (λ _. guard b (bad (narrow (firstFalse (map (wide q) bands)))) (λ _. good p)) ≡ good p′ → (a ≡ true) × (b ≡ true) × (p ≡ p′)
-    go true true e = (refl, refl, cc)
-    go true false e = never (cc)
-    go false b e = never (cc)
-
-read-sound : (s : List ℕ) (t : Read (List ℤ)) → valuesAt plantForm s 0 ≡ t → (p : Plant) → plantRelated (ended s t) ≡ good p → Sound p
-read-sound s (refused r) e p g = never (cc)
-read-sound s (read vs next) e p g = go (eqb next (length s)) g
-  where
-    go : (c : Bool) → plantRelated (guard c (refused (unfit next)) (λ _. read vs next)) ≡ good p → Sound p
-    go true g =
-        let w = related-good (plantOf vs .q) (rootOf (plantOf vs)) (safeOf (plantOf vs)) (bandsOf (plantOf vs)) (plantOf vs) p g in
-        subst Sound (w .2) (right-sound vs (values-right plantForm s 0 vs next e) (w .0) (w .1))
-    go false g = never (cc)
-
--- a plant that was judged good is sound
+-- a plant that was judged good is sound: its numbers were read by the form, to the end of the file
 pub judged-sound : (s : List ℕ) (p : Plant) → plantJudged s ≡ good p → Sound p
 unfolding P.plantJudged
-judged-sound s p e = read-sound s (valuesAt plantForm s 0) refl p e
+judged-sound s p e =
+    let g = good-was (valuesOf plantForm s) p e in
+    let w = file-writes plantForm s (g .was) in
+    subst Sound (g .plant) (right-sound (g .values) (values-right plantForm s 0 (g .values) (g .next) (w .0)) (g .root-safe) (g .bands-wide))

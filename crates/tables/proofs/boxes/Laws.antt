@@ -20,6 +20,7 @@ use Rattle.laws.specs.DivisionLaws.{floor-low, floor-high}
 use Rattle.laws.specs.Lists.{at, tab}
 use Rattle.laws.specs.Tabs.{tab-step, tab-done, tab-snoc, tab-same, at-below, at-stored}
 use Rattle.meaning.specs.Boxes.{Side, side, sideAt, has, fits, covers, lies, long, middle, inFront, pieces, anyLong, children}
+use Rattle.promises.specs.Boxes.{middle-in}
 use Rattle.tables.specs.Boxes.{Bounded, Small, lower, upper, pieceOf, restOf}
 
 -- ---- boxes by their number
@@ -165,14 +166,6 @@ small-tab f (suc m) i h = (h i (omega arith) (omega arith), small-tab f m (i + 1
 pub small-side : {k : ℕ} (lo hi : List ℤ) (n j : ℕ) → Small k (tab (sideAt lo hi) n 0) → j < n → Bounded k (sideAt lo hi j)
 small-side lo hi n j s h = small-at (sideAt lo hi) n 0 j s (omega arith) (omega arith)
 
--- the middle lies in the side, below its high edge
-middle-in : (a b : ℤ) → a <ℤ b → (a ≤ℤ floorZ (a +ℤ b) 2) × (floorZ (a +ℤ b) 2 <ℤ b)
-middle-in a b h =
-    let f = floorZ (a +ℤ b) 2 in
-    let l = floor-low 2 (omega arith) (a +ℤ b) in
-    let u = floor-high 2 (omega arith) (a +ℤ b) in
-    (omega (zarith, l, u, add a b, mul (pos 2) f, add (pos 2 *ℤ f) (pos 2)), omega (zarith, l, u, add a b, mul (pos 2) f, add (pos 2 *ℤ f) (pos 2)))
-
 -- an edge between two others
 pub between : {k : ℕ} (a b z : ℤ) → natAbs a ≤ k → natAbs b ≤ k → a ≤ℤ z → z ≤ℤ b → natAbs z ≤ k
 between a b z g h l m = omega (zarith, abs a, abs b, abs z, apart z)
@@ -188,10 +181,10 @@ small-child k (a ∷ b) x s = (go (long a) refl (eqb (x % 2) 0), small-child k b
     go : (t : Bool) → long a ≡ t → (w : Bool) → Bounded k (cond t (cond w (lower a) (upper a)) a)
     go false e w = g
     go true e true =
-        let m = middle-in (a .lo) (a .hi) (ltZ-true (a .lo) (a .hi) e) in
+        let m = middle-in a e in
         record { low = g .low; high = between (a .lo) (a .hi) (middle a) (g .low) (g .high) (m .0) (omega (zarith, m)); order = m .0 }
     go true e false =
-        let m = middle-in (a .lo) (a .hi) (ltZ-true (a .lo) (a .hi) e) in
+        let m = middle-in a e in
         let o : (middle a +ℤ pos 1) ≤ℤ a .hi = omega (zarith, m, add (middle a) (pos 1)) in
         record { low = between (a .lo) (a .hi) (middle a +ℤ pos 1) (g .low) (g .high) (omega (zarith, m, add (middle a) (pos 1))) o; high = g .high; order = o }
 

@@ -31,8 +31,8 @@ shared-slice-read-c c = omega arith
 cast-c : tie.Need-cast-c Inv-loop μ-loop
 cast-c c = omega (arith, c .shared-slice-known .given (c .before .before .before .loop .i))
 
-add-t14 : tie.Need-add-t14 Inv-loop μ-loop
-add-t14 c = omega arith
+add-next : tie.Need-add-next Inv-loop μ-loop
+add-next c = omega arith
 
 returns-2 : tie.Need-returns-2 Inv-loop μ-loop
 returns-2 c =
@@ -46,20 +46,17 @@ returns-3 c =
     let l = a .loop in
     sym (zero-late (now (a .before .args .s)) (l .i) (l .v) (l .w) (l .k) (omega arith) (omega arith) (omega arith) (c .if4 .left)) ∙ l .inv .3
 
-mul-t15 : tie.Need-mul-t15 Inv-loop μ-loop
-mul-t15 c =
+mul-value : tie.Need-mul-value Inv-loop μ-loop
+mul-value c =
     let a = c .before .before .before .before .before in
     let l = a .loop in
     omega (arith, group-le (getD (now (a .before .args .s)) (l .i) 0) (l .w) (omega arith), weight-le (l .k) (l .w) (l .inv .1) (omega arith))
 
-add-t16 : tie.Need-add-t16 Inv-loop μ-loop
-add-t16 c =
+add-value : tie.Need-add-value Inv-loop μ-loop
+add-value c =
     let a = c .before .before .before .before .before in
     let l = a .loop in
     omega (arith, group-le (getD (now (a .before .args .s)) (l .i) 0) (l .w) (omega arith), weight-le (l .k) (l .w) (l .inv .1) (omega arith))
-
-add-t17 : tie.Need-add-t17 Inv-loop μ-loop
-add-t17 c = omega arith
 
 returns-4 : tie.Need-returns-4 Inv-loop μ-loop
 returns-4 c =
@@ -113,4 +110,4 @@ returns-5 c =
 pub number-spec : {M : Type 1} → statement M
 number-spec =
     tie.close
-    (tie.spec Inv-loop μ-loop loop-holds returns shared-slice-read-c cast-c add-t14 returns-2 returns-3 mul-t15 add-t16 add-t17 returns-4 mul-v add-v mul-w add-i add-k loop-less loop-again returns-5)
+    (tie.spec Inv-loop μ-loop loop-holds returns shared-slice-read-c cast-c add-next returns-2 returns-3 mul-value add-value returns-4 mul-v add-v mul-w add-i add-k loop-less loop-again returns-5)

@@ -1,0 +1,70 @@
+-- The shapes (page Files) that the parts of plant and sheet forms ask for: so many signed values, and then what comes behind. Assumes nothing.
+use Prim.Native.Nat.{ℕ, zero, suc, _+_, _*_, _≤_}
+use mathlib.Core.Path.{_≡_, ap}
+use mathlib.Core.List.{List, [], _∷_}
+use mathlib.Core.Logic.{_↔_}
+use native.Mathlib.Omega.{arith}
+use native.Mathlib.Nat.{le-of-eq}
+use lib.ListN.{length, drop, length-drop, drop-of-length-le}
+use lib.Seq.{drop-drop}
+use lib.IntN.{ℤ}
+use Rattle.meaning.specs.Files.{Form, end}
+use Rattle.meaning.specs.Plants.{edgeLimit, bandLimit, entryLimit, offsetLimit, limited, span, times, edgesAndBands, row}
+use Rattle.promises.specs.Files.{Shaped}
+
+-- a part that takes c signed values
+pub record Takes (part : Form → Form) (c : ℕ) : Type 0 where
+  pub shape : (rest : Form) (vs : List ℤ) → Shaped (part rest) vs ↔ ((c ≤ length vs) × Shaped rest (drop c vs))
+
+limited-takes : (limit : ℕ) → Takes (limited limit) 1
+unfolding Shaped
+limited-takes limit = record { shape = go }
+  where
+    go : (rest : Form) (vs : List ℤ) → Shaped (limited limit rest) vs ↔ ((1 ≤ length vs) × Shaped rest (drop 1 vs))
+    go rest [] = (λ h. absurd h, λ h. absurd (omega arith))
+    go rest (v ∷ vs) = (λ h. (omega arith, h .1), λ h. (tt, h .1))
+
+span-takes : (limit : ℕ) → Takes (span limit) 2
+unfolding Shaped
+span-takes limit = record { shape = go }
+  where
+    go : (rest : Form) (vs : List ℤ) → Shaped (span limit rest) vs ↔ ((2 ≤ length vs) × Shaped rest (drop 2 vs))
+    go rest [] = (λ h. absurd h, λ h. absurd (omega arith))
+    go rest (v ∷ []) = (λ h. absurd (h .1), λ h. absurd (omega arith))
+    go rest (v ∷ w ∷ vs) = (λ h. (omega arith, h .1 .1), λ h. (tt, (tt, h .1)))
+
+-- one part behind another
+pub then-takes : {a b : Form → Form} {c d : ℕ} → Takes a c → Takes b d → Takes (λ rest. a (b rest)) (c + d)
+then-takes {a} {b} {c} {d} p q = record { shape = λ rest vs. (there rest vs, back rest vs) }
+  where
+    there : (rest : Form) (vs : List ℤ) → Shaped (a (b rest)) vs → (c + d ≤ length vs) × Shaped rest (drop (c + d) vs)
+    there rest vs h =
+        let x = p .shape (b rest) vs .0 h in
+        let y = q .shape rest (drop c vs) .0 (x .1) in
+        (omega (arith, length-drop c vs), rw (drop-drop d c vs) at (y .1))
+
+    back : (rest : Form) (vs : List ℤ) → (c + d ≤ length vs) × Shaped rest (drop (c + d) vs) → Shaped (a (b rest)) vs
+    back rest vs h = p .shape (b rest) vs .1 (omega arith, q .shape rest (drop c vs) .1 (omega (arith, length-drop c vs), rw (drop-drop d c vs) (h .1)))
+
+pub times-takes : {part : Form → Form} {c : ℕ} → Takes part c → (m : ℕ) → Takes (times m part) (m * c)
+unfolding times
+times-takes {part} {c} p zero = let e : 0 * c ≡ 0 = omega arith in rw e (record { shape = λ rest vs. (λ h. (omega arith, h), λ h. h .1) })
+times-takes {part} {c} p (suc m) = let e : suc m * c ≡ c + m * c = omega arith in rw e (then-takes p (times-takes p m))
+
+pub row-takes : (n : ℕ) → Takes (row n) (n + 1)
+unfolding row
+row-takes n = let e : n + 1 ≡ n * 1 + 1 = omega arith in rw e (then-takes (times-takes (limited-takes entryLimit) n) (limited-takes offsetLimit))
+
+pub edges-takes : (n : ℕ) → Takes (edgesAndBands n) (6 * n)
+unfolding edgesAndBands
+edges-takes n =
+    let e : 6 * n ≡ n * 4 + n * 2 = omega arith in
+    rw e (then-takes (times-takes (then-takes (span-takes edgeLimit) (span-takes edgeLimit)) n) (times-takes (span-takes bandLimit) n))
+
+-- a part with nothing behind it
+pub takes-all : {part : Form → Form} {c : ℕ} → Takes part c → (vs : List ℤ) → Shaped (part end) vs ↔ (length vs ≡ c)
+unfolding Shaped
+takes-all {part} {c} p vs = (there, λ e. p .shape end vs .1 (omega arith, drop-of-length-le vs (le-of-eq e)))
+  where
+    there : Shaped (part end) vs → length vs ≡ c
+    there h = let w = p .shape end vs .0 h in omega (arith, length-drop c vs, ap length (w .1))
