@@ -2,3 +2,4 @@ pub mod Boxes
 pub mod Images
 pub mod Frames
 pub mod Tiles
+pub mod Modes

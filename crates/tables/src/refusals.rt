@@ -1,0 +1,35 @@
+// The rows of document 01's table of refusals that a table is refused by, each under the name of its definition.
+// Relies on nothing. Leaves out the rows that every file has (crate files, module refusals).
+use meaning::Refusal;
+ghost use mathlib.Core.Path.{_≡_};
+ghost use Rattle.meaning.specs.Refusals as R;
+
+pub fn bad_table(at: usize) -> Refusal
+    ensures { λ r. ⌜ r ≡ R.badTable at ⌝ }
+{
+    Refusal {
+        number: 6,
+        place: at,
+        step: 0,
+    }
+}
+
+pub fn leaves(at: usize, i: usize) -> Refusal
+    ensures { λ r. ⌜ r ≡ R.leaves at i ⌝ }
+{
+    Refusal {
+        number: 7,
+        place: at,
+        step: i,
+    }
+}
+
+pub fn misses(at: usize, i: usize) -> Refusal
+    ensures { λ r. ⌜ r ≡ R.misses at i ⌝ }
+{
+    Refusal {
+        number: 8,
+        place: at,
+        step: i,
+    }
+}
