@@ -24,7 +24,7 @@ use Rattle.promises.specs.Shapes.{Working}
 use Rattle.promises.specs.Walking.{guard-passed, walk-went}
 use Rattle.promises.specs.Layouts.{walk-stands, header-stands, walk-reads, header-read, headed, table-stands}
 
-refused-accepted : {e : Refusal} → Verdict.Refused e ≡ Verdict.Accepted → ⊥
+pub refused-accepted : {e : Refusal} → Verdict.Refused e ≡ Verdict.Accepted → ⊥
 refused-accepted e = let z : _≡_ {A = ℕ} 0 1 = cc in omega arith
 
 module _ (r : Rules) where

@@ -25,11 +25,11 @@ abbrev pub stateOf : List ℕ → ℕ → State
 stateOf [] place = idle
 stateOf (v ∷ vs) place = record { place = place; left = suc (length vs) }
 
-mode-is : (vs s : List ℕ) (place : ℕ) → modeAt s place (suc (length vs)) ≡ Answer.Mode (getD s place 0) (stateOf vs (place + 1))
+pub mode-is : (vs s : List ℕ) (place : ℕ) → modeAt s place (suc (length vs)) ≡ Answer.Mode (getD s place 0) (stateOf vs (place + 1))
 mode-is [] s place = refl
 mode-is (v ∷ vs) s place = refl
 
-modes-length : (N : ℕ) (us : List ℕ) → N ≤ 128 → below N us → length (modesBytes us) ≡ length us
+pub modes-length : (N : ℕ) (us : List ℕ) → N ≤ 128 → below N us → length (modesBytes us) ≡ length us
 unfolding below modesBytes
 modes-length N [] l h = refl
 modes-length N (u ∷ us) l h = rw (one-byte u (omega (arith, h .0))) (ap suc (modes-length N us l (h .1)))

@@ -1,0 +1,182 @@
+-- S8 over bytes: on an accepted table an idle call on a reading in R chooses the one tile of the table that holds it, and answers that tile's first
+-- mode; and of every table, accepted or not, an idle call that is answered reads nothing behind the last mode of the tile that it chose.
+-- Relies on pages Finds and Local at document 01's rules, where a tile's number and each of its modes is one byte.
+use Prim.Native.Nat.{ℕ, suc, _+_}
+use mathlib.Core.Path.{_≡_, refl, sym, subst, _∙_}
+use mathlib.Core.Bool.{true}
+use mathlib.Core.List.{List, [], _∷_, _++_, append-nil}
+use native.Mathlib.Omega.{arith}
+use lib.ListN.{length, take, drop, getD}
+use lib.IntN.{ℤ}
+use Rattle.laws.specs.Standing.{Stands, stand-back, at-cons}
+use Rattle.meaning.specs.declared.Refusal.{Refusal}
+use Rattle.meaning.specs.declared.Plant.{Plant}
+use Rattle.meaning.specs.declared.State.{State}
+use Rattle.meaning.specs.declared.Answer.{Answer}
+use Rattle.meaning.specs.declared.Walk.{Walk}
+use Rattle.meaning.specs.declared.Found.{Found}
+use Rattle.meaning.specs.Control as C
+use Rattle.meaning.specs.Control.{idle, modeAt, onFound, find, idleCall, call}
+use Rattle.meaning.specs.Files.{Judged, good, bad, read}
+use Rattle.meaning.specs.Numbers.{bytesOf}
+use Rattle.meaning.specs.Plants.{plantJudged, rootOf}
+use Rattle.meaning.specs.Rules.{rule, holds}
+use Rattle.meaning.specs.Tables as T
+use Rattle.meaning.specs.Tables.{rulesOf, onPlant, controlled, startsIn}
+use Rattle.meaning.specs.Trees as Y
+use Rattle.meaning.specs.Trees.{modesBytes, Pattern, tableOf, Tile, tilesOf}
+use Rattle.meaning.specs.Verdicts.{modesAt, header}
+use Rattle.promises.specs.Bytes.{one-byte}
+use Rattle.promises.specs.Checked.{Tiled}
+use Rattle.promises.specs.Finds.{having, firstMode, OneTile, finds, call-finds}
+use Rattle.promises.specs.Judged.{judged-sound}
+use Rattle.promises.specs.Layouts.{modes-stand, header-stands, headed, table-stands, tile-read, header-read}
+use Rattle.promises.specs.Local.{unseen}
+use Rattle.promises.specs.PlantMotion.{splits}
+use Rattle.promises.specs.PlantRules.{sizes, one-byte-modes, header-size, number-size, tile-size, controlled-as}
+use Rattle.promises.specs.Shapes.{Good}
+use Rattle.promises.specs.Sound.{Sound}
+use Rattle.promises.specs.Underway.{stateOf, mode-is, modes-length}
+use Rattle.promises.specs.Walking.{guard-passed, walk-went}
+
+-- ---- of an accepted table
+
+-- The tile chosen in the table of a tree, the header being two bytes.
+pub record Chosen (plant table : List ℕ) (t : Tiled plant table) (x : List ℤ) : Type 0 where
+  pub the : Tile (rulesOf (t .p))
+  -- of all tiles it alone holds the reading
+  pub only : having (rulesOf (t .p)) x (tilesOf (rulesOf (t .p)) (t .tree) (rootOf (t .p)) 2) ≡ the ∷ []
+  pub holds-it : holds (rulesOf (t .p)) (the .box) x ≡ true
+  -- its first mode is answered, and those to come are left; the byte at its place is their number
+  pub first : ℕ
+  pub later : List ℕ
+  pub modes-are : the .modes ≡ first ∷ later
+  pub answered : controlled plant table idle x ≡ Answer.Mode first (stateOf later (the .place + 2))
+  -- and the answer is the same on every table that agrees with this one up to the tile's last mode
+  pub unread : (other : List ℕ) → take (the .place + 1 + length (the .modes)) table ≡ take (the .place + 1 + length (the .modes)) other
+      → controlled plant other idle x ≡ controlled plant table idle x
+
+module _ (p : Plant) (s : Sound p) where
+  -- what is answered of a tile whose bytes stand in the table
+  record Told (table : List ℕ) (place : ℕ) (us : List ℕ) : Type 0 where
+    u : ℕ
+    vs : List ℕ
+    are : us ≡ u ∷ vs
+    told : modeAt table (place + length (bytesOf (length us))) (length us) ≡ Answer.Mode u (stateOf vs (place + 2))
+
+  first-told : (table : List ℕ) (place end : ℕ) (us : List ℕ) → Pattern (p .k) (p .modes) us
+      → Stands table place (bytesOf (length us) ++ modesBytes us) end → Told table place us
+  unfolding Y.modesBytes Y.below
+  first-told table place end [] g h = absurd (omega (arith, g .some))
+  first-told table place end (u ∷ vs) g h =
+      let back = stand-back (bytesOf (suc (length vs))) (modesBytes (u ∷ vs)) h in
+      let from = place + length (bytesOf (suc (length vs))) in
+      let bytes = rw (one-byte u (omega (arith, g .modes .0, s .modes-high))) at (back .bytes) in
+      let byte : getD table from 0 ≡ u = at-cons table from u (modesBytes vs ++ drop end table) bytes .1 in
+      let q : from + 1 ≡ place + 2 = omega (arith, number-size p s (u ∷ vs) g) in
+      record { u = u; vs = vs; are = refl; told = mode-is vs table from ∙ rw (byte, q) refl }
+
+-- the tile that was found is the one chosen
+tile-chosen : (plant table : List ℕ) (t : Tiled plant table) (x : List ℤ)
+    (f : OneTile (rulesOf (t .p)) (Good (rulesOf (t .p)) (rule (rulesOf (t .p)))) x table (headed (rulesOf (t .p)))
+    (tilesOf (rulesOf (t .p)) (t .tree) (rootOf (t .p)) (headed (rulesOf (t .p))))
+    (find (rulesOf (t .p)) (t .p .d) table (headed (rulesOf (t .p))) (rootOf (t .p)) x))
+    → call (rulesOf (t .p)) table idle x ≡ modeAt table (firstMode (rulesOf (t .p)) (f .the)) (length (f .the .modes)) → Chosen plant table t x
+tile-chosen plant table t x f c =
+    let p = t .p in
+    let r = rulesOf p in
+    let s = judged-sound plant p (t .judged) in
+    let g = f .known .shape in
+    let first = first-told p s table (f .the .place) (f .end) (f .the .modes) g (f .stand) in
+    let head = table-stands r table [] (t .tree) (t .is ∙ sym (append-nil (tableOf r (t .tree)))) .0 in
+    let w = unseen r (sizes p s) x table (headed r) (firstMode r (f .the)) (length (f .the .modes)) (header-read r (sizes p s) table (headed r) head) (f .told) in
+    let same : w .end ≡ f .end = cc (tile-read r (sizes p s) (f .the .modes) table (f .the .place) (f .end) g (f .stand) .1, w .are) in
+    let end : w .end ≡ f .the .place + 1 + length (f .the .modes) = omega (arith, same, f .stand .end, tile-size p s (f .the .modes) g) in
+    record {
+      the = f .the;
+      only = subst (λ (m : ℕ). having r x (tilesOf r (t .tree) (rootOf p) m) ≡ f .the ∷ []) (header-size p s) (f .only);
+      holds-it = f .holds-it;
+      first = first .u;
+      later = first .vs;
+      modes-are = first .are;
+      answered = controlled-as plant p (t .judged) table idle x ∙ c ∙ first .told;
+      unread = λ other q.
+          controlled-as plant p (t .judged) other idle x
+          ∙ w .same other (subst (λ (m : ℕ). take m table ≡ take m other) (sym end) q)
+          ∙ sym (controlled-as plant p (t .judged) table idle x);
+    }
+
+-- S8, of a reading in R and a table that is that of a tree
+pub chosen : (plant table : List ℕ) (t : Tiled plant table) (x : List ℤ) → startsIn plant x ≡ true → Chosen plant table t x
+chosen plant table t x h =
+    let p = t .p in
+    let r = rulesOf p in
+    let z = sizes p (judged-sound plant p (t .judged)) in
+    let held : holds r (rootOf p) x ≡ true = rw (t .judged) at h in
+    let is = t .is ∙ sym (append-nil (tableOf r (t .tree))) in
+    tile-chosen plant table t x (finds r z (splits p) (Good r (rule r)) (λ b us g. g .shape) table [] (t .tree) is (t .works) x held)
+    (call-finds r z (splits p) (Good r (rule r)) (λ b us g. g .shape) table [] (t .tree) is (t .works) x held)
+
+-- ---- of every table, accepted or not
+
+-- An idle call was answered so: by the tile whose modes stand from `from` on, and the same on every table that agrees up to its last mode.
+pub record Unread (plant table : List ℕ) (x : List ℤ) (u : ℕ) (then : State) : Type 0 where
+  pub p : Plant
+  pub judged : plantJudged plant ≡ good p
+  pub from : ℕ
+  pub modes : List ℕ
+  pub found : find (rulesOf p) (p .d) table 2 (rootOf p) x ≡ Found.Tile from (length modes)
+  pub are : modesAt (rulesOf p) (length modes) table from ≡ read modes (from + length modes)
+  pub same : (other : List ℕ) → take (from + length modes) table ≡ take (from + length modes) other → controlled plant other idle x ≡ Answer.Mode u then
+
+refused-mode : {e : Refusal} {u : ℕ} {then : State} → Answer.Refused e ≡ Answer.Mode u then → ⊥
+refused-mode q = let z : _≡_ {A = ℕ} 0 1 = cc in omega arith
+
+found-tile : (s : List ℕ) (f : Found) (u : ℕ) (then : State) → onFound s f ≡ Answer.Mode u then → (from k : ℕ) × (f ≡ Found.Tile from k)
+found-tile s (Found.Refused e) u then q = absurd (refused-mode q)
+found-tile s (Found.Tile from k) u then q = (from, k, refl)
+
+-- a call that was answered has read the header and found a tile
+record Went (p : Plant) (table : List ℕ) (x : List ℤ) : Type 0 where
+  at : ℕ
+  from : ℕ
+  k : ℕ
+  head : header (rulesOf p) table ≡ Walk.Next at
+  found : find (rulesOf p) (p .d) table at (rootOf p) x ≡ Found.Tile from k
+
+went : (p : Plant) (table : List ℕ) (x : List ℤ) (u : ℕ) (then : State) → call (rulesOf p) table idle x ≡ Answer.Mode u then → Went p table x
+unfolding C.call
+went p table x u then a =
+    let r = rulesOf p in
+    let w = walk-went (header r table) Answer.Refused (λ at. idleCall r table at 0 x) (λ _. refused-mode) a in
+    let g = guard-passed (holds r (rootOf p) x) (λ _. onFound table (find r (p .d) table (w .0) (rootOf p) x)) refused-mode (w .2) in
+    let f = found-tile table (find r (p .d) table (w .0) (rootOf p) x) u then (g .1) in
+    record { at = w .0; from = f .0; k = f .1; head = w .1; found = f .2 }
+
+pub unread : (plant table : List ℕ) (x : List ℤ) (u : ℕ) (then : State) → controlled plant table idle x ≡ Answer.Mode u then → Unread plant table x u then
+unfolding T.controlled
+unread plant table x u then = go (plantJudged plant) refl
+  where
+    of : (p : Plant) → plantJudged plant ≡ good p → call (rulesOf p) table idle x ≡ Answer.Mode u then → Went p table x → Unread plant table x u then
+    of p e a w =
+        let r = rulesOf p in
+        let s = judged-sound plant p e in
+        let z = unseen r (sizes p s) x table (w .at) (w .from) (w .k) (w .head) (w .found) in
+        let m = modes-stand r (w .k) table (w .from) (z .modes) (z .end) (z .are) in
+        let count : length (z .modes) ≡ w .k = m .count in
+        let begin : w .at ≡ 2 = omega (arith, header-stands r table (w .at) (w .head) .end, header-size p s) in
+        let end : w .from + length (z .modes) ≡ z .end = omega (arith, m .stand .end, modes-length (p .modes) (z .modes) (one-byte-modes p s) (m .modes)) in
+        record {
+          p = p;
+          judged = e;
+          from = w .from;
+          modes = z .modes;
+          found = rw count (rw begin at (w .found));
+          are = rw (end, count) (z .are);
+          same = λ other q. controlled-as plant p e other idle x ∙ z .same other (rw end at q) ∙ a;
+        }
+
+    go : (j : Judged Plant) → plantJudged plant ≡ j → onPlant j Answer.Refused (λ p. call (rulesOf p) table idle x) ≡ Answer.Mode u then
+        → Unread plant table x u then
+    go (bad e) q a = absurd (refused-mode a)
+    go (good p) q a = of p q a (went p table x u then a)

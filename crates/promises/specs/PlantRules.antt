@@ -1,0 +1,80 @@
+-- Document 01's rules of a plant that was judged good: its numbers meet what page Laws asks of numbers, and take one byte each in a table; and the
+-- answers about tables over bytes are those of its rules. That they split well and that their patterns keep their word is page PlantMotion.
+-- Relies on the ranges of page Sound.
+use Prim.Native.Nat.{ℕ, _+_}
+use mathlib.Core.Path.{_≡_, refl, ap}
+use mathlib.Core.List.{List, _++_}
+use native.Mathlib.Omega.{arith}
+use lib.ListN.{length, length-append}
+use lib.IntN.{ℤ}
+use Rattle.meaning.specs.declared.Plant.{Plant}
+use Rattle.meaning.specs.declared.State.{State}
+use Rattle.meaning.specs.Control.{call}
+use Rattle.meaning.specs.Defined.{definedTree}
+use Rattle.meaning.specs.Files.{good}
+use Rattle.meaning.specs.Numbers.{bytesOf}
+use Rattle.meaning.specs.Plants.{plantJudged}
+use Rattle.meaning.specs.Tables as T
+use Rattle.meaning.specs.Tables.{rulesOf, checked, tableBytes, made, controlled}
+use Rattle.meaning.specs.Trees.{Tree, modesBytes, layout, Pattern, tableOf}
+use Rattle.meaning.specs.Verdicts.{verdict}
+use Rattle.promises.specs.Bytes.{one-byte}
+use Rattle.promises.specs.Judged.{judged-sound}
+use Rattle.promises.specs.Laws.{Sizes, OneByte}
+use Rattle.promises.specs.Layouts.{headed}
+use Rattle.promises.specs.Sound.{Sound}
+use Rattle.promises.specs.Underway.{modes-length}
+
+module _ (p : Plant) (s : Sound p) where
+  -- n is at most 4, K at most 6, N at most 16: numbers of five bytes hold them
+  pub sizes : Sizes (rulesOf p)
+  sizes = record { dimensions = omega (arith, s .n-high); nodes = omega (arith, s .k-high); modes = omega (arith, s .modes-high) }
+
+  -- and one byte holds a mode
+  pub one-byte-modes : OneByte (rulesOf p)
+  one-byte-modes = omega (arith, s .modes-high)
+
+  -- so that a table's header is two bytes
+  pub header-size : headed (rulesOf p) ≡ 2
+  header-size =
+      omega (
+        arith,
+        length-append (bytesOf 1) (bytesOf (p .n)),
+        ap length (one-byte 1 (omega arith)),
+        ap length (one-byte (p .n) (omega (arith, s .n-high))),
+      )
+
+  pub table-size : (t : Tree) → length (tableOf (rulesOf p) t) ≡ 2 + length (layout t)
+  table-size t =
+      omega (
+        arith,
+        header-size,
+        length-append (bytesOf 1) (bytesOf (p .n) ++ layout t),
+        length-append (bytesOf (p .n)) (layout t),
+        length-append (bytesOf 1) (bytesOf (p .n)),
+      )
+
+  -- and a tile one byte and its modes
+  module _ (us : List ℕ) (g : Pattern (p .k) (p .modes) us) where
+    pub number-size : length (bytesOf (length us)) ≡ 1
+    number-size = ap length (one-byte (length us) (omega (arith, g .few, s .k-high)))
+
+    pub tile-size : length (bytesOf (length us) ++ modesBytes us) ≡ 1 + length us
+    tile-size = omega (arith, length-append (bytesOf (length us)) (modesBytes us), number-size, modes-length (p .modes) us one-byte-modes (g .modes))
+
+module _ (plant : List ℕ) (p : Plant) (e : plantJudged plant ≡ good p) where
+  pub judged-sizes : Sizes (rulesOf p)
+  judged-sizes = sizes p (judged-sound plant p e)
+
+  -- the checker's verdict, what is made, and the controller's answer
+  pub checked-as : (table : List ℕ) → checked plant table ≡ verdict (rulesOf p) table
+  unfolding T.checked
+  checked-as table = rw e refl
+
+  pub made-as : made plant ≡ tableBytes (rulesOf p) (definedTree (rulesOf p))
+  unfolding T.made
+  made-as = rw e refl
+
+  pub controlled-as : (table : List ℕ) (st : State) (x : List ℤ) → controlled plant table st x ≡ call (rulesOf p) table st x
+  unfolding T.controlled
+  controlled-as table st x = rw e refl

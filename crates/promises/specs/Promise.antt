@@ -1,0 +1,80 @@
+-- S9, demand 3, over bytes: for every plant and every table that the checker accepts on it, every run that starts idle on a reading in R and applies
+-- each mode that the controller answers, of any length, whatever readings come that the mode's equation and band allow. Relies on page Demand at
+-- document 01's rules, and on S12 (page PlantMotion) for that no run gets stuck. Its last sentence, that every table whose tiles keep the tile rule is
+-- accepted, is page Checked.
+use Prim.Native.Nat.{ℕ, _≤_}
+use mathlib.Core.Path.{_≡_, sym, _∙_}
+use mathlib.Core.Bool.{Bool, true, false}
+use mathlib.Core.List.{List}
+use lib.IntN.{ℤ}
+use Rattle.meaning.specs.declared.Plant.{Plant}
+use Rattle.meaning.specs.declared.Verdict.{Verdict}
+use Rattle.meaning.specs.declared.State.{State}
+use Rattle.meaning.specs.declared.Answer.{Answer}
+use Rattle.meaning.specs.Control.{idle}
+use Rattle.meaning.specs.Files.{good}
+use Rattle.meaning.specs.Plants.{plantJudged, safeOf}
+use Rattle.meaning.specs.Rules.{holds}
+use Rattle.meaning.specs.Runs.{start, sample, Samples, none, next}
+use Rattle.meaning.specs.Tables.{rulesOf, onPlant, checked, controlled, startsIn, mayFollow, TableRun}
+use Rattle.meaning.specs.Trees.{longest}
+use Rattle.promises.specs.Checked.{Tiled, accepted-judged}
+use Rattle.promises.specs.Demand.{Meets, Sampled, Demand, demand}
+use Rattle.promises.specs.Judged.{judged-sound}
+use Rattle.promises.specs.PlantMotion.{splits, motion, plant-follows}
+use Rattle.promises.specs.PlantRules.{sizes, one-byte-modes, checked-as, controlled-as}
+use Rattle.promises.specs.Sound.{Sound}
+
+-- whether a reading lies in a plant's S; where the plant is refused, none does
+abbrev pub safeIn : List ℕ → List ℤ → Bool
+safeIn plant x = onPlant (plantJudged plant) (λ _. false) λ p. holds (rulesOf p) (safeOf p) x
+
+-- so many samples of a run lead from one state and reading to another
+abbrev pub TableSamples : List ℕ → List ℕ → ℕ → State → List ℤ → State → List ℤ → Type 0
+TableSamples plant table = Samples (controlled plant table) (startsIn plant) (mayFollow plant)
+
+-- What demand 3 says of a plant and a table whose longest pattern has so many modes. A tile is chosen where the controller is idle.
+pub record Promised (plant table : List ℕ) (most : ℕ) : Type 0 where
+  -- no call is refused
+  pub answered : {st : State} {x : List ℤ} → TableRun plant table st x → (u : ℕ) × (then : State) × (controlled plant table st x ≡ Answer.Mode u then)
+  -- every reading lies in S, and in R where a tile is chosen
+  pub in-safe : {st : State} {x : List ℤ} → TableRun plant table st x → safeIn plant x ≡ true
+  pub in-root : {x : List ℤ} → TableRun plant table idle x → startsIn plant x ≡ true
+  -- From each reading at which a tile is chosen, a reading in R follows within as many samples as the longest pattern, whatever readings came;
+  -- and at it the next tile is chosen.
+  pub returns : {x : List ℤ} → TableRun plant table idle x
+      → (m : ℕ) × (1 ≤ m) × (m ≤ most) × ((st : State) (y : List ℤ) → TableSamples plant table m idle x st y → (st ≡ idle) × (startsIn plant y ≡ true))
+  -- and no run gets stuck: whatever mode is answered, some reading may follow
+  pub goes-on : (u : ℕ) (x : List ℤ) → (y : List ℤ) × (mayFollow plant u x y ≡ true)
+
+-- ---- runs over bytes are runs over the rules of the plant that was judged good
+
+module _ (plant table : List ℕ) (p : Plant) (e : plantJudged plant ≡ good p) where
+  meets : {st : State} {x : List ℤ} → TableRun plant table st x → Meets (rulesOf p) table st x
+  meets (start h) = start (rw e at h)
+  meets (sample {s = st} {x = x} run a f) = sample (meets run) (sym (controlled-as plant p e table st x) ∙ a) (rw e at f)
+
+  sampled : {m : ℕ} {st v : State} {x z : List ℤ} → TableSamples plant table m st x v z → Sampled (rulesOf p) table m st x v z
+  sampled none = none
+  sampled (next {s = st} {x = x} a f rest) = next (sym (controlled-as plant p e table st x) ∙ a) (rw e at f) (sampled rest)
+
+  promised : (most : ℕ) → Sound p → Demand (rulesOf p) table most → Promised plant table most
+  promised most s d = record {
+    answered = λ {st} {x} run. let w = d .answered (meets run) in (w .0, w .1, controlled-as plant p e table st x ∙ w .2);
+    in-safe = λ run. rw e (d .in-safe (meets run));
+    in-root = λ run. rw e (d .in-root (meets run));
+    returns = λ run.
+        let w = d .returns (meets run) in
+        (w .0, w .1, w .2, λ st y k. let h = w .3 st y (sampled k) in (h .again, rw e (h .in-root)));
+    goes-on = λ u x. rw e (plant-follows p s u x);
+  }
+
+-- S9: of every accepted table, and of the one tree that it is the layout of
+pub promise : (plant table : List ℕ) → checked plant table ≡ Verdict.Accepted → (t : Tiled plant table) × Promised plant table (longest (t .tree))
+promise plant table a =
+    let w = accepted-judged plant table a in
+    let p = w .0 in
+    let e = w .1 in
+    let s = judged-sound plant p e in
+    let d = demand (rulesOf p) (sizes p s) (one-byte-modes p s) (splits p) (motion p s) table (sym (checked-as plant p e table) ∙ a) in
+    (record { p = p; judged = e; tree = d .0; works = d .1; is = d .2 }, promised plant table p e (longest (d .0)) s (d .3))

@@ -1,0 +1,55 @@
+//! The benchmark: the proved library against the second program, the same
+//! inputs in one run, by turns, the best of several rounds each. A ratio below 1
+//! says that the proved library is the faster.
+
+use side::{check, largest_table_plant, plant};
+use std::hint::black_box;
+use std::time::Instant;
+
+/// Seconds of one call: the best round of `rounds`, each of `calls` calls.
+fn best(rounds: usize, calls: usize, mut one: impl FnMut()) -> f64 {
+    (0..rounds)
+        .map(|_| {
+            let began = Instant::now();
+            (0..calls).for_each(|_| one());
+            began.elapsed().as_secs_f64() / calls as f64
+        })
+        .fold(f64::INFINITY, f64::min)
+}
+
+/// Both by turns, so that neither has the quieter half of the run.
+fn compare(name: &str, calls: usize, mut ours: impl FnMut(), mut theirs: impl FnMut()) {
+    let (mut a, mut b) = (f64::INFINITY, f64::INFINITY);
+    for _ in 0..10 {
+        a = a.min(best(3, calls, &mut ours));
+        b = b.min(best(3, calls, &mut theirs));
+    }
+    println!("{name}: proved {:.1} us, second {:.1} us, ratio {:.2}", a * 1e6, b * 1e6, a / b);
+}
+
+fn main() {
+    let bytes = largest_table_plant();
+    let mut table = vec![0; second::LARGEST_TABLE];
+    assert_eq!(second::maker::make(&bytes, &mut table), Ok(30_039));
+    assert_eq!(check(&bytes, &table), (0, 0, 0));
+    compare(
+        "check, a table of 30,039 bytes",
+        20,
+        || {
+            black_box(check(black_box(&bytes), black_box(&table)));
+        },
+        || {
+            black_box(second::checker::check(black_box(&bytes), black_box(&table))).unwrap();
+        },
+    );
+    compare(
+        "plant, read and judged",
+        2000,
+        || {
+            black_box(plant(black_box(&bytes)));
+        },
+        || {
+            black_box(second::plant::read_plant(black_box(&bytes))).unwrap();
+        },
+    );
+}

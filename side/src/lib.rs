@@ -1,0 +1,42 @@
+//! The proved library's exported functions, called the way C calls them, with
+//! the answers in the second program's shape: number, place, step.
+
+#[path = "../../second/tests/common/mod.rs"]
+pub mod common;
+
+extern "C" {
+    fn hoachulim_plant(plant: *const u8, plant_length: usize, out: *mut u64) -> u8;
+    fn hoachulim_check(
+        plant: *const u8,
+        plant_length: usize,
+        table: *const u8,
+        table_length: usize,
+        out: *mut u64,
+    ) -> u8;
+}
+
+/// What the library says of a plant's bytes.
+pub fn plant(plant: &[u8]) -> (u8, u64, u64) {
+    let mut out = [u64::MAX; 2];
+    let number = unsafe { hoachulim_plant(plant.as_ptr(), plant.len(), out.as_mut_ptr()) };
+    (number, out[0], out[1])
+}
+
+/// What the library says of a table's bytes for a plant's bytes.
+pub fn check(plant: &[u8], table: &[u8]) -> (u8, u64, u64) {
+    let mut out = [u64::MAX; 2];
+    let number = unsafe {
+        hoachulim_check(plant.as_ptr(), plant.len(), table.as_ptr(), table.len(), out.as_mut_ptr())
+    };
+    (number, out[0], out[1])
+}
+
+/// The plant whose defined table has 30,039 bytes, the most there can be.
+pub fn largest_table_plant() -> Vec<u8> {
+    use common::{file, S, U};
+    let limit = 1_000_000;
+    let mut fields = vec![U(1), U(2), U(1), U(1), U(6), U(6)];
+    fields.extend([1000, 1063, -limit, limit, 1000, 1063, -limit, limit, 0, 0, 0, 0].map(S));
+    fields.extend([4, -13, 0, 1, -3, 0].map(S));
+    file(&fields)
+}
