@@ -19,6 +19,15 @@ uint8_t hoachulim_plant(const uint8_t *plant, size_t plant_length, uint64_t out[
 uint8_t hoachulim_check(const uint8_t *plant, size_t plant_length,
                         const uint8_t *table, size_t table_length, uint64_t out[2]);
 
+/* One call of the controller, once each sample. Idle is place 0, left 0; hand back out[2] and out[3] at the next call.
+   x0..x3 is the reading; numbers beyond the plant's rooms are ignored.
+   The mode to apply, 255 where the call is refused; out: the refusal's number and place, the next place, the next left.
+   A refused call leaves the controller idle: out[2] and out[3] are 0. */
+uint8_t hoachulim_control(const uint8_t *plant, size_t plant_length,
+                          const uint8_t *table, size_t table_length,
+                          uint64_t place, uint64_t left,
+                          int64_t x0, int64_t x1, int64_t x2, int64_t x3, uint64_t out[4]);
+
 #ifdef __cplusplus
 }
 #endif

@@ -13,6 +13,19 @@ extern "C" {
         table_length: usize,
         out: *mut u64,
     ) -> u8;
+    fn hoachulim_control(
+        plant: *const u8,
+        plant_length: usize,
+        table: *const u8,
+        table_length: usize,
+        place: u64,
+        left: u64,
+        x0: i64,
+        x1: i64,
+        x2: i64,
+        x3: i64,
+        out: *mut u64,
+    ) -> u8;
 }
 
 /// What the library says of a plant's bytes.
@@ -29,6 +42,27 @@ pub fn check(plant: &[u8], table: &[u8]) -> (u8, u64, u64) {
         hoachulim_check(plant.as_ptr(), plant.len(), table.as_ptr(), table.len(), out.as_mut_ptr())
     };
     (number, out[0], out[1])
+}
+
+/// One call of the controller: the mode, and number, place, next place, next left.
+pub fn control(plant: &[u8], table: &[u8], place: u64, left: u64, x: [i64; 4]) -> (u8, [u64; 4]) {
+    let mut out = [u64::MAX; 4];
+    let mode = unsafe {
+        hoachulim_control(
+            plant.as_ptr(),
+            plant.len(),
+            table.as_ptr(),
+            table.len(),
+            place,
+            left,
+            x[0],
+            x[1],
+            x[2],
+            x[3],
+            out.as_mut_ptr(),
+        )
+    };
+    (mode, out)
 }
 
 /// The plant whose defined table has 30,039 bytes, the most there can be.

@@ -3,12 +3,16 @@
 mod shown;
 
 use files::plants;
+use meaning::State;
 use tables::checks;
+use tables::control;
 ghost use mathlib.Core.Path.{_≡_};
 ghost use Rattle.meaning.specs.Plants.{plantRead};
-ghost use Rattle.meaning.specs.Refusals.{verdictShown};
-ghost use Rattle.meaning.specs.Tables.{checked};
-ghost use Rattle.face.specs.Numbers.{placeAndStep};
+ghost use mathlib.Core.List.{[], _∷_};
+ghost use Rattle.meaning.specs.declared.State.{State};
+ghost use Rattle.meaning.specs.Refusals.{verdictShown, answerShown};
+ghost use Rattle.meaning.specs.Tables.{checked, controlled};
+ghost use Rattle.face.specs.Numbers.{placeAndStep, mode, numberAndState, stateOf};
 
 // A plant file: 0, or the number that it is refused by; out holds place and step.
 #[no_mangle]
@@ -29,4 +33,34 @@ pub extern "C" fn hoachulim_check(plant: &[u8], table: &[u8], out: &mut [u64; 2]
 {
     let verdict = checks::check(plant, table);
     shown::verdict(verdict, out)
+}
+
+// One call of the controller: the mode, 255 where it is refused; out holds number and place of the refusal, then the next place and left.
+#[no_mangle]
+pub extern "C" fn hoachulim_control(
+    plant: &[u8],
+    table: &[u8],
+    place: u64,
+    left: u64,
+    x0: i64,
+    x1: i64,
+    x2: i64,
+    x3: i64,
+    out: &mut [u64; 4],
+) -> u8
+    ensures mode { λ r. ⌜ r ≡ mode (answerShown (controlled (now (plant .entry)) (now (table .entry)) (stateOf place left) (x0 ∷ x1 ∷ x2 ∷ x3 ∷ []))) ⌝ }
+    ensures state { λ r. ⌜ now (out .exit) ≡ numberAndState (answerShown (controlled (now (plant .entry)) (now (table .entry)) (stateOf place left) (x0 ∷ x1 ∷ x2 ∷ x3 ∷ []))) ⌝ }
+{
+    let at = place as usize;
+    let more = left as usize;
+    let answer = control::control(
+        plant,
+        table,
+        State {
+            place: at,
+            left: more,
+        },
+        [x0, x1, x2, x3],
+    );
+    shown::answer(answer, out)
 }

@@ -23,6 +23,7 @@ pub mod Lengths
 pub mod Local
 pub mod LongestTable
 pub mod Made
+pub mod ModeBytes
 pub mod Numbers
 pub mod Patterns
 pub mod PlantFiles

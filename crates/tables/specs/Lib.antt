@@ -3,3 +3,5 @@ pub mod Images
 pub mod Frames
 pub mod Tiles
 pub mod Modes
+pub mod Trees
+pub mod Calls

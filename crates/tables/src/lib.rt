@@ -1,11 +1,16 @@
-// Tables of document 01: the checker (checks). The other modules are private to the crate: their functions ask something of a plant that was
-// judged (`requires`), which only callers inside the crate can be asked to prove; what another crate may call has no `requires`.
+// Tables of document 01: the checker (checks) and the controller's call (control). The other modules are private to the crate: their functions
+// ask something of a plant that was judged (`requires`), which only callers inside the crate can be asked to prove; what another crate may call
+// has no `requires`.
 mod boxes;
 pub mod checks;
+pub mod control;
 mod division;
+mod finds;
 mod frames;
 mod headers;
 mod images;
 mod modes;
+mod passes;
 mod refusals;
+mod states;
 mod tiles;

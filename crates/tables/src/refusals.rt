@@ -33,3 +33,23 @@ pub fn misses(at: usize, i: usize) -> Refusal
         step: i,
     }
 }
+
+pub fn outside(i: usize) -> Refusal
+    ensures { λ r. ⌜ r ≡ R.outside i ⌝ }
+{
+    Refusal {
+        number: 11,
+        place: i,
+        step: 0,
+    }
+}
+
+pub fn bad_state() -> Refusal
+    ensures { λ r. ⌜ r ≡ R.badState ⌝ }
+{
+    Refusal {
+        number: 12,
+        place: 0,
+        step: 0,
+    }
+}

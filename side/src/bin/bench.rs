@@ -2,7 +2,8 @@
 //! inputs in one run, by turns, the best of several rounds each. A ratio below 1
 //! says that the proved library is the faster.
 
-use side::{check, largest_table_plant, plant};
+use second::control::State;
+use side::{check, control, largest_table_plant, plant};
 use std::hint::black_box;
 use std::time::Instant;
 
@@ -24,7 +25,7 @@ fn compare(name: &str, calls: usize, mut ours: impl FnMut(), mut theirs: impl Fn
         a = a.min(best(3, calls, &mut ours));
         b = b.min(best(3, calls, &mut theirs));
     }
-    println!("{name}: proved {:.1} us, second {:.1} us, ratio {:.2}", a * 1e6, b * 1e6, a / b);
+    println!("{name}: proved {:.0} ns, second {:.0} ns, ratio {:.2}", a * 1e9, b * 1e9, a / b);
 }
 
 fn main() {
@@ -40,6 +41,29 @@ fn main() {
         },
         || {
             black_box(second::checker::check(black_box(&bytes), black_box(&table))).unwrap();
+        },
+    );
+    let last = [1063, 1063, 0, 0];
+    assert_eq!(control(&bytes, &table, 0, 0, last), (0, [0, 0, 30_034, 5]));
+    compare(
+        "control, the last tile of that table",
+        100,
+        || {
+            black_box(control(black_box(&bytes), black_box(&table), 0, 0, last));
+        },
+        || {
+            black_box(second::control::control(black_box(&bytes), black_box(&table), State::IDLE, last)).unwrap();
+        },
+    );
+    compare(
+        "control, the next mode of its pattern",
+        2000,
+        || {
+            black_box(control(black_box(&bytes), black_box(&table), 30_034, 5, last));
+        },
+        || {
+            let running = State { place: 30_034, left: 5 };
+            black_box(second::control::control(black_box(&bytes), black_box(&table), running, last)).unwrap();
         },
     );
     compare(

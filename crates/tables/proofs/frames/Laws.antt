@@ -34,6 +34,9 @@ module _ (p : Plant) (g : Sound p) where
   pub rooms : p .n ≤ 4
   rooms = g .n-high
 
+  pub longest : p .k ≤ 6
+  longest = g .k-high
+
   pub root-small : Small edgeLimit (rootOf p)
   root-small = edges-small (g .root)
 

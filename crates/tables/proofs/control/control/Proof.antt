@@ -1,0 +1,62 @@
+-- `control::control`: the plant, then the call on its frame. Assumes nothing.
+use mathlib.Core.Path.{_≡_, sym, ap, _∙_}
+use denote.Ref.{now}
+use borrow.Author.Needs.{needs}
+use Rattle.meaning.specs.declared.Plant.{Plant}
+use Rattle.meaning.specs.declared.PlantRead.{PlantRead}
+use Rattle.meaning.specs.Control.{call}
+use Rattle.meaning.specs.Files.{good}
+use Rattle.meaning.specs.Plants.{plantJudged}
+use Rattle.meaning.specs.Tables.{rulesOf}
+use Rattle.tables.proofs.control.Laws.{plant-refused, plant-called, plant-good, frame-ready}
+use Rattle.tables.proofs.control.control.Statement.{statement}
+use Rattle.tables.proofs.control.control.Tie as tie
+
+-- a plant that was accepted is the one that its file was judged to be
+taken : (c : tie.After-enum-told) → plantJudged (now (c .before .before .before .before .before .args .plant)) ≡ good (c .before .before .read-plant .result .plant)
+taken c =
+    let r = c .before .before .read-plant in
+    plant-good (now (c .before .before .before .before .before .args .plant)) (ap (λ (a : PlantRead). a .verdict) (sym (r .ensures)) ∙ c .enum-told .given .1) ∙ ap (λ (a : PlantRead). good (a .plant)) (sym (r .ensures))
+
+read-plant-requires : tie.Need-read-plant-requires
+read-plant-requires c κs = search needs
+
+enum-known-verdict : tie.Need-enum-known-verdict
+enum-known-verdict c = search needs
+
+enum-told : tie.Need-enum-told
+enum-told c = search needs
+
+framed-requires : tie.Need-framed-requires
+framed-requires c κs = search needs
+
+call-requires : tie.Need-call-requires
+call-requires c κs =
+    let t = c .before .before in
+    frame-ready (now (t .before .before .before .before .before .args .plant)) (t .before .before .read-plant .result .plant) (c .framed .result) (taken t) (c .framed .ensures)
+
+returns : tie.Need-returns
+returns c =
+    let a = c .before .before .before .before .before .before .args in
+    let e = c .before .verdict .given in
+    plant-refused (now (a .plant)) (now (a .table)) (a .st) (a .x) (e .0 .0) (ap (λ (r : PlantRead). r .verdict) (sym (c .before .before .before .read-plant .ensures)) ∙ e .1)
+
+returns-2 : tie.Need-returns-2
+returns-2 c =
+    let t = c .before .before .before in
+    let a = t .before .before .before .before .before .args in
+    let p = t .before .before .read-plant .result .plant in
+    c .call .ensures (p .coef) ∙ ap (λ (q : Plant). call (rulesOf q) (now (a .table)) (a .st) (a .x)) (c .before .framed .ensures)
+    ∙ plant-called (now (a .plant)) (now (a .table)) (a .st) (a .x) p (taken t)
+
+pub control-spec : {M : Type 1} → statement M
+control-spec =
+    tie.close
+    (tie.spec
+    read-plant-requires
+    enum-known-verdict
+    enum-told
+    framed-requires
+    call-requires
+    returns
+    returns-2)

@@ -1,0 +1,104 @@
+// The controller's call (document 01, "The controller"): plant, table header, 12, 11, then the tree, in that order.
+// Relies on crate files for the plant, on headers, states and boxes for the tests, on finds for the tile. Leaves out how the state is kept between
+// calls.
+// A refused call has no state to go on with: the answer carries one only beside a mode.
+use crate::boxes;
+use crate::boxes::Bx;
+use crate::finds;
+use crate::frames;
+use crate::frames::Frame;
+use crate::headers;
+use crate::refusals;
+use crate::states;
+use files::plants;
+use meaning::Answer;
+use meaning::Found;
+use meaning::State;
+use meaning::Verdict;
+use meaning::Walk;
+ghost use mathlib.Core.Path.{_≡_};
+ghost use mathlib.Core.List.{List};
+ghost use Prim.Native.Nat.{_≤_};
+ghost use lib.IntN.{ℤ};
+ghost use Rattle.meaning.specs.Boxes.{fits};
+ghost use Rattle.meaning.specs.Control.{idleCall, runningCall, call};
+ghost use Rattle.meaning.specs.Tables.{readingOf, rulesOf, controlled};
+ghost use Rattle.tables.specs.Boxes.{boxOf};
+ghost use Rattle.tables.specs.Frames.{plantFrom};
+ghost use Rattle.tables.specs.Calls.{admission};
+ghost use Rattle.tables.specs.Trees.{Ready};
+
+// Whether a call may go on: the state can be, and then the box holds the reading; 12 before 11.
+fn admit(can: bool, n: usize, b: Bx, x: [i64; 4]) -> Verdict
+    requires { ⌜ n ≤ 4 ⌝ }
+    ensures { λ r. ⌜ r ≡ admission can (fits (boxOf n b) (readingOf n x)) ⌝ }
+{
+    let state = refusals::bad_state();
+    let missed = boxes::missed(n, b, x);
+    let reading = refusals::outside(missed);
+    if can {
+        if n <= missed {
+            return Verdict::Accepted;
+        }
+        return Verdict::Refused(reading);
+    }
+    Verdict::Refused(state)
+}
+
+// Idle: the reading must be in R; its tile is found, its first mode answered.
+fn idle_call(f: Frame, table: &[u8], at: usize, place: usize, x: [i64; 4]) -> Answer
+    requires { ⌜ Ready f (f .root) ⌝ }
+    ensures { λ r. ⌜ ((coef : List ℤ) → r ≡ idleCall (rulesOf (plantFrom f coef)) (now (table .entry)) at place x) ⌝ }
+{
+    match admit(place == 0, f.n, f.root, x) {
+        Verdict::Refused(e) => Answer::Refused(e),
+        Verdict::Accepted => match finds::find(f, table, at, f.root, f.d, x) {
+            Found::Refused(e) => Answer::Refused(e),
+            Found::Tile(from, k) => states::answer(table, from, k),
+        },
+    }
+}
+
+// Running: the reading must be in S; the mode at the place is answered.
+fn running_call(f: Frame, table: &[u8], place: usize, left: usize, x: [i64; 4]) -> Answer
+    requires { ⌜ (f .n ≤ 4) × (1 ≤ left) ⌝ }
+    ensures { λ r. ⌜ ((coef : List ℤ) → r ≡ runningCall (rulesOf (plantFrom f coef)) (now (table .entry)) place left x) ⌝ }
+{
+    let can = states::can_run(f, table, place, left);
+    match admit(can, f.n, f.safe, x) {
+        Verdict::Refused(e) => Answer::Refused(e),
+        Verdict::Accepted => states::answer(table, place, left),
+    }
+}
+
+// A call on a plant that was read.
+fn call(f: Frame, table: &[u8], st: State, x: [i64; 4]) -> Answer
+    requires { ⌜ Ready f (f .root) ⌝ }
+    ensures { λ r. ⌜ ((coef : List ℤ) → r ≡ call (rulesOf (plantFrom f coef)) (now (table .entry)) st x) ⌝ }
+{
+    match headers::header(f.n, table) {
+        Walk::Refused(e) => Answer::Refused(e),
+        Walk::Next(at) => {
+            if st.left == 0 {
+                idle_call(f, table, at, st.place, x)
+            } else {
+                running_call(f, table, st.place, st.left, x)
+            }
+        }
+    }
+}
+
+// What the controller answers to a reading, for every plant, table, state and reading. Numbers of the reading beyond n are ignored.
+pub fn control(plant: &[u8], table: &[u8], st: State, x: [i64; 4]) -> Answer
+    ensures { λ r. ⌜ r ≡ controlled (now (plant .entry)) (now (table .entry)) st x ⌝ }
+{
+    let read = plants::read_plant(plant);
+    let verdict = read.verdict;
+    match verdict {
+        Verdict::Refused(e) => Answer::Refused(e),
+        Verdict::Accepted => {
+            let p = read.plant;
+            call(frames::framed(p), table, st, x)
+        }
+    }
+}
