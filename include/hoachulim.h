@@ -1,4 +1,4 @@
-/* Hoachulim's exported functions. Each answers every input, keeps no state, and writes nothing but `out`.
+/* Hoachulim's exported functions. Each answers every input, keeps no state, and writes nothing but `out` and a lent buffer.
    They are proved (crates/face); link target/staticlib/libface.a, which `rt staticlib face` writes.
 
    A number is 0, or that of the refusal; out[0] is its place and out[1] its step, each 0 where it has none. */
@@ -18,6 +18,11 @@ uint8_t hoachulim_plant(const uint8_t *plant, size_t plant_length, uint64_t out[
 /* A table file for a plant file. */
 uint8_t hoachulim_check(const uint8_t *plant, size_t plant_length,
                         const uint8_t *table, size_t table_length, uint64_t out[2]);
+
+/* The table of a plant, made into a lent buffer; no table has more than 30,039 bytes. out[0] is the length written where the number is 0.
+   Finished, only the table's bytes are changed; refused, the whole buffer is zeros. */
+uint8_t hoachulim_make(const uint8_t *plant, size_t plant_length,
+                       uint8_t *buffer, size_t buffer_length, uint64_t out[2]);
 
 /* One call of the controller, once each sample. Idle is place 0, left 0; hand back out[2] and out[3] at the next call.
    x0..x3 is the reading; numbers beyond the plant's rooms are ignored.

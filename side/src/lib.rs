@@ -13,6 +13,13 @@ extern "C" {
         table_length: usize,
         out: *mut u64,
     ) -> u8;
+    fn hoachulim_make(
+        plant: *const u8,
+        plant_length: usize,
+        buffer: *mut u8,
+        buffer_length: usize,
+        out: *mut u64,
+    ) -> u8;
     fn hoachulim_control(
         plant: *const u8,
         plant_length: usize,
@@ -40,6 +47,15 @@ pub fn check(plant: &[u8], table: &[u8]) -> (u8, u64, u64) {
     let mut out = [u64::MAX; 2];
     let number = unsafe {
         hoachulim_check(plant.as_ptr(), plant.len(), table.as_ptr(), table.len(), out.as_mut_ptr())
+    };
+    (number, out[0], out[1])
+}
+
+/// The table that the library makes of a plant's bytes: number, and length written or place, and step.
+pub fn make(plant: &[u8], buffer: &mut [u8]) -> (u8, u64, u64) {
+    let mut out = [u64::MAX; 2];
+    let number = unsafe {
+        hoachulim_make(plant.as_ptr(), plant.len(), buffer.as_mut_ptr(), buffer.len(), out.as_mut_ptr())
     };
     (number, out[0], out[1])
 }

@@ -4,11 +4,17 @@ use mathlib.Core.List.{List, [], _∷_}
 use lib.IntN.{natAbs}
 use Rattle.laws.specs.Lists.{at}
 use Rattle.meaning.specs.declared.State.{State}
+use Rattle.meaning.specs.declared.Written.{Written}
 use Rattle.meaning.specs.Refusals.{Shown}
 
 -- place and step
 abbrev pub placeAndStep : Shown → List ℕ
 placeAndStep a = a .place ∷ a .step ∷ []
+
+-- of a writer's answer: the length written, or the refusal's place and step
+abbrev pub lengthOrPlace : Written → List ℕ
+lengthOrPlace (Written.Length m) = m ∷ 0 ∷ []
+lengthOrPlace (Written.Refused e) = e .place ∷ e .step ∷ []
 
 -- of a controller's answer: the mode; and number, place, next place, next left
 abbrev pub mode : Shown → ℕ

@@ -6,13 +6,14 @@ use files::plants;
 use meaning::State;
 use tables::checks;
 use tables::control;
+use tables::makes;
 ghost use mathlib.Core.Path.{_≡_};
 ghost use Rattle.meaning.specs.Plants.{plantRead};
 ghost use mathlib.Core.List.{[], _∷_};
 ghost use Rattle.meaning.specs.declared.State.{State};
-ghost use Rattle.meaning.specs.Refusals.{verdictShown, answerShown};
-ghost use Rattle.meaning.specs.Tables.{checked, controlled};
-ghost use Rattle.face.specs.Numbers.{placeAndStep, mode, numberAndState, stateOf};
+ghost use Rattle.meaning.specs.Refusals.{verdictShown, writtenShown, answerShown};
+ghost use Rattle.meaning.specs.Tables.{checked, makerLeft, controlled};
+ghost use Rattle.face.specs.Numbers.{placeAndStep, lengthOrPlace, mode, numberAndState, stateOf};
 
 // A plant file: 0, or the number that it is refused by; out holds place and step.
 #[no_mangle]
@@ -33,6 +34,18 @@ pub extern "C" fn hoachulim_check(plant: &[u8], table: &[u8], out: &mut [u64; 2]
 {
     let verdict = checks::check(plant, table);
     shown::verdict(verdict, out)
+}
+
+// The table of a plant file into a lent buffer: 0, or the number of the refusal; out holds the length written, or place and step. Finished, only
+// the table's bytes are changed; refused, the buffer is all zeros.
+#[no_mangle]
+pub extern "C" fn hoachulim_make(plant: &[u8], buf: &mut [u8], out: &mut [u64; 2]) -> u8
+    ensures number { λ r. ⌜ r ≡ writtenShown (makerLeft (now (plant .entry)) (now (buf .entry)) .answer) .number ⌝ }
+    ensures length { λ r. ⌜ now (out .exit) ≡ lengthOrPlace (makerLeft (now (plant .entry)) (now (buf .entry)) .answer) ⌝ }
+    ensures bytes { λ r. ⌜ now (buf .exit) ≡ makerLeft (now (plant .entry)) (now (buf .entry)) .buffer ⌝ }
+{
+    let written = makes::make(plant, buf);
+    shown::written(written, out)
 }
 
 // One call of the controller: the mode, 255 where it is refused; out holds number and place of the refusal, then the next place and left.

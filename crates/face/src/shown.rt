@@ -1,10 +1,11 @@
 // Answers as numbers, the way C takes them. Relies on crates/meaning, page Refusals. Leaves out where the answer comes from.
 use meaning::Answer;
 use meaning::Verdict;
+use meaning::Written;
 ghost use mathlib.Core.Path.{_≡_};
 ghost use Prim.Native.Nat.{_<_};
-ghost use Rattle.meaning.specs.Refusals.{verdictShown, answerShown};
-ghost use Rattle.face.specs.Numbers.{placeAndStep, mode, numberAndState};
+ghost use Rattle.meaning.specs.Refusals.{verdictShown, writtenShown, answerShown};
+ghost use Rattle.face.specs.Numbers.{placeAndStep, lengthOrPlace, mode, numberAndState};
 
 // The number of a verdict; out holds place and step.
 pub fn verdict(v: Verdict, out: &mut [u64; 2]) -> u8
@@ -17,6 +18,25 @@ pub fn verdict(v: Verdict, out: &mut [u64; 2]) -> u8
             0
         }
         Verdict::Refused(e) => {
+            let place = e.place as u64;
+            let step = e.step as u64;
+            *out = [place, step];
+            e.number
+        }
+    }
+}
+
+// The number of a writer's answer; out holds the length written, or place and step.
+pub fn written(w: Written, out: &mut [u64; 2]) -> u8
+    ensures number { λ r. ⌜ r ≡ writtenShown w .number ⌝ }
+    ensures length { λ r. ⌜ now (out .exit) ≡ lengthOrPlace w ⌝ }
+{
+    match w {
+        Written::Length(m) => {
+            *out = [m as u64, 0];
+            0
+        }
+        Written::Refused(e) => {
             let place = e.place as u64;
             let step = e.step as u64;
             *out = [place, step];

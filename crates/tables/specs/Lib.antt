@@ -5,3 +5,5 @@ pub mod Tiles
 pub mod Modes
 pub mod Trees
 pub mod Calls
+pub mod Search
+pub mod Makes

@@ -1,6 +1,6 @@
-// Tables of document 01: the checker (checks) and the controller's call (control). The other modules are private to the crate: their functions
-// ask something of a plant that was judged (`requires`), which only callers inside the crate can be asked to prove; what another crate may call
-// has no `requires`.
+// Tables of document 01: the maker (makes), the checker (checks) and the controller's call (control). The other modules are private to the
+// crate: their functions ask something of a plant that was judged (`requires`), which only callers inside the crate can be asked to prove; what
+// another crate may call has no `requires`.
 mod boxes;
 pub mod checks;
 pub mod control;
@@ -9,8 +9,10 @@ mod finds;
 mod frames;
 mod headers;
 mod images;
+pub mod makes;
 mod modes;
 mod passes;
 mod refusals;
+mod search;
 mod states;
 mod tiles;

@@ -53,3 +53,13 @@ pub fn bad_state() -> Refusal
         step: 0,
     }
 }
+
+pub fn no_table() -> Refusal
+    ensures { λ r. ⌜ r ≡ R.noTable ⌝ }
+{
+    Refusal {
+        number: 9,
+        place: 0,
+        step: 0,
+    }
+}

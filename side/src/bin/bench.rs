@@ -3,7 +3,7 @@
 //! says that the proved library is the faster.
 
 use second::control::State;
-use side::{check, control, largest_table_plant, plant};
+use side::{check, control, largest_table_plant, make, plant};
 use std::hint::black_box;
 use std::time::Instant;
 
@@ -41,6 +41,17 @@ fn main() {
         },
         || {
             black_box(second::checker::check(black_box(&bytes), black_box(&table))).unwrap();
+        },
+    );
+    let (mut ours, mut theirs) = (table.clone(), table.clone());
+    compare(
+        "make, that table",
+        2,
+        || {
+            black_box(make(black_box(&bytes), black_box(&mut ours)));
+        },
+        || {
+            black_box(second::maker::make(black_box(&bytes), black_box(&mut theirs))).unwrap();
         },
     );
     let last = [1063, 1063, 0, 0];

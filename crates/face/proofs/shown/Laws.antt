@@ -5,17 +5,21 @@ use mathlib.Core.List.{List}
 use native.Mathlib.Omega.{arith}
 use lib.ListN.{getD}
 use Rattle.meaning.specs.declared.Verdict.{Verdict}
+use Rattle.meaning.specs.declared.Written.{Written}
 use Rattle.meaning.specs.declared.Answer.{Answer}
 use Rattle.meaning.specs.declared.State.{State}
-use Rattle.meaning.specs.Refusals.{verdictShown, answerShown}
+use Rattle.meaning.specs.Refusals.{verdictShown, writtenShown, answerShown}
 use Rattle.promises.specs.ModeBytes.{Stands}
-use Rattle.face.specs.Numbers.{placeAndStep, mode, numberAndState}
+use Rattle.face.specs.Numbers.{placeAndStep, lengthOrPlace, mode, numberAndState}
 
 pub of-case : {v w : Verdict} → v ≡ w → (verdictShown v .number ≡ verdictShown w .number) × (placeAndStep (verdictShown v) ≡ placeAndStep (verdictShown w))
 of-case e = (ap (λ (v : Verdict). verdictShown v .number) e, ap (λ (v : Verdict). placeAndStep (verdictShown v)) e)
 
 pub of-answer : {a b : Answer} → a ≡ b → (mode (answerShown a) ≡ mode (answerShown b)) × (numberAndState (answerShown a) ≡ numberAndState (answerShown b))
 of-answer e = (ap (λ (a : Answer). mode (answerShown a)) e, ap (λ (a : Answer). numberAndState (answerShown a)) e)
+
+pub of-written : {v w : Written} → v ≡ w → (writtenShown v .number ≡ writtenShown w .number) × (lengthOrPlace v ≡ lengthOrPlace w)
+of-written e = (ap (λ (v : Written). writtenShown v .number) e, ap lengthOrPlace e)
 
 -- a mode that is a byte, and 255 where there is none
 pub mode-small : (a : Answer) (table : List ℕ) → ((i : ℕ) → getD table i 0 < 256) → ((u : ℕ) (then : State) → a ≡ Answer.Mode u then → Stands table u) → mode (answerShown a) < 256

@@ -1,0 +1,21 @@
+-- `shown::written`: what is answered and stored is that of the case that the answer is. Assumes nothing.
+use mathlib.Core.Path.{sym}
+use borrow.Author.Needs.{needs}
+use Rattle.face.proofs.shown.Laws.{of-written}
+use Rattle.face.proofs.shown.written.Statement.{statement}
+use Rattle.face.proofs.shown.written.Tie as tie
+
+enum-known-w : tie.Need-enum-known-w
+enum-known-w c = search needs
+
+enum-known-w-2 : tie.Need-enum-known-w-2
+enum-known-w-2 c = search needs
+
+returns : tie.Need-returns
+returns c = of-written (sym (c .before .before .w .given .1))
+
+returns-2 : tie.Need-returns-2
+returns-2 c = of-written (sym (c .before .before .w2 .given .1))
+
+pub written-spec : {M : Type 1} → statement M
+written-spec = tie.close (tie.spec enum-known-w enum-known-w-2 returns returns-2)

@@ -1,0 +1,230 @@
+-- The defined table, written: a tile's modes one after another; a box by its first pattern; the children of a split one after another; the whole
+-- by its parts. Assumes nothing.
+use Prim.Native.Nat.{ℕ, zero, suc, _+_, _-_, _≤_, _<_}
+use mathlib.Core.Path.{_≡_, refl, sym, ap, _∙_}
+use mathlib.Core.Bool.{Bool, true, false}
+use mathlib.Core.List.{List, [], _∷_, _++_}
+use mathlib.Core.Option.{Option, none, some}
+use native.Mathlib.Omega.{arith}
+use native.Mathlib.Numerals.{add-one}
+use borrow.Author.Tests.{le-leb, lt-leb}
+use lib.ListN.{length, getD, drop, drop-of-length-le}
+use lib.Seq.{drop-cons}
+use Rattle.laws.specs.Writing.{Put, put-append, put-length, put-none}
+use Rattle.meaning.specs.declared.Refusal.{Refusal}
+use Rattle.meaning.specs.declared.Plant.{Plant}
+use Rattle.meaning.specs.declared.Written.{Written}
+use Rattle.meaning.specs.Refusals.{noTable, short}
+use Rattle.meaning.specs.Numbers.{bytesOf}
+use Rattle.meaning.specs.Files.{good, bad}
+use Rattle.meaning.specs.Buffers.{refusedWith, left}
+use Rattle.meaning.specs.Boxes.{Side, children}
+use Rattle.meaning.specs.Plants.{plantJudged, rootOf}
+use Rattle.meaning.specs.Rules.{Rules}
+use Rattle.meaning.specs.Trees.{Tree, Forest, split, tile, more, modesBytes, layout, layouts, tableOf}
+use Rattle.meaning.specs.Defined.{mapSome, andAlso, allOf, splitOf, firstPattern, treeOf, definedTree}
+use Rattle.meaning.specs.Tables.{rulesOf, tableBytes, made, makerLeft}
+use Rattle.tables.specs.declared.makes.Grown.{Grown}
+use Rattle.tables.specs.Tiles.{modeAt}
+use Rattle.tables.specs.Search.{backwards, soughtOf}
+use Rattle.tables.specs.Makes.{Wrote, treeBytes, treesBytes, definedBytes}
+use Rattle.tables.proofs.search.Laws.{backwards-length}
+
+-- ---- a tile: so many of its modes are left
+
+pub tile-whole : (k : ℕ) (us : List ℕ) {buf : List ℕ} {at next : ℕ} {mid : List ℕ} {last : ℕ} {out : List ℕ} → Put buf at (bytesOf k) next mid → Put mid next (modesBytes (backwards k us)) last out
+    → Put buf at (layout (tile (backwards k us))) last out
+unfolding layout
+tile-whole k us t v = rw (backwards-length k us) (put-append t v)
+
+pub tile-mode : (left : ℕ) (us : List ℕ) → 0 < left → modesBytes (backwards left us) ≡ bytesOf (modeAt us (left - 1)) ++ modesBytes (backwards (left - 1) us)
+unfolding modesBytes backwards
+tile-mode zero us h = absurd (omega arith)
+tile-mode (suc left) us h = let e : suc left - 1 ≡ left = omega arith in rw e refl
+
+pub tile-end : (left : ℕ) (us : List ℕ) → left ≤ 0 → modesBytes (backwards left us) ≡ []
+unfolding modesBytes backwards
+tile-end zero us h = refl
+tile-end (suc left) us h = absurd (omega arith)
+
+-- ---- some bytes, and behind them what may not exist
+
+wrote-behind : {buf : List ℕ} {at : ℕ} {xs : List ℕ} {next : ℕ} {mid : List ℕ} → Put buf at xs next mid
+    → (o : Option (List ℕ)) (a : Grown) (out : List ℕ) → Wrote o mid next a out → Wrote (mapSome (λ ys. xs ++ ys) o) buf at a out
+wrote-behind t (some ys) (Grown.Next n) out w = put-append t w
+wrote-behind t (some ys) Grown.Nothing out w = w
+wrote-behind t none (Grown.Next n) out w = w
+wrote-behind t none Grown.Nothing out w = w ∙ put-length t
+
+-- the buffer stays as long as it was
+pub wrote-length : (o : Option (List ℕ)) (buf : List ℕ) (at : ℕ) (a : Grown) (out : List ℕ) → Wrote o buf at a out → length out ≡ length buf
+wrote-length (some ys) buf at (Grown.Next n) out w = put-length w
+wrote-length (some ys) buf at Grown.Nothing out w = absurd w
+wrote-length none buf at (Grown.Next n) out w = absurd w
+wrote-length none buf at Grown.Nothing out w = w
+
+-- ---- a box by its first pattern
+
+module _ (r : Rules) (d : ℕ) (b : Rules.Box r) where
+  box-tile : (us : List ℕ) → firstPattern r b ≡ some us → treeBytes r d b ≡ some (layout (tile us))
+  unfolding treeOf
+  box-tile us e = go d
+    where
+      go : (d : ℕ) → treeBytes r d b ≡ some (layout (tile us))
+      go zero = rw e refl
+      go (suc d) = rw e refl
+
+  box-deep : firstPattern r b ≡ none → d ≡ 0 → treeBytes r d b ≡ none
+  unfolding treeOf
+  box-deep e h = rw (h, e) refl
+
+  box-stuck : firstPattern r b ≡ none → Rules.children r b ≡ [] → treeBytes r d b ≡ none
+  unfolding treeOf
+  box-stuck e h = go d
+    where
+      go : (d : ℕ) → treeBytes r d b ≡ none
+      go zero = rw e refl
+      go (suc d) = rw (e, h) refl
+
+-- number 0, then the children
+split-bytes : (o : Option Forest) → mapSome layout (mapSome split o) ≡ mapSome (λ ys. bytesOf 0 ++ ys) (mapSome layouts o)
+unfolding layout
+split-bytes (some f) = refl
+split-bytes none = refl
+
+box-split : (r : Rules) (d : ℕ) (b : Rules.Box r) → firstPattern r b ≡ none → (Rules.children r b ≡ [] → ⊥)
+    → treeBytes r (suc d) b ≡ mapSome (λ ys. bytesOf 0 ++ ys) (treesBytes r d (Rules.children r b))
+unfolding treeOf
+box-split r d b e h = rw e (go (Rules.children r b) h)
+  where
+    go : (bs : List (Rules.Box r)) → (bs ≡ [] → ⊥) → mapSome layout (splitOf (λ c. treeOf r d c) bs) ≡ mapSome (λ ys. bytesOf 0 ++ ys) (treesBytes r d bs)
+    go [] z = absurd (z refl)
+    go (b ∷ bs) z = split-bytes (allOf (λ c. treeOf r d c) (b ∷ bs))
+
+-- a tree and those behind it
+more-bytes : (t : Tree) (o : Option Forest) → mapSome layouts (mapSome (more t) o) ≡ mapSome (λ ys. layout t ++ ys) (mapSome layouts o)
+unfolding layouts
+more-bytes t (some f) = refl
+more-bytes t none = refl
+
+-- ---- the trees of some boxes, in a loop: those of `rest` are to be written, from `place` on
+
+pub record Growing (buf₀ : List ℕ) (at : ℕ) (whole rest : Option (List ℕ)) (place : ℕ) (buf : List ℕ) : Type 0 where
+  pub long : length buf ≡ length buf₀
+  pub within : place ≤ length buf + 1
+  -- whoever writes the rest has written the whole
+  pub goes : (a : Grown) (out : List ℕ) → Wrote rest buf place a out → Wrote whole buf₀ at a out
+
+pub grow-none : (buf : List ℕ) (at : ℕ) (whole : Option (List ℕ)) → at ≤ length buf + 1 → Growing buf at whole whole at buf
+grow-none buf at whole h = record { long = refl; within = h; goes = λ a out w. w }
+
+module _ (r : Rules) (d : ℕ) (bs : List (Rules.Box r)) (c : ℕ) (buf₀ : List ℕ) (at : ℕ) (whole : Option (List ℕ)) (place : ℕ) (buf : List ℕ) (g : Growing buf₀ at whole (treesBytes r d (drop c bs)) place buf) where
+  pub grow-done : length bs ≤ c → Wrote whole buf₀ at (Grown.Next place) buf
+  unfolding allOf layouts
+  grow-done h = g .goes (Grown.Next place) buf (rw at-end (put-none buf place (g .within)))
+    where
+      at-end : treesBytes r d (drop c bs) ≡ some []
+      at-end = rw (drop-of-length-le bs h) refl
+
+  -- the next box, as the code has it, and what was written for it
+  module _ (b₀ : Rules.Box r) (h : c < length bs) (kid : Rules.Box r) (k : kid ≡ getD bs c b₀) (a : Grown) (out : List ℕ) (w : Wrote (treeBytes r d kid) buf place a out) where
+    next-box : (o : Option Tree) → treeOf r d kid ≡ o → treesBytes r d (drop c bs) ≡ mapSome layouts (andAlso o λ _. allOf (λ c. treeOf r d c) (drop (c + 1) bs))
+    unfolding allOf
+    next-box o e = rw (add-one, drop-cons bs c b₀ h, ← k, e) refl
+
+    pub grow-stopped : a ≡ Grown.Nothing → Wrote whole buf₀ at Grown.Nothing out
+    grow-stopped z = go (treeOf r d kid) refl (rw z at w)
+      where
+        go : (o : Option Tree) → treeOf r d kid ≡ o → Wrote (mapSome layout o) buf place Grown.Nothing out → Wrote whole buf₀ at Grown.Nothing out
+        go (some t) e v = absurd v
+        go none e v = g .goes Grown.Nothing out (rw (next-box none e) v)
+
+    pub grow-more : (next : ℕ) → a ≡ Grown.Next next → Growing buf₀ at whole (treesBytes r d (drop (c + 1) bs)) next out
+    grow-more next z = go (treeOf r d kid) refl (rw z at w)
+      where
+        go : (o : Option Tree) → treeOf r d kid ≡ o → Wrote (mapSome layout o) buf place (Grown.Next next) out → Growing buf₀ at whole (treesBytes r d (drop (c + 1) bs)) next out
+        go none e v = absurd v
+        go (some t) e v = record {
+          long = put-length v ∙ g .long;
+          within = omega (arith, v .place, put-length v);
+          goes = λ x o u.
+              g .goes x o (rw (next-box (some t) e ∙ more-bytes t (allOf (λ c. treeOf r d c) (drop (c + 1) bs))) (wrote-behind v (treesBytes r d (drop (c + 1) bs)) x o u));
+        }
+
+-- ---- a node: what was sought for its box, and what is written
+
+empty : {A : Type 0} (xs : List A) → length xs ≡ 0 → xs ≡ []
+empty [] e = refl
+empty (x ∷ xs) e = absurd (omega arith)
+
+module _ (p : Plant) (d : ℕ) (b : List Side) (found : Bool) (us : List ℕ) (q : soughtOf found us ≡ firstPattern (rulesOf p) b) (buf : List ℕ) (at : ℕ) where
+  pub node-tile : found ≡ true → (next : ℕ) (out : List ℕ) → Put buf at (layout (tile us)) next out → Wrote (treeBytes (rulesOf p) d b) buf at (Grown.Next next) out
+  node-tile z next out t = rw (box-tile (rulesOf p) d b us (sym q ∙ rw z refl)) t
+
+  module _ (z : found ≡ false) where
+    nothing : firstPattern (rulesOf p) b ≡ none
+    nothing = sym q ∙ rw z refl
+
+    pub node-deep : d ≡ 0 → Wrote (treeBytes (rulesOf p) d b) buf at Grown.Nothing buf
+    node-deep h = rw (box-deep (rulesOf p) d b nothing h) refl
+
+    pub node-stuck : length (children b) ≡ 0 → Wrote (treeBytes (rulesOf p) d b) buf at Grown.Nothing buf
+    node-stuck h = rw (box-stuck (rulesOf p) d b nothing (empty (children b) h)) refl
+
+    pub node-split : (d ≡ 0 → ⊥) → (length (children b) ≡ 0 → ⊥) → (place : ℕ) (mid : List ℕ) → Put buf at (bytesOf 0) place mid
+        → (a : Grown) (out : List ℕ) → Wrote (treesBytes (rulesOf p) (d - 1) (children b)) mid place a out → Wrote (treeBytes (rulesOf p) d b) buf at a out
+    node-split h l place mid t a out w =
+        let k : d ≡ suc (d - 1) = omega arith in
+        let e : treeBytes (rulesOf p) d b ≡ mapSome (λ ys. bytesOf 0 ++ ys) (treesBytes (rulesOf p) (d - 1) (children b)) =
+        ap (λ (i : ℕ). treeBytes (rulesOf p) i b) k ∙ box-split (rulesOf p) (d - 1) b nothing (λ n. l (ap length n)) in
+        rw e (wrote-behind t (treesBytes (rulesOf p) (d - 1) (children b)) a out w)
+
+-- ---- the whole table: form 1, n, then the tree of R; of a plant that is the same, however it is held
+
+header-bytes : (r : Rules) (o : Option Tree) → mapSome (tableOf r) o ≡ mapSome (λ ys. bytesOf 1 ++ ys) (mapSome (λ ys. bytesOf (Rules.n r) ++ ys) (mapSome layout o))
+header-bytes r (some t) = refl
+header-bytes r none = refl
+
+pub table-wrote : (p q : Plant) → p ≡ q → {buf : List ℕ} {past-form : ℕ} {mid : List ℕ} {past-rooms : ℕ} {behind : List ℕ} → Put buf 0 (bytesOf 1) past-form mid → Put mid past-form (bytesOf (p .n)) past-rooms behind
+    → (a : Grown) (out : List ℕ) → Wrote (treeBytes (rulesOf p) (p .d) (rootOf p)) behind past-rooms a out → Wrote (definedBytes (rulesOf q)) buf 0 a out
+table-wrote p q e t v a out w =
+    let o = treeBytes (rulesOf p) (p .d) (rootOf p) in
+    rw (← e, header-bytes (rulesOf p) (definedTree (rulesOf p))) (wrote-behind t (mapSome (λ ys. bytesOf (p .n) ++ ys) o) a out (wrote-behind v o a out w))
+
+-- ---- the maker: plant, 9, 10
+
+module _ (plant buf : List ℕ) where
+  pub left-bad : (e : Refusal) → plantJudged plant ≡ bad e → makerLeft plant buf ≡ refusedWith e buf
+  unfolding makerLeft made
+  left-bad e h = rw h refl
+
+  module _ (p : Plant) (h : plantJudged plant ≡ good p) where
+    judged : makerLeft plant buf ≡ left (tableBytes (rulesOf p) (definedTree (rulesOf p))) buf
+    unfolding makerLeft made
+    judged = rw h refl
+
+    module _ (a : Grown) (out : List ℕ) (w : Wrote (definedBytes (rulesOf p)) buf 0 a out) where
+      pub left-none : a ≡ Grown.Nothing → makerLeft plant buf ≡ refusedWith noTable buf
+      left-none z = judged ∙ go (definedTree (rulesOf p)) (rw z at w)
+        where
+          go : (o : Option Tree) → Wrote (mapSome (tableOf (rulesOf p)) o) buf 0 Grown.Nothing out → left (tableBytes (rulesOf p) o) buf ≡ refusedWith noTable buf
+          go (some t) v = absurd v
+          go none v = refl
+
+      module _ (size : ℕ) (z : a ≡ Grown.Next size) where
+        pub left-short : length buf < size → makerLeft plant buf ≡ refusedWith short buf
+        left-short l = judged ∙ go (definedTree (rulesOf p)) (rw z at w)
+          where
+            go : (o : Option Tree) → Wrote (mapSome (tableOf (rulesOf p)) o) buf 0 (Grown.Next size) out → left (tableBytes (rulesOf p) o) buf ≡ refusedWith short buf
+            go none v = absurd v
+            go (some t) v = let g : length buf < length (tableOf (rulesOf p) t) = omega (arith, v .place) in simp (lt-leb _ _ g)
+
+        pub left-done : size ≤ length buf → makerLeft plant buf ≡ record { answer = Written.Length size; buffer = out }
+        left-done l = judged ∙ go (definedTree (rulesOf p)) (rw z at w)
+          where
+            go : (o : Option Tree) → Wrote (mapSome (tableOf (rulesOf p)) o) buf 0 (Grown.Next size) out → left (tableBytes (rulesOf p) o) buf ≡ record { answer = Written.Length size; buffer = out }
+            go none v = absurd v
+            go (some t) v =
+                let g : length (tableOf (rulesOf p) t) ≤ length buf = omega (arith, v .place) in
+                let q : length (tableOf (rulesOf p) t) ≡ size = omega (arith, v .place) in
+                simp (le-leb _ _ g) (rw (q, v .bytes) refl)

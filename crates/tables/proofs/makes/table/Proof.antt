@@ -1,0 +1,53 @@
+-- `makes::table`: header, then the tree of R, at the frame that the plant was taken apart into. Assumes nothing.
+use mathlib.Core.Path.{sym, subst}
+use Rattle.meaning.specs.declared.Plant.{Plant}
+use Rattle.promises.specs.Sound.{Sound}
+use Rattle.tables.specs.Frames.{plantFrom}
+use Rattle.tables.proofs.frames.Laws.{root-small}
+use Rattle.tables.proofs.makes.Laws.{table-wrote}
+use borrow.Author.Needs.{needs}
+use Rattle.tables.proofs.makes.table.Statement.{statement}
+use Rattle.tables.proofs.makes.table.Tie as tie
+
+-- the frame was made: the plant by it
+module _ (c : tie.After-framed) where
+  abbrev plant : Plant
+  plant = plantFrom (c .framed .result) (c .before .before .args .p .coef)
+
+  sound : Sound plant
+  sound = subst Sound (sym (c .framed .ensures)) (c .before .before .pre)
+
+framed-requires : tie.Need-framed-requires
+framed-requires c κs = search needs
+
+put-number-requires : tie.Need-put-number-requires
+put-number-requires c κs = search needs
+
+put-number-requires-2 : tie.Need-put-number-requires-2
+put-number-requires-2 c κs = search needs
+
+slice-aggregate-tree : tie.Need-slice-aggregate-tree
+slice-aggregate-tree c = search needs
+
+tree-requires : tie.Need-tree-requires
+tree-requires c κs = let f = c .before .before .before .before .before .before .before .before .before .before .before .before in (sound f, root-small (plant f) (sound f))
+
+same-length : tie.Need-same-length
+same-length c = search needs
+
+returns : tie.Need-returns
+returns c =
+    let f = c .before .before .before .before .before .before .before .before .before .before .before .before .before .before .before in
+    table-wrote (plant f) (f .before .before .args .p) (f .framed .ensures) (c .before .before .before .before .before .before .before .before .before .before .before .put-number .ensures) (c .before .before .before .before .before .before .before .put-number2 .ensures) (c .before .before .tree .result) (c .before .before .tree .last .1 .1 .1 .1 .0) (c .before .before .tree .ensures)
+
+pub table-spec : {M : Type 1} → statement M
+table-spec =
+    tie.close
+    (tie.spec
+    framed-requires
+    put-number-requires
+    put-number-requires-2
+    slice-aggregate-tree
+    tree-requires
+    same-length
+    returns)
