@@ -1,5 +1,5 @@
 -- Lines worked out by hand from document 01, where the second program has no answer to compare with or the paper states the answer itself:
--- what may follow, lines 10 and 12, and the sheet's own equation with its floats taken exactly.
+-- what may follow, lines 10 and 12, a table with two faults, and the sheet's own equation with its floats taken exactly.
 use Prim.Native.Nat.{ℕ}
 use mathlib.Core.Path.{_≡_, refl}
 use mathlib.Core.Bool.{Bool, true, false}
@@ -7,12 +7,12 @@ use mathlib.Core.List.{List, [], _∷_}
 use lib.IntN.{ℤ, pos, negℤ}
 use Rattle.meaning.specs.declared.Verdict.{Verdict}
 use Rattle.meaning.specs.declared.Answer.{Answer}
-use Rattle.meaning.specs.Refusals.{broken, narrow, outside}
+use Rattle.meaning.specs.Refusals.{broken, narrow, outside, leaves}
 use Rattle.meaning.specs.Files.{fileOf}
 use Rattle.meaning.specs.Images.{follows}
 use Rattle.meaning.specs.Plants.{plantForm, plantOf, plantRead, stepOf}
 use Rattle.meaning.specs.Control.{idle}
-use Rattle.meaning.specs.Tables.{controlled}
+use Rattle.meaning.specs.Tables.{checked, controlled}
 use Rattle.meaning.specs.Sheets.{sheetOf, exactStep}
 use Rattle.meaning.specs.Computing.{computing}
 
@@ -41,6 +41,12 @@ line-10 = (refl, refl, refl, refl)
 line-12 : (plantRead [] .verdict ≡ Verdict.Refused (broken 0)) × (plantRead (fileOf plantForm (plantP 3)) .verdict ≡ Verdict.Refused (narrow 0))
 unfolding computing
 line-12 = (refl, refl)
+
+-- Images are tested where the tile stands: from 195..210 mode 0 leads to 185 and leaves S, which is told (7 at 3, step 1) before the node of 3
+-- modes behind it, one more than K (6 at 5).
+in-order : checked P (1 ∷ 1 ∷ 0 ∷ 1 ∷ 0 ∷ 3 ∷ []) ≡ Verdict.Refused (leaves 3 1)
+unfolding computing
+in-order = refl
 
 -- 10·y − (9·195 + 100) lies in −5..4 for y = 185 (it is −5) and for no neighbour; from 196 for y = 186 (−4)
 abbrev after : ℕ → ℕ → Bool
