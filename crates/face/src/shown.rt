@@ -36,12 +36,7 @@ pub fn written(w: Written, out: &mut [u64; 2]) -> u8
             *out = [m as u64, 0];
             0
         }
-        Written::Refused(e) => {
-            let place = e.place as u64;
-            let step = e.step as u64;
-            *out = [place, step];
-            e.number
-        }
+        Written::Refused(e) => verdict(Verdict::Refused(e), out),
     }
 }
 
