@@ -90,3 +90,21 @@ pub fn largest_table_plant() -> Vec<u8> {
     fields.extend([4, -13, 0, 1, -3, 0].map(S));
     file(&fields)
 }
+
+/// Four rooms, sixteen modes, patterns of six: every image stays in S and none ends in R, so that the first box costs all the images it can.
+pub fn four_rooms_without_a_table() -> Vec<u8> {
+    use common::{file, S, U};
+    let limit = 1_000_000;
+    let mut fields = vec![U(1), U(4), U(16), U(1000), U(6), U(0)];
+    for (lo, hi) in [(2000, 2250), (2000, 2250), (2000, 2250), (9000, 9100)] {
+        fields.extend([lo, hi, -limit, limit].map(S));
+    }
+    fields.extend([-500, 499].repeat(4).into_iter().map(S));
+    for mode in 0..16 {
+        for i in 0..4 {
+            fields.extend((0..4).map(|j| S(if i == j { 900 } else { 30 - 3 * ((i + j) % 3) })));
+            fields.push(S(20_000 + 30_000 * (mode >> i & 1)));
+        }
+    }
+    file(&fields)
+}

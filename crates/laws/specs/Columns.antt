@@ -1,37 +1,26 @@
 -- Entries of a list that are taken out into arrays, and put together again: `tab` and `tabs` joined, and zeros behind what `padded` made up. Assumes nothing.
 use Prim.Native.Nat.{ℕ, zero, suc, _+_, _-_, _*_, _≤_, _<_}
 use mathlib.Core.Path.{_≡_, refl, sym, ap, _∙_}
-use mathlib.Core.List.{List, _∷_, _++_}
+use mathlib.Core.List.{List, [], _∷_, _++_}
 use native.Mathlib.Omega.{arith}
-use native.Mathlib.Nat.{zero-add, add-zero, mul-zero}
+use native.Mathlib.Nat.{zero-add, mul-zero}
 use native.Mathlib.Decide.{decLt}
-use lib.ListN.{length, replicate, List·getD-eq-default, getD-replicate}
+use lib.ListN.{length, getD, drop, replicate, List·getD-eq-default, getD-replicate}
 use lib.Seq.{getD-append-add, ext-getD}
 use lib.IntN.{ℤ, pos}
 use Rattle.laws.specs.Lists.{at, tab, tabs, padded}
-use Rattle.laws.specs.Tabs.{length-tab, getD-tab, padded-size, Filled}
+use Rattle.laws.specs.Tabs.{length-tab, getD-tab, padding-size, FilledBy, Filled}
 
 -- ---- put together
 
 module _ {ℓ} {A : Type ℓ} (g : ℕ → A) where
-  pub tab-join : (m k i : ℕ) → tab g m i ++ tab g k (i + m) ≡ tab g (m + k) i
+  tab-join : (m k i : ℕ) → tab g m i ++ tab g k (i + m) ≡ tab g (m + k) i
   unfolding tab
   tab-join zero k i = let a : i + 0 ≡ i = omega arith in let b : 0 + k ≡ k = omega arith in rw (a, b) refl
   tab-join (suc m) k i =
       let a : i + suc m ≡ i + 1 + m = omega arith in
       let b : suc m + k ≡ suc (m + k) = omega arith in
       rw (a, b) (ap (λ (t : List A). g i ∷ t) (tab-join m k (i + 1)))
-
-  shift : (f : ℕ → A) (base m i : ℕ) → ((k : ℕ) → i ≤ k → k < i + m → f k ≡ g (base + k)) → tab f m i ≡ tab g m (base + i)
-  unfolding tab
-  shift f base zero i h = refl
-  shift f base (suc m) i h =
-      let a : base + i + 1 ≡ base + (i + 1) = omega arith in
-      rw (h i (omega arith) (omega arith), a, shift f base m (i + 1) (λ k a b. h k (omega arith) (omega arith))) refl
-
-  -- entries that are those of g, `base` further on
-  pub tab-shift : (f : ℕ → A) (base m : ℕ) → ((k : ℕ) → k < m → f k ≡ g (base + k)) → tab f m 0 ≡ tab g m base
-  tab-shift f base m h = shift f base m 0 (λ k a b. h k (omega arith)) ∙ rw add-zero refl
 
   groups : (f : ℕ → List A) (w base m i : ℕ) → ((k : ℕ) → i ≤ k → k < i + m → f k ≡ tab g w (base + w * k)) → tabs f m i ≡ tab g (w * m) (base + w * i)
   unfolding tab tabs
@@ -46,23 +35,57 @@ module _ {ℓ} {A : Type ℓ} (g : ℕ → A) where
   tabs-tab f w base m h = let e : base + w * 0 ≡ base = omega arith in groups f w base m 0 (λ k a b. h k (omega arith)) ∙ rw e refl
 
 -- all entries of a list
+pub tab-getD : {A : Type 0} (z : A) (l : List A) → tab (λ k. getD l k z) (length l) 0 ≡ l
+tab-getD {A} z l = ext-getD z (tab entry (length l) 0) l long (λ k h. getD-tab entry z (length l) 0 k (omega (arith, long)) ∙ rw zero-add refl)
+  where
+    entry : ℕ → A
+    entry k = getD l k z
+
+    long : length (tab entry (length l) 0) ≡ length l
+    long = length-tab entry (length l) 0
+
 pub tab-at : (l : List ℤ) → tab (at l) (length l) 0 ≡ l
-tab-at l = ext-getD (pos 0) (tab (at l) (length l) 0) l long (λ k h. getD-tab (at l) (pos 0) (length l) 0 k (omega (arith, long)) ∙ rw zero-add refl)
+tab-at l = tab-getD (pos 0) l
+
+-- the first m entries from i on, in front of what is behind them
+pub tab-drop : (l : List ℤ) (m i : ℕ) → i + m ≤ length l → tab (at l) m i ++ drop (i + m) l ≡ drop i l
+unfolding tab
+tab-drop l zero i h = let e : i + 0 ≡ i = omega arith in rw e refl
+tab-drop l (suc m) i h =
+    let e : i + suc m ≡ i + 1 + m = omega arith in
+    rw (e, tab-drop l m (i + 1) (omega arith)) (sym (drop-cons l i (omega arith)))
   where
-    long : length (tab (at l) (length l) 0) ≡ length l
-    long = length-tab (at l) (length l) 0
+    drop-cons : (l : List ℤ) (i : ℕ) → i < length l → drop i l ≡ at l i ∷ drop (i + 1) l
+    drop-cons [] i h = absurd (omega arith)
+    drop-cons (x ∷ l) zero h = refl
+    drop-cons (x ∷ l) (suc i) h = let e : suc i + 1 ≡ suc (i + 1) = omega arith in drop-cons l i (omega arith) ∙ rw e refl
 
--- ---- taken out: n entries, made up to m, stand in front of zeros
+-- the same lists, counted from one further on
+pub tabs-later : {A : Type 0} (f g : ℕ → List A) (m i : ℕ) → ((k : ℕ) → f (k + 1) ≡ g k) → tabs f m (i + 1) ≡ tabs g m i
+unfolding tabs
+tabs-later f g zero i h = refl
+tabs-later f g (suc m) i h = rw (h i, tabs-later f g m (i + 1) h) refl
 
-pub padded-filled : (f : ℕ → ℤ) (m n : ℕ) → n ≤ m → Filled m n (padded m (pos 0) (tab f n 0))
-padded-filled f m n h = record { size = padded-size f m n h; rest = λ k l. behind k l (decLt k m) }
+-- entries as lists of one
+pub tab-tabs : {A : Type 0} (f : ℕ → A) (m i : ℕ) → tab f m i ≡ tabs (λ k. f k ∷ []) m i
+unfolding tab tabs
+tab-tabs f zero i = refl
+tab-tabs f (suc m) i = rw (tab-tabs f m (i + 1)) refl
+
+-- ---- taken out: n entries, made up to m, stand in front of what they were made up with
+
+pub padding-filled : {A : Type 0} (z : A) (f : ℕ → A) (m n : ℕ) → n ≤ m → FilledBy z m n (padded m z (tab f n 0))
+padding-filled {A} z f m n h = record { size = padding-size z f m n h; rest = λ k l. behind k l (decLt k m) }
   where
-    zeros : List ℤ
-    zeros = replicate (m - length (tab f n 0)) (pos 0)
+    more : List A
+    more = replicate (m - length (tab f n 0)) z
 
-    behind : (k : ℕ) → n ≤ k → Dec (k < m) → at (tab f n 0 ++ zeros) k ≡ pos 0
+    behind : (k : ℕ) → n ≤ k → Dec (k < m) → getD (tab f n 0 ++ more) k z ≡ z
     behind k l (yes a) =
         let e : length (tab f n 0) + (k - n) ≡ k = omega (arith, length-tab f n 0) in
-        ap (at (tab f n 0 ++ zeros)) (sym e) ∙ getD-append-add (tab f n 0) zeros (k - n) (pos 0)
-        ∙ getD-replicate (m - length (tab f n 0)) (k - n) (pos 0) (pos 0) (omega (arith, length-tab f n 0))
-    behind k l (no a) = List·getD-eq-default (tab f n 0 ++ zeros) (pos 0) (omega (arith, padded-size f m n h))
+        ap (λ (c : ℕ). getD (tab f n 0 ++ more) c z) (sym e) ∙ getD-append-add (tab f n 0) more (k - n) z
+        ∙ getD-replicate (m - length (tab f n 0)) (k - n) z z (omega (arith, length-tab f n 0))
+    behind k l (no a) = List·getD-eq-default (tab f n 0 ++ more) z (omega (arith, padding-size z f m n h))
+
+pub padded-filled : (f : ℕ → ℤ) (m n : ℕ) → n ≤ m → Filled m n (padded m (pos 0) (tab f n 0))
+padded-filled f m n h = padding-filled (pos 0) f m n h

@@ -55,7 +55,16 @@ unfolding tab
 map-tab g f zero i = refl
 map-tab g f (suc m) i = rw (map-tab g f m (i + 1)) refl
 
+pub map-append : {A B : Type 0} (g : A → B) (front back : List A) → map g (front ++ back) ≡ map g front ++ map g back
+map-append g [] back = refl
+map-append g (a ∷ front) back = rw (map-append g front back) refl
+
 -- ---- tabs
+
+pub map-tabs : {A B : Type 0} (g : A → B) (f : ℕ → List A) (m i : ℕ) → map g (tabs f m i) ≡ tabs (λ k. map g (f k)) m i
+unfolding tabs
+map-tabs g f zero i = refl
+map-tabs g f (suc m) i = map-append g (f i) (tabs f m (i + 1)) ∙ rw (map-tabs g f m (i + 1)) refl
 
 module _ {ℓ} {A : Type ℓ} (f : ℕ → List A) where
   -- j of n are done
@@ -103,23 +112,35 @@ module _ {ℓ} {A : Type ℓ} (f : ℕ → List A) (w : ℕ) (even : (k : ℕ) �
 
 -- ---- the first k of m entries, made up
 
+module _ {A : Type 0} (z : A) (f : ℕ → A) (m k : ℕ) where
+  pub padding-size : k ≤ m → length (padded m z (tab f k 0)) ≡ m
+  padding-size h =
+      let e = length-tab f k 0 in
+      length-append (tab f k 0) (replicate (m - length (tab f k 0)) z) ∙ rw (length-replicate (m - length (tab f k 0)) z) (omega arith)
+
+  pub padding-at : (i : ℕ) → i < k → getD (padded m z (tab f k 0)) i z ≡ f i
+  padding-at i h =
+      List·getD-append (tab f k 0) (replicate (m - length (tab f k 0)) z) z i (omega (arith, length-tab f k 0))
+      ∙ getD-tab f z k 0 i h ∙ rw zero-add refl
+
+-- the same of signed numbers, made up by 0
 module _ (f : ℕ → ℤ) (m k : ℕ) where
   pub padded-size : k ≤ m → length (padded m (pos 0) (tab f k 0)) ≡ m
-  padded-size h =
-      let e = length-tab f k 0 in
-      length-append (tab f k 0) (replicate (m - length (tab f k 0)) (pos 0)) ∙ rw (length-replicate (m - length (tab f k 0)) (pos 0)) (omega arith)
+  padded-size h = padding-size (pos 0) f m k h
 
   pub padded-at : (i : ℕ) → i < k → at (padded m (pos 0) (tab f k 0)) i ≡ f i
-  padded-at i h =
-      List·getD-append (tab f k 0) (replicate (m - length (tab f k 0)) (pos 0)) (pos 0) i (omega (arith, length-tab f k 0))
-      ∙ getD-tab f (pos 0) k 0 i h ∙ rw zero-add refl
+  padded-at i h = padding-at (pos 0) f m k i h
 
 -- ---- arrays filled from the front
 
--- of m entries those from i on are 0
-pub record Filled (m i : ℕ) (l : List ℤ) : Type 0 where
+-- of m entries those from i on are z
+pub record FilledBy {A : Type 0} (z : A) (m i : ℕ) (l : List A) : Type 0 where
   pub size : length l ≡ m
-  pub rest : (k : ℕ) → i ≤ k → at l k ≡ pos 0
+  pub rest : (k : ℕ) → i ≤ k → getD l k z ≡ z
+
+-- of m entries those from i on are 0
+abbrev pub Filled : ℕ → ℕ → List ℤ → Type 0
+Filled m i l = FilledBy (pos 0) m i l
 
 pub filled-none : (m : ℕ) → Filled m 0 (replicate m (pos 0))
 filled-none m = record { size = length-replicate m (pos 0); rest = λ k h. zeros m k }
@@ -150,21 +171,24 @@ tab-stored l i v h =
     tab-snoc (at (set l i v)) i 0 ∙ rw (tab-same (at (set l i v)) (at l) i 0 (λ k a b. at-below l i v k (omega arith)), new) refl
 
 -- such an array is its first entries, made up
-pub filled-padded : {m i : ℕ} {l : List ℤ} → Filled m i l → i ≤ m → padded m (pos 0) (tab (at l) i 0) ≡ l
-filled-padded {m} {i} {l} f h = ext-getD (pos 0) (padded m (pos 0) front) l (long ∙ sym (f .size)) (λ k g. same k (decLt k i) (omega (arith, long)))
+pub filling-padded : {A : Type 0} (z : A) {m i : ℕ} {l : List A} → FilledBy z m i l → i ≤ m → padded m z (tab (λ k. getD l k z) i 0) ≡ l
+filling-padded {A} z {m} {i} {l} f h = ext-getD z (padded m z front) l (long ∙ sym (f .size)) (λ k g. same k (decLt k i) (omega (arith, long)))
   where
-    front : List ℤ
-    front = tab (at l) i 0
+    front : List A
+    front = tab (λ k. getD l k z) i 0
 
     width : length front ≡ i
-    width = length-tab (at l) i 0
+    width = length-tab (λ k. getD l k z) i 0
 
-    long : length (padded m (pos 0) front) ≡ m
-    long = padded-size (at l) m i h
+    long : length (padded m z front) ≡ m
+    long = padding-size z (λ k. getD l k z) m i h
 
-    same : (k : ℕ) → Dec (k < i) → k < m → at (padded m (pos 0) front) k ≡ at l k
-    same k (yes a) g = padded-at (at l) m i k a
+    same : (k : ℕ) → Dec (k < i) → k < m → getD (padded m z front) k z ≡ getD l k z
+    same k (yes a) g = padding-at z (λ k. getD l k z) m i k a
     same k (no a) g =
         let e : length front + (k - i) ≡ k = omega (arith, width) in
-        ap (at (padded m (pos 0) front)) (sym e) ∙ getD-append-add front (replicate (m - length front) (pos 0)) (k - i) (pos 0)
-        ∙ getD-replicate (m - length front) (k - i) (pos 0) (pos 0) (omega (arith, width)) ∙ sym (f .rest k (omega arith))
+        ap (λ (c : ℕ). getD (padded m z front) c z) (sym e) ∙ getD-append-add front (replicate (m - length front) z) (k - i) z
+        ∙ getD-replicate (m - length front) (k - i) z z (omega (arith, width)) ∙ sym (f .rest k (omega arith))
+
+pub filled-padded : {m i : ℕ} {l : List ℤ} → Filled m i l → i ≤ m → padded m (pos 0) (tab (at l) i 0) ≡ l
+filled-padded f h = filling-padded (pos 0) f h

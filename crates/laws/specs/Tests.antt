@@ -3,13 +3,15 @@
 use Prim.Native.Nat.{ℕ, zero, suc, _+_, _-_, _≤_, _<_}
 use mathlib.Core.Path.{_≡_, refl, sym, ap, _∙_}
 use mathlib.Core.Bool.{Bool, true, false, _&&_}
-use mathlib.Core.List.{List, [], _∷_}
+use mathlib.Core.List.{List, [], _∷_, map}
 use native.Mathlib.Omega.{arith}
 use native.Mathlib.Nat.{zero-add, add-zero}
 use lib.Dec.{T}
 use lib.ListN.{length}
 use lib.IntN.{ℤ}
 use lib.Signed.{leZ, ltZ, _≤ℤ_, _<ℤ_}
+use Rattle.laws.specs.Every as E
+use Rattle.laws.specs.Every.{Every}
 use Rattle.laws.specs.Integers.{leZ-true, lt-nle}
 use Rattle.laws.specs.Lists.{tab, all, firstFalse}
 use Rattle.laws.specs.Tabs.{length-tab, tab-step, tab-done}
@@ -104,3 +106,15 @@ all-tab t (suc m) i zero h e = rw add-zero (first (t i) (all (tab t m (i + 1))) 
 all-tab t (suc m) i (suc k) h e =
     let q : i + suc k ≡ i + 1 + k = omega arith in
     rw q (all-tab t m (i + 1) k (omega arith) (second (t i) (all (tab t m (i + 1))) e))
+
+-- and where each does, all do
+pub tab-holds : (t : ℕ → Bool) (m i : ℕ) → ((k : ℕ) → i ≤ k → k < i + m → t k ≡ true) → all (tab t m i) ≡ true
+unfolding tab all
+tab-holds t zero i h = refl
+tab-holds t (suc m) i h = both (h i (omega arith) (omega arith)) (tab-holds t m (i + 1) (λ k a b. h k (omega arith) (omega arith)))
+
+-- where a test of all entries holds, it holds of every entry
+pub all-every {ℓ} : {A : Type ℓ} (t : A → Bool) (l : List A) → all (map t l) ≡ true → Every (λ a. t a ≡ true) l
+unfolding all E.Every
+all-every t [] e = tt
+all-every t (a ∷ l) e = (first (t a) (all (map t l)) e, all-every t l (second (t a) (all (map t l)) e))

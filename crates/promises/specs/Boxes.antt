@@ -33,7 +33,7 @@ covers-trans u t s e f =
     let high : s .hi ≤ℤ u .hi = omega (zarith, c, d) in
     ordered low high
 
-within-trans : (a b c : List Side) → within a b ≡ true → within b c ≡ true → within a c ≡ true
+pub within-trans : (a b c : List Side) → within a b ≡ true → within b c ≡ true → within a c ≡ true
 unfolding B.lies all
 within-trans [] [] c e f = f
 within-trans [] (t ∷ b) c e f = never e

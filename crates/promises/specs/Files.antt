@@ -60,6 +60,7 @@ taken-back float v i next s h p = float-reads (natAbs v) i next s (h .1) p ∙ a
 -- a value that was read
 record Was (k : Kind) (v : ℤ) (s : List ℕ) (i next : ℕ) : Type 0 where
   storable : Storable k v
+  short : fiveBytes k v ≡ true
   stands : Stands s i (bytesAs k v) next
 
 none-taken : {v : ℤ} {next : ℕ} → none ≡ taken v next → ⊥
@@ -72,7 +73,8 @@ taken-was plain v i next s e = go (numberAt s i) refl e
     go (Number.Value u m) q e =
         let a : v ≡ pos u = cc in
         let b : next ≡ m = cc in
-        rw (a, b) (record { storable = refl; stands = was u i m s q .1 })
+        let w = was u i m s q in
+        rw (a, b) (record { storable = refl; short = lt-ltb u (2 ^ 35) (w .0); stands = w .1 })
     go Number.Broken q e = absurd (none-taken e)
 taken-was signed v i next s e = go (numberAt s i) refl e
   where
@@ -80,11 +82,13 @@ taken-was signed v i next s e = go (numberAt s i) refl e
     go (Number.Value u m) q e =
         let a : v ≡ restored u = cc in
         let b : next ≡ m = cc in
-        rw (a, b) (record { storable = tt; stands = rw (stored-restored u) (was u i m s q .1) })
+        let w = was u i m s q in
+        let c = stored-restored u in
+        rw (a, b) (record { storable = tt; short = rw c (lt-ltb u (2 ^ 35) (w .0)); stands = rw c (w .1) })
     go Number.Broken q e = absurd (none-taken e)
 taken-was float v i next s e =
     let w = float-was v i next s e in
-    rw (w .1) (record { storable = (refl, w .2); stands = w .3 })
+    rw (w .1) (record { storable = (refl, w .2); short = refl; stands = w .3 })
 
 -- ---- values of a form
 
@@ -158,6 +162,7 @@ pub record FieldRead (f : Field) (rest : ℤ → Form) (s : List ℕ) (i : ℕ) 
   pub values : vs ≡ value ∷ others
   pub right : f .right value ≡ true
   pub storable : Storable (f .kind) value
+  pub short : fiveBytes (f .kind) value ≡ true
   pub stands : Stands s i (bytesAs (f .kind) value) mid
   pub behind : valuesAt (rest value) s mid ≡ read others next
 
@@ -172,7 +177,7 @@ field-read f rest s i {vs} {next} e = go (takenAs (f .kind) s i) refl e
         let a = guard-read (f .right v) (f .wrong i) _ e in
         let b = before-read v (valuesAt (rest v) s mid) (a .1) in
         let w = taken-was (f .kind) v i mid s q in
-        record { value = v; others = b .0; mid = mid; values = b .1; right = a .0; storable = w .storable; stands = w .stands; behind = b .2 }
+        record { value = v; others = b .0; mid = mid; values = b .1; right = a .0; storable = w .storable; short = w .short; stands = w .stands; behind = b .2 }
 
 -- ---- what was read is written back
 

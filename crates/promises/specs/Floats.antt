@@ -19,7 +19,7 @@ use Rattle.meaning.specs.Files.{taken, none, little, lowFirst, floatAt}
 abbrev Bytes : List ℕ → Type 0
 Bytes cs = all (map (λ c. ltb c 256) cs) ≡ true
 
-low-length : (m v : ℕ) → length (lowFirst m v) ≡ m
+pub low-length : (m v : ℕ) → length (lowFirst m v) ≡ m
 unfolding lowFirst
 low-length zero v = refl
 low-length (suc m) v = ap suc (low-length m (v / 256))

@@ -14,7 +14,7 @@ use borrow.Author.Tests.{lt-ltb, le-ltb, leb-true, eqb-true}
 use Rattle.laws.specs.Integers.{zarith, leZ-true, within}
 use Rattle.meaning.specs.Numbers.{groupsOf, stored}
 use Rattle.meaning.specs.Files.{Field, Form, end, field, bytesAs, read, valuesAt}
-use Rattle.meaning.specs.Plants.{counted, ranged, limited, span, times, from, depth, headed}
+use Rattle.meaning.specs.Plants.{edgeLimit, bandLimit, counted, ranged, limited, span, times, edgesAndBands, from, depth, headed}
 use Rattle.promises.specs.Files.{field-read}
 use Rattle.promises.specs.Headers.{most-of}
 
@@ -39,7 +39,7 @@ short c (suc g) x h = go c (decLt x 128) h (λ k l. short k g (x / 128) l)
         let e : length (groupsOf (suc g) x) ≡ suc (length (groupsOf g (x / 128))) = simp (le-ltb x 128 k) in
         omega (arith, more c (omega arith))
 
-stored-most : (v : ℤ) → stored v ≤ 2 * natAbs v
+pub stored-most : (v : ℤ) → stored v ≤ 2 * natAbs v
 stored-most (pos v) = omega arith
 stored-most (negsuc v) = omega arith
 
@@ -64,7 +64,7 @@ end-longest = record { most = λ s i e. go i e }
     go : (i : ℕ) {vs : List ℤ} {next : ℕ} → read [] i ≡ read vs next → next ≤ i + 0
     go i {vs} {next} e = let q : next ≡ i = cc in omega arith
 
-field-longest : (f : Field) (rest : ℤ → Form) {c m : ℕ} → ((v : ℤ) → f .right v ≡ true → length (bytesAs (f .kind) v) ≤ c)
+pub field-longest : (f : Field) (rest : ℤ → Form) {c m : ℕ} → ((v : ℤ) → f .right v ≡ true → length (bytesAs (f .kind) v) ≤ c)
     → ((v : ℤ) → f .right v ≡ true → Longest (rest v) m) → Longest (field f rest) (c + m)
 field-longest f rest h l = record {
   most = λ s i e.
@@ -73,7 +73,7 @@ field-longest f rest h l = record {
 }
 
 -- a number of at most `most`, in c + 1 bytes
-counted-longest : (ok : ℕ → Bool) (rest : ℕ → Form) (c most : ℕ) {m : ℕ} → ((v : ℕ) → ok v ≡ true → v ≤ most) → most < 2 ^ (7 * suc c)
+pub counted-longest : (ok : ℕ → Bool) (rest : ℕ → Form) (c most : ℕ) {m : ℕ} → ((v : ℕ) → ok v ≡ true → v ≤ most) → most < 2 ^ (7 * suc c)
     → ((v : ℕ) → v ≤ most → Longest (rest v) m) → Longest (counted ok rest) (suc c + m)
 counted-longest ok rest c most h l more =
     field-longest _ _ (λ v e. short c 9 (natAbs v) (omega (arith, h (natAbs v) e))) (λ v e. more (natAbs v) (h (natAbs v) e))
@@ -104,6 +104,13 @@ pub times-adds : {part : Form → Form} {c : ℕ} → Adds part c → (m : ℕ) 
 unfolding times
 times-adds p zero = record { adds = λ l. longer l (omega arith) }
 times-adds {part} {c} p (suc m) = let e : suc m * c ≡ c + m * c = omega arith in rw e (then-adds p (times-adds p m))
+
+-- edges take 3 bytes and ends of bands 5
+pub edges-adds : (n : ℕ) → Adds (edgesAndBands n) (n * 12 + n * 10)
+unfolding edgesAndBands
+edges-adds n =
+    let edges = span-adds edgeLimit 2 (omega arith) in
+    then-adds (times-adds (then-adds edges edges) n) (times-adds (span-adds bandLimit 4 (omega arith)) n)
 
 -- the header, its third number being at most `most`
 pub headed-longest : (most c : ℕ) (rest : ℕ → ℕ → Form) {m : ℕ} → most < 2 ^ (7 * suc c)

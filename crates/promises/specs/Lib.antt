@@ -1,4 +1,5 @@
 pub mod Accept
+pub mod Bodies
 pub mod Boxes
 pub mod Buffers
 pub mod Bytes
@@ -14,6 +15,7 @@ pub mod First
 pub mod Floats
 pub mod FormShapes
 pub mod Forms
+pub mod Framed
 pub mod Headers
 pub mod Images
 pub mod Judged
@@ -24,7 +26,9 @@ pub mod Local
 pub mod LongestTable
 pub mod Made
 pub mod ModeBytes
+pub mod Nearest
 pub mod Numbers
+pub mod Passing
 pub mod Patterns
 pub mod PlantFiles
 pub mod PlantLengths
@@ -36,6 +40,16 @@ pub mod Promise
 pub mod Reached
 pub mod Related
 pub mod Shapes
+pub mod SheetFiles
+pub mod SheetLengths
+pub mod SheetNear
+pub mod SheetNumbers
+pub mod SheetPlants
+pub mod SheetRooms
+pub mod SheetShapes
+pub mod SheetSound
+pub mod SheetSteps
+pub mod Sheets
 pub mod Sound
 pub mod Splits
 pub mod Starred
@@ -44,3 +58,5 @@ pub mod Turning
 pub mod Underway
 pub mod Unique
 pub mod Walking
+pub mod Widening
+pub mod Writers

@@ -1,24 +1,24 @@
 -- S2 for plants, the files: a plant that was written is read back as itself, a file that was read is written back as the same bytes, and reader and
--- writer refuse alike. Relies on pages Files, Buffers, Plants and PlantShapes; how long a file may be is told on page PlantLengths.
+-- writer refuse alike. Relies on pages Files, Writers, Plants and PlantShapes; how long a file may be is told on page PlantLengths.
 use Prim.Native.Nat.{ℕ, _≤_, _<_}
-use mathlib.Core.Path.{_≡_, refl, sym, ap, _∙_, subst}
+use mathlib.Core.Path.{_≡_, sym, ap, _∙_, subst}
 use mathlib.Core.List.{List}
 use lib.ListN.{length, take}
-use Rattle.laws.specs.Tests.{never}
 use Rattle.meaning.specs.declared.Refusal.{Refusal}
 use Rattle.meaning.specs.declared.Verdict.{Verdict}
 use Rattle.meaning.specs.declared.Written.{Written}
 use Rattle.meaning.specs.declared.Plant.{Plant}
 use Rattle.meaning.specs.declared.PlantRead.{PlantRead}
 use Rattle.meaning.specs.Refusals.{short}
-use Rattle.meaning.specs.Files.{valuesOf, Judged, good, bad, fileOf, fileJudged}
-use Rattle.meaning.specs.Buffers.{left, refusedWith}
+use Rattle.meaning.specs.Files.{valuesOf, good, bad, fileOf}
+use Rattle.meaning.specs.Buffers.{refusedWith}
 use Rattle.meaning.specs.Plants.{plantForm, plantOf, numbersOf, plantRelated, plantJudged, plantRead, readOf, plantLeft}
 use Rattle.promises.specs.Files.{judgedValues, judged-back, file-reads, file-writes}
-use Rattle.promises.specs.Buffers.{wrote, left-fits, left-short, left-length}
+use Rattle.promises.specs.Buffers.{wrote}
 use Rattle.promises.specs.Plants.{Tidy, plant-back}
 use Rattle.promises.specs.Related.{good-was}
 use Rattle.promises.specs.PlantShapes.{plant-shaped, plant-read}
+use Rattle.promises.specs.Writers.{refuses, too-short, long-enough, was-written}
 
 -- the file that a plant would be
 abbrev pub plantFile : Plant → List ℕ
@@ -44,14 +44,9 @@ accepted p = record { verdict = Verdict.Accepted; plant = p }
 pub written-read-zeros : (p : Plant) (buf : List ℕ) (m : ℕ) → plantLeft p buf .answer ≡ Written.Length m
     → plantRead (take m (plantLeft p buf .buffer)) ≡ accepted (plantOf (numbersOf p))
 unfolding plantLeft
-written-read-zeros p buf m e = go (plantJudged (plantFile p)) refl e
-  where
-    go : (j : Judged Plant) → plantJudged (plantFile p) ≡ j → left (fileJudged (plantFile p) j) buf .answer ≡ Written.Length m
-        → plantRead (take m (left (fileJudged (plantFile p) j) buf .buffer)) ≡ accepted (plantOf (numbersOf p))
-    go (bad r) q e = never (let k = left-length (bad r) buf m e in cc)
-    go (good p′) q e =
-        let w : take m (left (good (plantFile p)) buf .buffer) ≡ plantFile p = (let k = left-length (good (plantFile p)) buf m e in cc) in
-        ap plantRead w ∙ ap readOf q ∙ ap accepted (sym (judged-itself p p′ q))
+written-read-zeros p buf m e =
+    let w = was-written plantJudged (plantFile p) buf m e in
+    ap plantRead (w .2) ∙ ap readOf (w .1) ∙ ap accepted (sym (judged-itself p (w .0) (w .1)))
 
 -- and a plant that holds zeros there is read back as itself
 pub written-read : (p : Plant) → Tidy p → (buf : List ℕ) (m : ℕ) → plantLeft p buf .answer ≡ Written.Length m → plantRead (take m (plantLeft p buf .buffer)) ≡ accepted p
@@ -61,16 +56,16 @@ written-read p t buf m e = written-read-zeros p buf m e ∙ ap accepted (plant-b
 
 pub alike : (p : Plant) (e : Refusal) → plantJudged (plantFile p) ≡ bad e → (buf : List ℕ) → plantLeft p buf ≡ refusedWith e buf
 unfolding plantLeft
-alike p e h buf = ap (λ (j : Judged Plant). left (fileJudged (plantFile p) j) buf) h
+alike p e h buf = refuses plantJudged (plantFile p) buf e h
 
 -- a plant whose file is good is refused only by 10, and only where the buffer is shorter than the file
 pub alike-short : (p p′ : Plant) → plantJudged (plantFile p) ≡ good p′ → (buf : List ℕ) → length buf < length (plantFile p) → plantLeft p buf ≡ refusedWith short buf
 unfolding plantLeft
-alike-short p p′ h buf l = ap (λ (j : Judged Plant). left (fileJudged (plantFile p) j) buf) h ∙ left-short (plantFile p) buf l
+alike-short p p′ h buf l = too-short plantJudged (plantFile p) buf p′ h l
 
 pub alike-fits : (p p′ : Plant) → plantJudged (plantFile p) ≡ good p′ → (buf : List ℕ) → length (plantFile p) ≤ length buf → plantLeft p buf ≡ wrote (plantFile p) buf
 unfolding plantLeft
-alike-fits p p′ h buf l = ap (λ (j : Judged Plant). left (fileJudged (plantFile p) j) buf) h ∙ left-fits (plantFile p) buf l
+alike-fits p p′ h buf l = long-enough plantJudged (plantFile p) buf p′ h l
 
 -- ---- read, and written back
 

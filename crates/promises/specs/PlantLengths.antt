@@ -9,23 +9,17 @@ use lib.ListN.{length}
 use lib.IntN.{ℤ, pos, negℤ}
 use Rattle.laws.specs.Lists.{tabs}
 use Rattle.meaning.specs.Files.{valuesOf, good, fileOf}
-use Rattle.meaning.specs.Plants.{edgeLimit, bandLimit, entryLimit, offsetLimit, edgesAndBands, row, plantForm, plantOf, plantJudged}
+use Rattle.meaning.specs.Plants.{edgeLimit, bandLimit, entryLimit, offsetLimit, row, plantForm, plantOf, plantJudged}
 use Rattle.meaning.specs.declared.Plant.{Plant}
 use Rattle.meaning.specs.Computing.{computing}
 use Rattle.promises.specs.Files.{file-writes}
-use Rattle.promises.specs.Lengths.{Longest, longer, Adds, end-longest, limited-adds, span-adds, then-adds, times-adds, headed-longest}
+use Rattle.promises.specs.Lengths.{Longest, longer, Adds, end-longest, limited-adds, then-adds, times-adds, edges-adds, headed-longest}
 use Rattle.promises.specs.PlantShapes.{plantBody}
 use Rattle.promises.specs.Related.{good-was}
 
 -- ---- at most
 
--- edges take 3 bytes and ends of bands 5; entries of A take 3 and b 5
-edges-adds : (n : ℕ) → Adds (edgesAndBands n) (n * 12 + n * 10)
-unfolding edgesAndBands
-edges-adds n =
-    let edges = span-adds edgeLimit 2 (omega arith) in
-    then-adds (times-adds (then-adds edges edges) n) (times-adds (span-adds bandLimit 4 (omega arith)) n)
-
+-- entries of A take 3 bytes and b 5
 row-adds : (n : ℕ) → Adds (row n) (n * 3 + 5)
 unfolding row
 row-adds n = then-adds (times-adds (limited-adds entryLimit 2 (omega arith)) n) (limited-adds offsetLimit 4 (omega arith))

@@ -1,20 +1,21 @@
 -- The shape of a plant's file: the numbers of every plant have it, and numbers that were read by the form are those of the plant that they make.
--- Relies on pages Files, FormShapes and Headers. The other half, that a plant is what its numbers say, stands on page Plants.
-use Prim.Native.Nat.{ℕ, _+_, _*_, _≤_, _<_}
-use mathlib.Core.Path.{_≡_, refl, ap, _∙_}
+-- Relies on pages Bodies, Files, FormShapes and Headers. The other half, that a plant is what its numbers say, stands on page Plants.
+use Prim.Native.Nat.{ℕ, _+_, _*_, _≤_}
+use mathlib.Core.Path.{_≡_, refl, sym, ap, _∙_}
 use mathlib.Core.List.{List, [], _∷_, _++_}
 use mathlib.Core.Logic.{_↔_}
 use native.Mathlib.Omega.{arith}
 use native.Mathlib.Nat.{mul-le-mul}
-use lib.ListN.{length, length-append}
-use lib.Seq.{getD-append-add}
+use lib.ListN.{length, drop, length-append, length-drop}
+use lib.Seq.{getD-append-add, getD-drop}
 use lib.IntN.{ℤ, pos}
 use Rattle.laws.specs.Lists.{at, tab, tabs, padded}
-use Rattle.laws.specs.Tabs.{length-tab, length-tabs, padded-at, Filled}
-use Rattle.laws.specs.Columns.{tab-join, tab-shift, tabs-tab, tab-at, padded-filled}
+use Rattle.laws.specs.Tabs.{length-tab, length-tabs, tab-same, padded-at, Filled}
+use Rattle.laws.specs.Columns.{tab-at, padded-filled}
 use Rattle.meaning.specs.declared.Plant.{Plant}
 use Rattle.meaning.specs.Files.{Form, end, read, valuesAt}
 use Rattle.meaning.specs.Plants.{times, edgesAndBands, row, headed, plantForm, edgesOf, bandOf, column, coefCount, plantOf, numbersOf}
+use Rattle.promises.specs.Bodies.{body-back}
 use Rattle.promises.specs.Files.{Shaped, writes-back}
 use Rattle.promises.specs.FormShapes.{edges-takes, row-takes, times-takes, then-takes, takes-all}
 use Rattle.promises.specs.Headers.{headed-read}
@@ -57,53 +58,26 @@ module _ (n modes q k d : ℕ) (body : List ℤ) (few : n ≤ 4) (many : modes �
   numbers : List ℤ
   numbers = front ++ body
 
-  body-at : (j i : ℕ) → i ≡ 6 + j → at numbers i ≡ at body j
+  coefs-back : tab (at (padded 320 (pos 0) (tab (λ i. at numbers (6 + 6 * n + i)) (coefCount modes n) 0))) (coefCount modes n) 0 ≡ drop (6 * n) body
   unfolding front numbers
-  body-at j i e = rw e (getD-append-add front body j (pos 0))
-
-  column-at : (first by i j : ℕ) → i < n → first + by * i ≡ 6 + j → at (column numbers first by n) i ≡ at body j
-  column-at first by i j h e = padded-at (λ i. at numbers (first + by * i)) 4 n i h ∙ body-at j (first + by * i) e
-
-  edges-back : tabs (edgesOf (column numbers 6 4 n) (column numbers 7 4 n) (column numbers 8 4 n) (column numbers 9 4 n)) n 0 ≡ tab (at body) (4 * n) 0
-  unfolding tab
-  edges-back =
-      tabs-tab (at body) (edgesOf (column numbers 6 4 n) (column numbers 7 4 n) (column numbers 8 4 n) (column numbers 9 4 n)) 4 0 n
-      (λ i h. here i h (0 + 4 * i) (omega arith))
-    where
-      here : (i : ℕ) → i < n → (j : ℕ) → j ≡ 4 * i
-          → edgesOf (column numbers 6 4 n) (column numbers 7 4 n) (column numbers 8 4 n) (column numbers 9 4 n) i
-          ≡ at body j ∷ at body (j + 1) ∷ at body (j + 1 + 1) ∷ at body (j + 1 + 1 + 1) ∷ []
-      here i h j e =
-          rw (column-at 6 4 i j h (omega arith), column-at 7 4 i (j + 1) h (omega arith), column-at 8 4 i (j + 1 + 1) h (omega arith), column-at 9 4 i (j + 1 + 1 + 1) h (omega arith))
-          refl
-
-  bands-back : tabs (bandOf (column numbers (6 + 4 * n) 2 n) (column numbers (7 + 4 * n) 2 n)) n 0 ≡ tab (at body) (2 * n) (4 * n)
-  unfolding tab
-  bands-back = tabs-tab (at body) (bandOf (column numbers (6 + 4 * n) 2 n) (column numbers (7 + 4 * n) 2 n)) 2 (4 * n) n (λ i h. here i h (4 * n + 2 * i) refl)
-    where
-      here : (i : ℕ) → i < n → (j : ℕ) → j ≡ 4 * n + 2 * i → bandOf (column numbers (6 + 4 * n) 2 n) (column numbers (7 + 4 * n) 2 n) i ≡ at body j ∷ at body (j + 1) ∷ []
-      here i h j e = rw (column-at (6 + 4 * n) 2 i j h (omega arith), column-at (7 + 4 * n) 2 i (j + 1) h (omega arith)) refl
-
-  coefs-back : tab (at (padded 320 (pos 0) (tab (λ i. at numbers (6 + 6 * n + i)) (coefCount modes n) 0))) (coefCount modes n) 0 ≡ tab (at body) (coefCount modes n) (4 * n + 2 * n)
   coefs-back =
-      tab-shift (at body) (at (padded 320 (pos 0) (tab (λ i. at numbers (6 + 6 * n + i)) (coefCount modes n) 0))) (4 * n + 2 * n) (coefCount modes n)
-      (λ i h. padded-at (λ i. at numbers (6 + 6 * n + i)) 320 (coefCount modes n) i h ∙ body-at (4 * n + 2 * n + i) (6 + 6 * n + i) (omega arith))
-
-  -- edges, bands and coefficients one behind another
-  body-back : tab (at body) (4 * n) 0 ++ (tab (at body) (2 * n) (4 * n) ++ tab (at body) (coefCount modes n) (4 * n + 2 * n)) ≡ body
-  body-back =
       let c = coefCount modes n in
-      let z : 4 * n ≡ 0 + 4 * n = omega arith in
-      let e : 4 * n + (2 * n + c) ≡ length body = omega arith in
-      ap (λ (t : List ℤ). tab (at body) (4 * n) 0 ++ t) (tab-join (at body) (2 * n) c (4 * n) ∙ ap (tab (at body) (2 * n + c)) z)
-      ∙ tab-join (at body) (4 * n) (2 * n + c) 0 ∙ rw e (tab-at body)
+      let l = drop (6 * n) body in
+      let e : c ≡ length l = omega (arith, length-drop (6 * n) body) in
+      tab-same (at (padded 320 (pos 0) (tab (λ i. at numbers (6 + 6 * n + i)) c 0))) (at l) c 0 (λ i a b. padded-at (λ i. at numbers (6 + 6 * n + i)) 320 c i (omega arith) ∙ here i)
+      ∙ ap (λ (m : ℕ). tab (at l) m 0) e ∙ tab-at l
+    where
+      here : (i : ℕ) → at numbers (6 + 6 * n + i) ≡ at (drop (6 * n) body) i
+      here i =
+          let e : 6 + 6 * n + i ≡ 6 + (6 * n + i) = omega arith in
+          ap (at numbers) e ∙ getD-append-add front body (6 * n + i) (pos 0) ∙ sym (getD-drop (6 * n) body i (pos 0))
 
   numbers-few : coefCount modes n ≤ 320
   numbers-few = let a : modes * n ≤ 16 * 4 = mul-le-mul many few in let b : n + 1 ≤ 5 = omega arith in omega (arith, mul-le-mul a b)
 
   numbers-back : numbersOf (plantOf numbers) ≡ numbers
   unfolding front numbers plantOf numbersOf
-  numbers-back = ap (λ (t : List ℤ). front ++ t) (rw (edges-back, bands-back, coefs-back) body-back)
+  numbers-back = ap (λ (t : List ℤ). front ++ t) (rw coefs-back (body-back front refl body n (omega arith)))
 
   numbers-tidy : Tidy (plantOf numbers)
   unfolding front numbers plantOf

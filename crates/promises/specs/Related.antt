@@ -1,4 +1,5 @@
--- A plant that was judged good (meaning's `plantRelated`): its numbers were read, R lies within S, and each band is wide enough. Assumes nothing.
+-- A plant or a sheet that was judged good (meaning's `related`): its values were read, R lies within S, and each band is wide enough; of a sheet also
+-- that a plant can hold each number made of it. Assumes nothing.
 use Prim.Native.Nat.{ℕ}
 use mathlib.Core.Path.{_≡_, refl}
 use mathlib.Core.Bool.{Bool, true, false}
@@ -8,10 +9,34 @@ use Rattle.laws.specs.Guards.{guard}
 use Rattle.laws.specs.Lists.{all, firstFalse}
 use Rattle.laws.specs.Tests.{never}
 use Rattle.meaning.specs.declared.Plant.{Plant}
-use Rattle.meaning.specs.Refusals.{notInSafe, narrow}
-use Rattle.meaning.specs.Boxes.{lies, within}
-use Rattle.meaning.specs.Files.{Read, read, refused, good, bad}
-use Rattle.meaning.specs.Plants.{plantOf, rootOf, safeOf, bandsOf, wide, plantRelated}
+use Rattle.meaning.specs.declared.Refusal.{Refusal}
+use Rattle.meaning.specs.declared.Sheet.{Sheet}
+use Rattle.meaning.specs.Refusals.{notInSafe, narrow, badResult}
+use Rattle.meaning.specs.Boxes.{Side, sidesOf, lies, within}
+use Rattle.meaning.specs.Files.{Read, read, refused, Judged, good, bad}
+use Rattle.meaning.specs.Plants.{plantOf, rootOf, safeOf, bandsOf, wide, related, plantRelated}
+use Rattle.meaning.specs.Sheets.{sheetOf, madeNumbers, isNear, sheetRelated}
+
+-- ---- a test that has to hold held
+
+guard-good : {A : Type 0} {a : A} (t : Bool) (r : Refusal) (rest : Unit {0} → Judged A) → guard t (bad r) rest ≡ good a → (t ≡ true) × (rest tt ≡ good a)
+guard-good true r rest e = (refl, e)
+guard-good false r rest e = never (cc)
+
+-- ---- R within S, and each band wide enough
+
+pub related-was : {A : Type 0} {a : A} (q : ℕ) (root safe bands : List Side) (rest : Unit {0} → Judged A) → related q root safe bands rest ≡ good a
+    → (within root safe ≡ true) × (all (map (wide q) bands) ≡ true) × (rest tt ≡ good a)
+related-was q root safe bands rest e =
+    let a = guard-good (all (lies root safe)) (notInSafe (firstFalse (lies root safe))) _ e in
+    let b = guard-good (all (map (wide q) bands)) (narrow (firstFalse (map (wide q) bands))) rest (a .1) in
+    (a .0, b .0, b .1)
+
+pub related-holds : {A : Type 0} (q : ℕ) (root safe bands : List Side) (rest : Unit {0} → Judged A) → within root safe ≡ true → all (map (wide q) bands) ≡ true
+    → related q root safe bands rest ≡ rest tt
+related-holds q root safe bands rest a b = rw (a, b) refl
+
+-- ---- plants
 
 pub record Good (t : Read (List ℤ)) (p : Plant) : Type 0 where
   pub values : List ℤ
@@ -23,14 +48,37 @@ pub record Good (t : Read (List ℤ)) (p : Plant) : Type 0 where
 
 pub good-was : (t : Read (List ℤ)) (p : Plant) → plantRelated t ≡ good p → Good t p
 good-was (refused r) p e = never (cc)
-good-was (read vs next) p e = go (all (lies (rootOf q) (safeOf q))) refl (all (map (wide (q .q)) (bandsOf q))) refl e
-  where
-    q : Plant
-    q = plantOf vs
+good-was (read vs next) p e =
+    let q = plantOf vs in
+    let w = related-was (q .q) (rootOf q) (safeOf q) (bandsOf q) _ e in
+    record { values = vs; next = next; was = refl; plant = (let k = w .2 in cc); root-safe = w .0; bands-wide = w .1 }
 
-    go : (a : Bool) → all (lies (rootOf q) (safeOf q)) ≡ a → (b : Bool) → all (map (wide (q .q)) (bandsOf q)) ≡ b
-        → guard a (bad (notInSafe (firstFalse (lies (rootOf q) (safeOf q))))) (λ _. guard b (bad (narrow (firstFalse (map (wide (q .q)) (bandsOf q))))) (λ _. good q)) ≡ good p
-        → Good (read vs next) p
-    go true a true b e = record { values = vs; next = next; was = refl; plant = cc; root-safe = a; bands-wide = b }
-    go true a false b e = never (cc)
-    go false a b c e = never (cc)
+-- ---- sheets
+
+-- R, S and the bands of a sheet
+abbrev pub rootSheet : Sheet → List Side
+rootSheet h = sidesOf (h .n) (h .rlo) (h .rhi)
+
+abbrev pub safeSheet : Sheet → List Side
+safeSheet h = sidesOf (h .n) (h .slo) (h .shi)
+
+abbrev pub bandsSheet : Sheet → List Side
+bandsSheet h = sidesOf (h .n) (h .wlo) (h .whi)
+
+pub record GoodSheet (t : Read (List ℤ)) (h : Sheet) : Type 0 where
+  pub values : List ℤ
+  pub next : ℕ
+  pub was : t ≡ read values next
+  pub sheet : sheetOf values ≡ h
+  pub root-safe : within (rootSheet h) (safeSheet h) ≡ true
+  pub bands-wide : all (map (wide (h .q)) (bandsSheet h)) ≡ true
+  pub fit : all (map isNear (madeNumbers h)) ≡ true
+
+pub good-sheet : (t : Read (List ℤ)) (h : Sheet) → sheetRelated t ≡ good h → GoodSheet t h
+good-sheet (refused r) h e = never (cc)
+good-sheet (read vs next) h e =
+    let g = sheetOf vs in
+    let w = related-was (g .q) (rootSheet g) (safeSheet g) (bandsSheet g) _ e in
+    let f = guard-good (all (map isNear (madeNumbers g))) (badResult (firstFalse (map isNear (madeNumbers g)))) _ (w .2) in
+    let s : g ≡ h = (let k = f .1 in cc) in
+    rw (← s) (record { values = vs; next = next; was = refl; sheet = refl; root-safe = w .0; bands-wide = w .1; fit = f .0 })

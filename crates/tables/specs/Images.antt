@@ -7,11 +7,10 @@ use lib.ListN.{length}
 use lib.IntN.{ℤ, natAbs}
 use Rattle.laws.specs.Lists.{at, tab}
 use Rattle.meaning.specs.declared.Plant.{Plant}
-use Rattle.meaning.specs.Boxes.{Side}
+use Rattle.meaning.specs.Boxes.{Side, sidesOf}
 use Rattle.meaning.specs.Images.{Row, Step, leastOf, greatestOf, extreme}
 use Rattle.meaning.specs.Plants.{bandLimit, entryLimit, offsetLimit, rowStart, stepOf}
-use Rattle.tables.specs.declared.boxes.Bx.{Bx}
-use Rattle.tables.specs.Boxes.{boxOf, Small}
+use Rattle.tables.specs.Boxes.{Small}
 
 -- an entry of A times an edge of S; four of them; and with an offset and an edge of the band
 abbrev pub termLimit : ℕ
@@ -35,30 +34,32 @@ entriesOf n coef start = tab (entryAt coef start) n 0
 abbrev pub rowAt : ℕ → List ℤ → ℕ → ℤ → ℤ → Row
 rowAt n coef start low high = record { entries = entriesOf n coef start; offset = at coef (start + n); low = low; high = high }
 
-abbrev pub rowFrom : ℕ → Bx → List ℤ → ℕ → ℕ → Row
-rowFrom n w coef u i = rowAt n coef (rowStart n u i) (at (w .lo) i) (at (w .hi) i)
+abbrev pub rowFrom : ℕ → List ℤ → List ℤ → List ℤ → ℕ → ℕ → Row
+rowFrom n wlo whi coef u i = rowAt n coef (rowStart n u i) (at wlo i) (at whi i)
 
-abbrev pub stepFrom : ℕ → ℕ → Bx → List ℤ → ℕ → Step
-stepFrom n q w coef u = record { rows = tab (rowFrom n w coef u) n 0; q = q }
+abbrev pub stepFrom : ℕ → ℕ → List ℤ → List ℤ → List ℤ → ℕ → Step
+stepFrom n q wlo whi coef u = record { rows = tab (rowFrom n wlo whi coef u) n 0; q = q }
 
 -- of a plant's own fields it is the plant's step
-pub step-from : (p : Plant) (u : ℕ) → stepFrom (p .n) (p .q) (record { lo = p .wlo; hi = p .whi }) (p .coef) u ≡ stepOf p u
+pub step-from : (p : Plant) (u : ℕ) → stepFrom (p .n) (p .q) (p .wlo) (p .whi) (p .coef) u ≡ stepOf p u
 step-from p u = refl
 
 -- ---- what is asked
 
 -- the row that starts at `start` stands in the slice, its numbers in the ranges
 pub record RowSound (n : ℕ) (coef : List ℤ) (start : ℕ) : Type 0 where
+  pub some : 1 ≤ n
   pub rooms : n ≤ 4
+  pub below : start < 320
   pub inside : start + n < length coef
   pub entries : (j : ℕ) → j < n → natAbs (at coef (start + j)) ≤ entryLimit
   pub offset : natAbs (at coef (start + n)) ≤ offsetLimit
 
-pub record StepSound (n q : ℕ) (w : Bx) (coef : List ℤ) (u : ℕ) : Type 0 where
+pub record StepSound (n q : ℕ) (wlo whi : List ℤ) (coef : List ℤ) (u : ℕ) : Type 0 where
   pub rooms : n ≤ 4
   pub least : 1 ≤ q
   pub most : q ≤ 10_000
-  pub bands : Small bandLimit (boxOf n w)
+  pub bands : Small bandLimit (sidesOf n wlo whi)
   pub rows : (i : ℕ) → i < n → RowSound n coef (rowStart n u i)
 
 -- ---- what the sums over a row answer

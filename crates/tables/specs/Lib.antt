@@ -6,4 +6,5 @@ pub mod Modes
 pub mod Trees
 pub mod Calls
 pub mod Search
+pub mod Limits
 pub mod Makes

@@ -4,6 +4,7 @@ use Prim.Native.Nat.{ℕ, zero, suc}
 use mathlib.Core.Bool.{Bool, true, false}
 use mathlib.Core.List.{List, [], _∷_}
 use mathlib.Core.Option.{Option, none, some}
+use lib.Dec.{ltb}
 use Rattle.laws.specs.Guards.{guard}
 use Rattle.meaning.specs.Rules.{Rules}
 use Rattle.meaning.specs.Defined.{exactly}
@@ -17,6 +18,10 @@ backwards (suc m) us = modeAt us m ∷ backwards m us
 abbrev pub soughtOf : Bool → List ℕ → Option (List ℕ)
 soughtOf true us = some us
 soughtOf false us = none
+
+-- a mode below N, as a pattern of one
+abbrev pub oneOf : ℕ → ℕ → Option (List ℕ)
+oneOf modes u = soughtOf (ltb u modes) (u ∷ [])
 
 module _ (r : Rules) where
   open Rules r using (Kept, within, image, kept, safe)

@@ -104,7 +104,7 @@ pub fn count(n: usize, b: Bx) -> usize
 }
 
 // Both orders at once: what a reading in a side and a side in a side ask.
-fn ordered(a: i64, b: i64, c: i64, d: i64) -> bool
+pub fn ordered(a: i64, b: i64, c: i64, d: i64) -> bool
     ensures { λ r. ⌜ r ≡ (leZ a b && leZ c d) ⌝ }
 {
     if a <= b { c <= d } else { false }

@@ -1,21 +1,23 @@
-// Images (document 01, "Image"): what a mode makes of a box. The coefficients are lent as a slice, so that no call copies them; all else is small.
+// Images (document 01, "Image"): what a mode makes of a box. Coefficients, band and box are lent, so that no call copies them.
 // Relies on boxes and division, and on crates/meaning for what an image is. Leaves out whether the image lies in S or R (tiles).
 // Every sum fits 64 bits: 4 entries of A within 20,000 times edges within 1,000,000, an offset and a band.
 use crate::boxes::Bx;
 use crate::division;
 ghost use mathlib.Core.Path.{_≡_};
-ghost use Prim.Native.Nat.{_≤_};
-ghost use lib.IntN.{natAbs};
-ghost use Rattle.meaning.specs.Boxes.{side};
+ghost use Prim.Native.Nat.{_+_, _≤_, _<_};
+ghost use lib.ListN.{length};
+ghost use lib.IntN.{natAbs, _+ℤ_};
+ghost use Rattle.laws.specs.Lists.{at};
+ghost use Rattle.meaning.specs.Boxes.{side, sideAt, sidesOf};
 ghost use Rattle.meaning.specs.Images.{leastOf, greatestOf, imageSide, image};
 ghost use Rattle.meaning.specs.Plants.{edgeLimit, bandLimit, entryLimit};
-ghost use Rattle.tables.specs.Boxes.{boxOf, Small};
-ghost use Rattle.tables.specs.Images.{entriesOf, rowAt, stepFrom, RowSound, StepSound, Extremes};
+ghost use Rattle.tables.specs.Boxes.{boxOf, Bounded, Small};
+ghost use Rattle.tables.specs.Images.{rowLimit, entriesOf, rowAt, stepFrom, RowSound, StepSound, Extremes};
 
 // A least and a greatest number.
-struct Span {
-    lo: i64,
-    hi: i64,
+pub struct Span {
+    pub lo: i64,
+    pub hi: i64,
 }
 
 // The least and the greatest of a·x over l..h: a takes the low or the high edge by its sign.
@@ -38,57 +40,100 @@ fn term(a: i64, l: i64, h: i64) -> Span
     }
 }
 
-// The least and the greatest of A·x over a box, A being the row that starts at `start`.
-fn extremes(n: usize, coef: &[i64], start: usize, b: Bx) -> Span
-    requires { ⌜ RowSound n (now coef) start × Small edgeLimit (boxOf n b) ⌝ }
-    ensures { λ r. ⌜ Extremes (entriesOf n (now (coef .entry)) start) (boxOf n b) (r .lo) (r .hi) ⌝ }
+// One more term of a row: s and entry j, taken over side j.
+fn more(coef: &[i64], start: usize, j: usize, lo: &[i64; 4], hi: &[i64; 4], s: Span) -> Span
+    requires place { ⌜ (j < 4) × (start + j < length (now coef)) × (start < 320) ⌝ }
+    requires entry { ⌜ (natAbs (at (now coef) (start + j)) ≤ entryLimit) × Bounded edgeLimit (sideAt (now lo) (now hi) j) ⌝ }
+    requires sums { ⌜ (natAbs (s .lo) ≤ rowLimit) × (natAbs (s .hi) ≤ rowLimit) ⌝ }
+    ensures least { λ r. ⌜ r .lo ≡ s .lo +ℤ leastOf (at (now (coef .entry)) (start + j)) (sideAt (now (lo .entry)) (now (hi .entry)) j) ⌝ }
+    ensures greatest { λ r. ⌜ r .hi ≡ s .hi +ℤ greatestOf (at (now (coef .entry)) (start + j)) (sideAt (now (lo .entry)) (now (hi .entry)) j) ⌝ }
 {
-    let mut lo: i64 = 0;
-    let mut hi: i64 = 0;
-    let mut j: usize = 0;
-    while j < n {
-        let a = coef[start + j];
-        let l = b.lo[j];
-        let h = b.hi[j];
-        let t = term(a, l, h);
-        lo += t.lo;
-        hi += t.hi;
-        j += 1;
+    let a = coef[start + j];
+    let l = lo[j];
+    let h = hi[j];
+    let t = term(a, l, h);
+    let least = s.lo + t.lo;
+    let greatest = s.hi + t.hi;
+    Span {
+        lo: least,
+        hi: greatest,
     }
-    Span { lo, hi }
+}
+
+// The least and the greatest of A·x over a box, A being the row that starts at `start`. Written out room by room: a loop of at most four rounds
+// costs more than its terms.
+pub fn extremes(n: usize, coef: &[i64], start: usize, lo: &[i64; 4], hi: &[i64; 4]) -> Span
+    requires { ⌜ RowSound n (now coef) start × Small edgeLimit (sidesOf n (now lo) (now hi)) ⌝ }
+    ensures { λ r. ⌜ Extremes (entriesOf n (now (coef .entry)) start) (sidesOf n (now (lo .entry)) (now (hi .entry))) (r .lo) (r .hi) ⌝ }
+{
+    let none = Span { lo: 0, hi: 0 };
+    let one = more(coef, start, 0, lo, hi, none);
+    if n == 1 {
+        return one;
+    }
+    let two = more(coef, start, 1, lo, hi, one);
+    if n == 2 {
+        return two;
+    }
+    let three = more(coef, start, 2, lo, hi, two);
+    if n == 3 {
+        return three;
+    }
+    more(coef, start, 3, lo, hi, three)
 }
 
 // One side of an image, by the row that starts at `start` and its band wl..wh.
-fn image_side(n: usize, q: usize, coef: &[i64], start: usize, wl: i64, wh: i64, b: Bx) -> Span
+fn image_side(
+    n: usize,
+    q: usize,
+    coef: &[i64],
+    start: usize,
+    wl: i64,
+    wh: i64,
+    lo: &[i64; 4],
+    hi: &[i64; 4],
+) -> Span
     requires step { ⌜ (1 ≤ q) × (q ≤ 10_000) × (natAbs wl ≤ bandLimit) × (natAbs wh ≤ bandLimit) ⌝ }
-    requires row { ⌜ RowSound n (now coef) start × Small edgeLimit (boxOf n b) ⌝ }
-    ensures { λ r. ⌜ side (r .lo) (r .hi) ≡ imageSide q (boxOf n b) (rowAt n (now (coef .entry)) start wl wh) ⌝ }
+    requires row { ⌜ RowSound n (now coef) start × Small edgeLimit (sidesOf n (now lo) (now hi)) ⌝ }
+    ensures { λ r. ⌜ side (r .lo) (r .hi) ≡ imageSide q (sidesOf n (now (lo .entry)) (now (hi .entry))) (rowAt n (now (coef .entry)) start wl wh) ⌝ }
 {
-    let sums = extremes(n, coef, start, b);
+    let sums = extremes(n, coef, start, lo, hi);
     let offset = coef[start + n];
-    let lo = division::ceiling(sums.lo + offset + wl, q);
-    let hi = division::floor(sums.hi + offset + wh, q);
-    Span { lo, hi }
+    let low = division::ceiling(sums.lo + offset + wl, q);
+    let high = division::floor(sums.hi + offset + wh, q);
+    Span { lo: low, hi: high }
 }
 
-// The image of a box under mode u: q, the band w and the coefficients are the plant's.
-pub fn image(n: usize, q: usize, w: Bx, coef: &[i64], u: usize, b: Bx) -> Bx
-    requires { ⌜ StepSound n q w (now coef) u × Small edgeLimit (boxOf n b) ⌝ }
-    ensures { λ r. ⌜ boxOf n r ≡ image (stepFrom n q w (now (coef .entry)) u) (boxOf n b) ⌝ }
+// The image of a box under mode u: q, the band wlo..whi and the coefficients are the plant's.
+pub fn image(
+    n: usize,
+    q: usize,
+    wlo: &[i64; 4],
+    whi: &[i64; 4],
+    coef: &[i64],
+    u: usize,
+    lo: &[i64; 4],
+    hi: &[i64; 4],
+) -> Bx
+    requires { ⌜ StepSound n q (now wlo) (now whi) (now coef) u × Small edgeLimit (sidesOf n (now lo) (now hi)) ⌝ }
+    ensures { λ r. ⌜ boxOf n r ≡ image (stepFrom n q (now (wlo .entry)) (now (whi .entry)) (now (coef .entry)) u) (sidesOf n (now (lo .entry)) (now (hi .entry))) ⌝ }
 {
-    let mut lo = [0i64; 4];
-    let mut hi = [0i64; 4];
+    let mut least = [0i64; 4];
+    let mut greatest = [0i64; 4];
     let mut i: usize = 0;
     while i < n {
         let start = (u * n + i) * (n + 1);
-        let wl = w.lo[i];
-        let wh = w.hi[i];
-        let s = image_side(n, q, coef, start, wl, wh, b);
+        let wl = wlo[i];
+        let wh = whi[i];
+        let s = image_side(n, q, coef, start, wl, wh, lo, hi);
         let sl = s.lo;
         let sh = s.hi;
-        lo[i] = sl;
-        hi[i] = sh;
+        least[i] = sl;
+        greatest[i] = sh;
         i += 1;
     }
-    Bx { lo, hi }
+    Bx {
+        lo: least,
+        hi: greatest,
+    }
 }

@@ -5,6 +5,7 @@ use crate::boxes;
 use crate::boxes::Bx;
 use crate::frames;
 use crate::frames::Frame;
+use crate::limits;
 use crate::refusals;
 use crate::search;
 use files::buffers;
@@ -22,6 +23,7 @@ ghost use Rattle.meaning.specs.Trees.{tile, layout};
 ghost use Rattle.promises.specs.Sound.{Sound};
 ghost use Rattle.tables.specs.Boxes.{boxOf, Small};
 ghost use Rattle.tables.specs.Frames.{plantFrom};
+ghost use Rattle.tables.specs.Limits.{Ready};
 ghost use Rattle.tables.specs.Search.{backwards};
 ghost use Rattle.tables.specs.Makes.{Wrote, treeBytes, definedBytes};
 
@@ -46,11 +48,19 @@ fn put_tile(buf: &mut [u8], at: usize, k: usize, us: [usize; 6]) -> usize
 }
 
 // The defined tree of box b with depth d left: a tile of the first pattern, or where there is none a split and the trees of the children.
-fn tree(f: Frame, coef: &[i64], d: usize, b: Bx, buf: &mut [u8], at: usize) -> Grown
-    requires { ⌜ Sound (plantFrom f (now coef)) × Small edgeLimit (boxOf (f .n) b) ⌝ }
+fn tree(
+    f: Frame,
+    coef: &[i64],
+    limits: &[i64; 24],
+    d: usize,
+    b: Bx,
+    buf: &mut [u8],
+    at: usize,
+) -> Grown
+    requires { ⌜ Ready (plantFrom f (now coef)) (now limits) × Small edgeLimit (boxOf (f .n) b) ⌝ }
     ensures { λ r. ⌜ Wrote (treeBytes (rulesOf (plantFrom f (now (coef .entry)))) d (boxOf (f .n) b)) (now (buf .entry)) at r (now (buf .exit)) ⌝ }
 {
-    let sought = search::first(f, coef, b);
+    let sought = search::first(f, coef, limits, b);
     if sought.found {
         let us = sought.us;
         return Grown::Next(put_tile(buf, at, sought.size, us));
@@ -67,7 +77,7 @@ fn tree(f: Frame, coef: &[i64], d: usize, b: Bx, buf: &mut [u8], at: usize) -> G
     let mut c: usize = 0;
     while c < count {
         let kid = boxes::child(n, b, c);
-        let grown = tree(f, coef, d - 1, kid, buf, place);
+        let grown = tree(f, coef, limits, d - 1, kid, buf, place);
         let Grown::Next(next) = grown else {
             return Grown::Nothing;
         };
@@ -77,17 +87,20 @@ fn tree(f: Frame, coef: &[i64], d: usize, b: Bx, buf: &mut [u8], at: usize) -> G
     Grown::Next(place)
 }
 
-// The table of a plant that was judged good: header, then the tree of R. The coefficients are copied out of the plant once, and lent from then on.
+// The table of a plant that was judged good: header, then the tree of R. The coefficients are copied out of the plant
+// once and the limits made once; both are lent from then on.
 fn table(p: Plant, buf: &mut [u8]) -> Grown
     requires { ⌜ Sound p ⌝ }
     ensures { λ r. ⌜ Wrote (definedBytes (rulesOf p)) (now (buf .entry)) 0 r (now (buf .exit)) ⌝ }
 {
     let f = frames::framed(p);
     let coef = p.coef;
+    let laid = limits::lay(f);
+    let limits = laid.of;
     let root = f.root;
     let past_form = numbers::put_number(buf, 0, 1);
     let past_rooms = numbers::put_number(buf, past_form, f.n);
-    tree(f, &coef, f.d, root, buf, past_rooms)
+    tree(f, &coef, &limits, f.d, root, buf, past_rooms)
 }
 
 // The table's file for a plant's file. Finished, only the file's bytes are changed; refused, the buffer is all zeros: plant, 9, 10.

@@ -24,12 +24,16 @@ pub fn tile_rule(f: Frame, coef: &[i64], k: usize, us: [usize; 6], b: Bx) -> Rul
     let n = f.n;
     let q = f.q;
     let band = f.band;
+    let wlo = band.lo;
+    let whi = band.hi;
     let safe = f.safe;
     let mut c = b;
     let mut i: usize = 0;
     while i < k {
         let u = us[i];
-        c = images::image(n, q, band, coef, u, c);
+        let lo = c.lo;
+        let hi = c.hi;
+        c = images::image(n, q, &wlo, &whi, coef, u, &lo, &hi);
         if boxes::within(n, c, safe) {
             i += 1;
         } else {

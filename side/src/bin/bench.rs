@@ -3,7 +3,7 @@
 //! says that the proved library is the faster.
 
 use second::control::State;
-use side::{check, control, largest_table_plant, make, plant};
+use side::{check, common, control, four_rooms_without_a_table, largest_table_plant, make, plant};
 use std::hint::black_box;
 use std::time::Instant;
 
@@ -43,17 +43,25 @@ fn main() {
             black_box(second::checker::check(black_box(&bytes), black_box(&table))).unwrap();
         },
     );
-    let (mut ours, mut theirs) = (table.clone(), table.clone());
-    compare(
-        "make, that table",
-        2,
-        || {
-            black_box(make(black_box(&bytes), black_box(&mut ours)));
-        },
-        || {
-            black_box(second::maker::make(black_box(&bytes), black_box(&mut theirs))).unwrap();
-        },
-    );
+    for (name, bytes, calls) in [
+        ("make, the sample house of two rooms", &include_bytes!("../../../samples/house.plant")[..], 100),
+        ("make, four rooms whose first box fails (19,088,736 images)", &four_rooms_without_a_table(), 1),
+        ("make, a table of 30,039 bytes", &bytes, 2),
+    ] {
+        let (mut ours, mut theirs) = (vec![0; second::LARGEST_TABLE], vec![0; second::LARGEST_TABLE]);
+        assert_eq!(make(bytes, &mut ours).0, common::told(second::maker::make(bytes, &mut theirs)).0);
+        assert_eq!(ours, theirs);
+        compare(
+            name,
+            calls,
+            || {
+                black_box(make(black_box(bytes), black_box(&mut ours)));
+            },
+            || {
+                black_box(second::maker::make(black_box(bytes), black_box(&mut theirs))).ok();
+            },
+        );
+    }
     let last = [1063, 1063, 0, 0];
     assert_eq!(control(&bytes, &table, 0, 0, last), (0, [0, 0, 30_034, 5]));
     compare(

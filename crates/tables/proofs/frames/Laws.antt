@@ -43,19 +43,27 @@ module _ (p : Plant) (g : Sound p) where
   pub safe-small : Small edgeLimit (safeOf p)
   safe-small = edges-small (g .safe)
 
+  pub band-small : Small bandLimit (sidesOf (p .n) (p .wlo) (p .whi))
+  band-small = edges-small (g .band)
+
   row-sound : (u i : ℕ) → u < p .modes → i < p .n → RowSound (p .n) (p .coef) (rowStart (p .n) u i)
   row-sound u i h k = record {
+    some = g .n-low;
     rooms = g .n-high;
+    below = omega (arith, row-inside (p .n) (p .modes) u i (g .n-high) (g .modes-high) h k);
     inside = omega (arith, row-inside (p .n) (p .modes) u i (g .n-high) (g .modes-high) h k, g .coef-size);
     entries = λ j l. g .entries u i j h k l;
     offset = g .offsets u i h k;
   }
 
-  pub step-sound : (u : ℕ) → u < p .modes → StepSound (p .n) (p .q) (record { lo = p .wlo; hi = p .whi }) (p .coef) u
-  step-sound u h = record { rooms = g .n-high; least = g .q-low; most = g .q-high; bands = edges-small (g .band); rows = λ i k. row-sound u i h k }
+  pub step-sound : (u : ℕ) → u < p .modes → StepSound (p .n) (p .q) (p .wlo) (p .whi) (p .coef) u
+  step-sound u h = record { rooms = g .n-high; least = g .q-low; most = g .q-high; bands = band-small; rows = λ i k. row-sound u i h k }
 
   pub divisor : 1 ≤ p .q
   divisor = g .q-low
+
+  pub divisor-small : p .q ≤ 10_000
+  divisor-small = g .q-high
 
   pub band-wide : (i : ℕ) → i < p .n → (pos (p .q) -ℤ pos 1) ≤ℤ (at (p .whi) i -ℤ at (p .wlo) i)
   band-wide = g .wide

@@ -1,29 +1,25 @@
 -- Laws of images for the proofs of module images and of its callers: the terms of a row and their sum, term by term; the sides of an image; and
 -- that an image inside S is a small box again. Assumes nothing.
-use Prim.Native.Nat.{ℕ, suc, _+_, _-_, _*_, _≤_, _<_}
+use Prim.Native.Nat.{ℕ, suc, _+_, _*_, _≤_, _<_}
 use mathlib.Core.Path.{_≡_, refl, sym, ap, _∙_}
 use mathlib.Core.Bool.{true}
-use mathlib.Core.List.{List, [], _∷_}
+use mathlib.Core.List.{List, [], _∷_, _++_}
 use native.Mathlib.Omega.{arith}
 use native.Mathlib.Nat.{mul-le-mul, mul-le-mul-left, zero-add}
 use lib.ListN.{length, set}
 use lib.IntN.{ℤ, pos, negsuc, natAbs, _+ℤ_, _-ℤ_, _*ℤ_, +ℤ-assoc, +ℤ-idl, +ℤ-idr}
-use mir.Syntax.{w64}
-use mir.Val.{toZ}
 use lib.Signed.{_≤ℤ_, _<ℤ_, ≤ℤ-refl}
 use Rattle.laws.specs.Integers.{zarith, of-le, add, sub, mul, abs-add, abs-mul}
-use Rattle.laws.specs.Expressions.{Ex, var, held, _⊕_, mach, up}
 use Rattle.laws.specs.Division.{floorZ, ceilZ}
 use Rattle.laws.specs.DivisionLaws.{ceil-floor}
 use Rattle.laws.specs.Lists.{at, tab, all}
-use Rattle.laws.specs.Tabs.{tab-step, tab-done, tab-snoc, map-tab}
+use Rattle.laws.specs.Tabs.{length-tab, tab-snoc, map-tab}
 use Rattle.laws.specs.Tests.{orders, all-tab}
 use Rattle.meaning.specs.declared.Plant.{Plant}
 use Rattle.meaning.specs.Boxes.{Side, side, sideAt, covers, within}
 use Rattle.meaning.specs.Images.{Row, leastOf, greatestOf, extreme, imageSide, image}
 use Rattle.meaning.specs.Plants.{edgeLimit, entryLimit, safeOf, stepOf}
 use Rattle.tables.specs.Boxes.{Bounded, Small}
-use Rattle.tables.specs.declared.boxes.Bx.{Bx}
 use Rattle.tables.specs.Images.{termLimit, rowFrom, stepFrom, Extremes}
 use Rattle.promises.specs.Sound.{Sound}
 use Rattle.tables.proofs.frames.Laws.{safe-small, divisor, band-wide}
@@ -63,41 +59,35 @@ least-small a s f b = abs-least a s f (b .low) (b .high)
 pub greatest-small : (a : ℤ) (s : Side) → natAbs a ≤ entryLimit → Bounded edgeLimit s → natAbs (greatestOf a s) ≤ termLimit
 greatest-small a s f b = rw (← turned a s) (abs-least a (side (s .hi) (s .lo)) f (b .high) (b .low))
 
--- ---- the sum of the terms, with j of n behind it: stated once for the least and the greatest
+-- ---- the sum of the first j terms: stated once for the least and the greatest
 
-pub record Summed (of : ℤ → Side → ℤ) (es : ℕ → ℤ) (ss : ℕ → Side) (n j : ℕ) (z : ℤ) : Type 0 where
+pub record Summed (of : ℤ → Side → ℤ) (es : ℕ → ℤ) (ss : ℕ → Side) (j : ℕ) (z : ℤ) : Type 0 where
   pub small : natAbs z ≤ termLimit * j
-  pub sum : z +ℤ extreme of (tab es (n - j) j) (tab ss (n - j) j) ≡ extreme of (tab es n 0) (tab ss n 0)
+  pub sum : z ≡ extreme of (tab es j 0) (tab ss j 0)
 
-module _ (of : ℤ → Side → ℤ) (es : ℕ → ℤ) (ss : ℕ → Side) (n : ℕ) where
-  pub summed-none : Summed of es ss n 0 (pos 0)
-  summed-none = record { small = omega arith; sum = +ℤ-idl (extreme of (tab es (n - 0) 0) (tab ss (n - 0) 0)) ∙ (let q : n - 0 ≡ n = omega arith in rw q refl) }
+-- one term behind lists of one length
+extreme-behind : (of : ℤ → Side → ℤ) (es : List ℤ) (ss : List Side) (a : ℤ) (s : Side) → length es ≡ length ss → extreme of (es ++ a ∷ []) (ss ++ s ∷ []) ≡ extreme of es ss +ℤ of a s
+unfolding extreme
+extreme-behind of [] [] a s q = +ℤ-idr (of a s) ∙ sym (+ℤ-idl (of a s))
+extreme-behind of [] (t ∷ ss) a s q = absurd (omega arith)
+extreme-behind of (e ∷ es) [] a s q = absurd (omega arith)
+extreme-behind of (e ∷ es) (t ∷ ss) a s q =
+    ap (λ (z : ℤ). of e t +ℤ z) (extreme-behind of es ss a s (omega arith)) ∙ sym (+ℤ-assoc (of e t) (extreme of es ss) (of a s))
 
-  pub summed-more : {j : ℕ} {z : ℤ} → Summed of es ss n j z → j < n → natAbs (of (es j) (ss j)) ≤ termLimit → Summed of es ss n (j + 1) (z +ℤ of (es j) (ss j))
-  unfolding extreme
-  summed-more {j} {z} s h k = record {
-    small = omega (arith, s .small, abs-add z (of (es j) (ss j)));
-    sum = +ℤ-assoc z (of (es j) (ss j)) (extreme of (tab es (n - (j + 1)) (j + 1)) (tab ss (n - (j + 1)) (j + 1))) ∙ (rw (step j h) at (s .sum));
-  }
-    where
-      step : (j : ℕ) → j < n → extreme of (tab es (n - j) j) (tab ss (n - j) j) ≡ of (es j) (ss j) +ℤ extreme of (tab es (n - (j + 1)) (j + 1)) (tab ss (n - (j + 1)) (j + 1))
-      step j h = rw (tab-step es n j h, tab-step ss n j h) refl
+module _ (of : ℤ → Side → ℤ) (es : ℕ → ℤ) (ss : ℕ → Side) where
+  pub summed-none : Summed of es ss 0 (pos 0)
+  unfolding extreme tab
+  summed-none = record { small = omega arith; sum = refl }
 
-  pub summed-done : {j : ℕ} {z : ℤ} → Summed of es ss n j z → n ≤ j → z ≡ extreme of (tab es n 0) (tab ss n 0)
-  unfolding extreme
-  summed-done {j} {z} s h = sym (+ℤ-idr z) ∙ (rw (done j h) at (s .sum))
-    where
-      done : (j : ℕ) → n ≤ j → extreme of (tab es (n - j) j) (tab ss (n - j) j) ≡ pos 0
-      done j h = rw (tab-done es n j h) refl
-
--- one more term as the machine adds it: the loop's variable holds `bits`, and z is what the call for the term gave
-module _ (of : ℤ → Side → ℤ) (es : ℕ → ℤ) (ss : ℕ → Side) (n j bits : ℕ) (z : ℤ)
-    (r : n ≤ 4) (h : j < n) (s : Summed of es ss n j (toZ w64 bits)) (e : z ≡ of (es j) (ss j)) (k : natAbs (of (es j) (ss j)) ≤ termLimit) where
-  abbrev pub next : Ex
-  next = held (toZ w64 bits) (toZ w64 bits) 60_000_000_000 refl (omega (arith, s .small)) ⊕ var z termLimit (rw e k)
-
-  pub summed-next : Summed of es ss n (j + 1) (mach next)
-  summed-next = up (λ (y : ℤ). Summed of es ss n (j + 1) y) next tt (rw e (summed-more of es ss n s h k))
+  pub summed-more : (j : ℕ) (z y : ℤ) → Summed of es ss j z → natAbs (of (es j) (ss j)) ≤ termLimit → y ≡ z +ℤ of (es j) (ss j) → Summed of es ss (j + 1) y
+  summed-more j z y s k e =
+      let q : 0 + j ≡ j = zero-add j in
+      let l : length (tab es j 0) ≡ length (tab ss j 0) = length-tab es j 0 ∙ sym (length-tab ss j 0) in
+      record {
+        small = rw e (omega (arith, s .small, abs-add z (of (es j) (ss j))));
+        sum = e ∙ ap (λ (x : ℤ). x +ℤ of (es j) (ss j)) (s .sum) ∙ sym (extreme-behind of (tab es j 0) (tab ss j 0) (es j) (ss j) l)
+            ∙ sym (rw (tab-snoc es j 0, tab-snoc ss j 0, q) refl);
+      }
 
 -- ---- the image, side by side
 
@@ -107,12 +97,12 @@ pub side-is : {es : List ℤ} {b : List Side} {lo hi : ℤ} (x y o wl wh : ℤ) 
 side-is x y o wl wh q e f g = rw (f, g, e .least, e .greatest) refl
 
 -- side i of the image of b
-abbrev pub imageSideAt : ℕ → ℕ → Bx → List ℤ → ℕ → List Side → ℕ → Side
-imageSideAt n q w coef u b i = imageSide q b (rowFrom n w coef u i)
+abbrev pub imageSideAt : ℕ → ℕ → List ℤ → List ℤ → List ℤ → ℕ → List Side → ℕ → Side
+imageSideAt n q wlo whi coef u b i = imageSide q b (rowFrom n wlo whi coef u i)
 
-pub image-tab : (n q : ℕ) (w : Bx) (coef : List ℤ) (u : ℕ) (b : List Side) → image (stepFrom n q w coef u) b ≡ tab (imageSideAt n q w coef u b) n 0
+pub image-tab : (n q : ℕ) (wlo whi : List ℤ) (coef : List ℤ) (u : ℕ) (b : List Side) → image (stepFrom n q wlo whi coef u) b ≡ tab (imageSideAt n q wlo whi coef u b) n 0
 unfolding image
-image-tab n q w coef u b = map-tab (imageSide q b) (rowFrom n w coef u) n 0
+image-tab n q wlo whi coef u b = map-tab (imageSide q b) (rowFrom n wlo whi coef u) n 0
 
 -- one more side is stored
 pub image-more : (f : ℕ → Side) (lo hi : List ℤ) (i : ℕ) (x y : ℤ) → i < length lo → i < length hi → side x y ≡ f i → tab (sideAt lo hi) i 0 ≡ tab f i 0
@@ -166,28 +156,19 @@ inside-small a s b e o =
     }
 
 pub small-image : (p : Plant) → Sound p → (u : ℕ) (b : List Side) → Small edgeLimit b → within (image (stepOf p u) b) (safeOf p) ≡ true → Small edgeLimit (image (stepOf p u) b)
-small-image p g u b s e = rw (image-tab n q w cs u b) (small-tab f n 0 (λ j l h. at-side j (omega arith)))
+small-image p g u b s e = rw (image-tab n (p .q) (p .wlo) (p .whi) (p .coef) u b) (small-tab f n 0 (λ j l h. at-side j (omega arith)))
   where
     n : ℕ
     n = p .n
 
-    q : ℕ
-    q = p .q
-
-    w : Bx
-    w = record { lo = p .wlo; hi = p .whi }
-
-    cs : List ℤ
-    cs = p .coef
-
     f : ℕ → Side
-    f = imageSideAt n q w cs u b
+    f = imageSideAt n (p .q) (p .wlo) (p .whi) (p .coef) u b
 
     inside : all (tab (λ j. covers (sideAt (p .slo) (p .shi) j) (f j)) n 0) ≡ true
-    inside = sym (ap all (lies-tab f (sideAt (p .slo) (p .shi)) n 0)) ∙ (rw (image-tab n q w cs u b) at e)
+    inside = sym (ap all (lies-tab f (sideAt (p .slo) (p .shi)) n 0)) ∙ (rw (image-tab n (p .q) (p .wlo) (p .whi) (p .coef) u b) at e)
 
     at-side : (j : ℕ) → j < p .n → Bounded edgeLimit (f j)
     at-side j h =
         inside-small (f j) (sideAt (p .slo) (p .shi) j) (small-side (p .slo) (p .shi) n j (safe-small p g) h)
         (rw zero-add at (all-tab (λ j. covers (sideAt (p .slo) (p .shi) j) (f j)) n 0 j h inside))
-        (side-order edgeLimit q b (rowFrom n w cs u j) s (divisor p g) (band-wide p g j h))
+        (side-order edgeLimit (p .q) b (rowFrom n (p .wlo) (p .whi) (p .coef) u j) s (divisor p g) (band-wide p g j h))

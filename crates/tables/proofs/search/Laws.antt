@@ -8,20 +8,29 @@ use mathlib.Core.Option.{Option, none, some}
 use native.Mathlib.Omega.{arith}
 use native.Mathlib.Nat.{sub-zero}
 use native.Mathlib.Numerals.{add-one}
+use lib.Dec.{ltb}
 use lib.ListN.{length, set}
+use lib.IntN.{ℤ}
 use lib.Seq.{getD-set-same, getD-set-other}
 use Rattle.laws.specs.Guards.{guard}
+use Rattle.laws.specs.Lists.{tab}
+use Rattle.laws.specs.Tabs.{tab-same}
+use Rattle.laws.specs.Tests.{never}
 use Rattle.meaning.specs.declared.Plant.{Plant}
-use Rattle.meaning.specs.Boxes.{Side, within}
+use Rattle.meaning.specs.Boxes.{Side, sideAt, within}
 use Rattle.meaning.specs.Images.{image}
-use Rattle.meaning.specs.Plants.{edgeLimit, rootOf, safeOf, stepOf}
+use Rattle.meaning.specs.Plants.{edgeLimit, bandLimit, rootOf, safeOf, stepOf}
 use Rattle.meaning.specs.Tables.{rulesOf}
 use Rattle.meaning.specs.Defined.{firstMode, exactly, shortest, firstPattern}
 use Rattle.promises.specs.Sound.{Sound}
+use Rattle.promises.specs.Boxes.{within-trans}
 use Rattle.tables.specs.Boxes.{Small}
 use Rattle.tables.specs.Tiles.{modeAt}
-use Rattle.tables.specs.Search.{backwards, soughtOf, behindMode}
+use Rattle.tables.specs.Limits.{lentSide, covered, landing, RowsSound, Ready}
+use Rattle.tables.specs.Search.{backwards, soughtOf, oneOf, behindMode}
+use Rattle.tables.proofs.frames.Laws.{step-sound, band-small}
 use Rattle.tables.proofs.images.Laws.{small-image}
+use Rattle.tables.proofs.steps.Laws.{covered-root}
 
 -- ---- patterns as the code holds them
 
@@ -47,7 +56,7 @@ backwards-length (suc m) us = rw (backwards-length m us) refl
 -- ---- the modes in front: v of N are tried, and a is the answer behind mode v
 
 module _ (try : ℕ → Option (List ℕ)) (N v : ℕ) where
-  modes-over : N ≤ v → firstMode try (N - v) v ≡ none
+  pub modes-over : N ≤ v → firstMode try (N - v) v ≡ none
   unfolding firstMode
   modes-over h = let z : N - v ≡ 0 = omega arith in rw z refl
 
@@ -55,11 +64,11 @@ module _ (try : ℕ → Option (List ℕ)) (N v : ℕ) where
     one-left : N - v ≡ suc (N - (v + 1))
     one-left = omega arith
 
-    modes-hit : (us : List ℕ) → try v ≡ some us → firstMode try (N - v) v ≡ some (v ∷ us)
+    pub modes-hit : (us : List ℕ) → try v ≡ some us → firstMode try (N - v) v ≡ some (v ∷ us)
     unfolding firstMode
     modes-hit us e = rw (one-left, e) refl
 
-    modes-miss : try v ≡ none → firstMode try (N - v) v ≡ firstMode try (N - (v + 1)) (v + 1)
+    pub modes-miss : try v ≡ none → firstMode try (N - v) v ≡ firstMode try (N - (v + 1)) (v + 1)
     unfolding firstMode
     modes-miss e = rw (one-left, e, add-one) refl
 
@@ -74,6 +83,54 @@ module _ (try : ℕ → Option (List ℕ)) (N v : ℕ) (whole : Option (List ℕ
     pub modes-found : found ≡ true → m < length us → some (backwards (suc m) (set us m v)) ≡ whole
     modes-found z l =
         ap some (backwards-stored us m v l) ∙ sym (modes-hit try N v h (backwards m us) (sym e ∙ rw z refl)) ∙ q
+
+-- the same answers, the same first
+first-same : (f g : ℕ → Option (List ℕ)) → ((u : ℕ) → f u ≡ g u) → (m v : ℕ) → firstMode f m v ≡ firstMode g m v
+unfolding firstMode
+first-same f g e zero v = refl
+first-same f g e (suc m) v = rw (e v, first-same f g e m (suc v)) refl
+
+-- ---- a plant and its limits: what is asked of a mode, and what its sums tell
+
+-- nothing is left behind a last mode
+abbrev ending : Bool → Option (List ℕ)
+ending t = guard t none λ _. some []
+
+module _ (p : Plant) (limits : List ℤ) (g : Ready p limits) where
+  pub rows-sound : (u : ℕ) → u < p .modes → RowsSound (p .n) (p .coef) u
+  rows-sound u h = step-sound p (g .sound) u h .rows
+
+  pub lent-band : Small bandLimit (tab (lentSide limits 16) (p .n) 0)
+  lent-band =
+      rw (tab-same (lentSide limits 16) (sideAt (p .wlo) (p .whi)) (p .n) 0 (λ i a b. g .laid .in-band i (omega arith)))
+      (band-small p (g .sound))
+
+  -- an image in R lies in S, so that the last step asks for R alone
+  module _ (b : List Side) where
+    pub landing-is : (u : ℕ) → landing (p .n) (p .coef) limits b u ≡ behindMode (rulesOf p) 0 b u
+    unfolding exactly
+    landing-is u = ap ending (covered-root p limits g u b) ∙ go (within c (safeOf p)) (within c (rootOf p)) refl refl
+      where
+        c : List Side
+        c = image (stepOf p u) b
+
+        go : (s r : Bool) → within c (safeOf p) ≡ s → within c (rootOf p) ≡ r → ending r ≡ guard s none (λ _. ending r)
+        go true r e f = refl
+        go false false e f = refl
+        go false true e f = never (sym e ∙ within-trans c (rootOf p) (safeOf p) f (g .sound .root-safe))
+
+    pub lands-is : (m u : ℕ) (found : Bool) (us : List ℕ) → m ≡ 0 → found ≡ covered (p .n) (p .coef) limits 8 u b → soughtOf found (backwards m us) ≡ behindMode (rulesOf p) m b u
+    unfolding backwards
+    lands-is m u found us z e = rw z (go found ∙ ap ending e ∙ landing-is u)
+      where
+        go : (t : Bool) → soughtOf t [] ≡ ending t
+        go true = refl
+        go false = refl
+
+    pub last-is : (m v : ℕ) → m ≡ 1 → oneOf (p .modes) v ≡ firstMode (landing (p .n) (p .coef) limits b) (p .modes) 0
+        → soughtOf (ltb v (p .modes)) (backwards m (v ∷ 0 ∷ 0 ∷ 0 ∷ 0 ∷ 0 ∷ [])) ≡ exactly (rulesOf p) m b
+    unfolding exactly backwards
+    last-is m v z e = rw z (e ∙ first-same (landing (p .n) (p .coef) limits b) (behindMode (rulesOf p) 0 b) landing-is (p .modes) 0)
 
 -- ---- behind mode u on box b, whose image the code holds as c
 
@@ -91,14 +148,6 @@ module _ (p : Plant) (m u : ℕ) (b c : List Side) (q : c ≡ image (stepOf p u)
 -- with m modes to come, from c on
 
 module _ (p : Plant) (m : ℕ) (c : List Side) where
-  pub modes-last : m ≡ 0 → (found : Bool) (us : List ℕ) → found ≡ within c (rootOf p) → soughtOf found (backwards m us) ≡ exactly (rulesOf p) m c
-  unfolding exactly backwards
-  modes-last z found us f = rw (z, ← f) (empty found)
-    where
-      empty : (t : Bool) → soughtOf t [] ≡ guard t none (λ _. some [])
-      empty true = refl
-      empty false = refl
-
   pub modes-all : firstMode (behindMode (rulesOf p) m c) (p .modes - 0) 0 ≡ exactly (rulesOf p) (suc m) c
   unfolding exactly
   modes-all = rw sub-zero refl

@@ -1,169 +1,135 @@
--- `images::extremes`: the least and the greatest, each as the sum so far and the terms that are left. Assumes nothing.
+-- `images::extremes`: the sums of the first rooms, one room more at each call. Assumes nothing.
 use mathlib.Core.Path.{_≡_}
-use Prim.Native.Nat.{ℕ, _≤_, _<_, _-_, _*_}
+use Prim.Native.Nat.{ℕ, _+_, _≤_, _<_}
 use native.Mathlib.Omega.{arith}
-use lib.IntN.{ℤ, natAbs}
+use lib.ListN.{length}
+use lib.IntN.{ℤ, pos, natAbs, _+ℤ_}
 use denote.Ref.{now}
-use mir.Syntax.{w64}
-use mir.Val.{toZ}
-use Rattle.laws.specs.Lists.{at}
-use Rattle.laws.specs.Expressions.{Ex, var, need, exact, under}
+use Rattle.laws.specs.Lists.{tab}
 use Rattle.meaning.specs.Boxes.{Side, sideAt}
 use Rattle.meaning.specs.Images.{leastOf, greatestOf}
 use Rattle.meaning.specs.Plants.{edgeLimit, entryLimit}
 use Rattle.tables.specs.Boxes.{Bounded}
-use Rattle.tables.specs.Images.{termLimit, rowLimit, entryAt}
+use Rattle.tables.specs.Images.{rowLimit, entryAt, Extremes}
 use Rattle.tables.proofs.boxes.Laws.{small-side}
-use Rattle.tables.proofs.images.Laws.{Summed, summed-none, summed-done, next, summed-next, least-small, greatest-small}
+use Rattle.tables.proofs.images.Laws.{Summed, summed-none, summed-more, least-small, greatest-small}
 use Rattle.tables.proofs.images.extremes.Statement.{statement}
 use Rattle.tables.proofs.images.extremes.Tie as tie
 
-abbrev Inv-loop : tie.InvT-loop
-Inv-loop n coef start b lo₀ hi₀ j₀ lo hi j =
-    (j ≤ n)
-    × Summed leastOf (entryAt coef start) (sideAt (b .lo) (b .hi)) n j (toZ w64 lo)
-    × Summed greatestOf (entryAt coef start) (sideAt (b .lo) (b .hi)) n j (toZ w64 hi)
+module _ (s : tie.Start) where
+  abbrev entries : ℕ → ℤ
+  entries = entryAt (now (s .args .coef)) (s .args .start)
 
-abbrev μ-loop : tie.MeasureT-loop
-μ-loop n coef start b lo₀ hi₀ j₀ lo hi j = n - j
+  abbrev sides : ℕ → Side
+  sides = sideAt (now (s .args .lo)) (now (s .args .hi))
 
--- what is summed
-abbrev entries : tie.Start Inv-loop μ-loop → ℕ → ℤ
-entries s = entryAt (now (s .args .coef)) (s .args .start)
+  bounded : (j : ℕ) → j < s .args .n → Bounded edgeLimit (sides j)
+  bounded j h = small-side (now (s .args .lo)) (now (s .args .hi)) (s .args .n) j (s .pre .1) h
 
-abbrev sides : tie.Start Inv-loop μ-loop → ℕ → Side
-sides s = sideAt (s .args .t4 .lo) (s .args .t4 .hi)
+  -- both sums over the first j rooms
+  abbrev Sums : ℕ → ℤ → ℤ → Type 0
+  Sums j lo hi = Summed leastOf entries sides j lo × Summed greatestOf entries sides j hi
 
-module _ (s : tie.Start Inv-loop μ-loop) (j : ℕ) (h : j < s .args .n) where
-  bounded : Bounded edgeLimit (sides s j)
-  bounded = small-side (s .args .t4 .lo) (s .args .t4 .hi) (s .args .n) j (s .pre .1) h
+  sums-more : (j : ℕ) (x y lo hi : ℤ) → j < s .args .n → Sums j x y → (lo ≡ x +ℤ leastOf (entries j) (sides j)) × (hi ≡ y +ℤ greatestOf (entries j) (sides j)) → Sums (j + 1) lo hi
+  sums-more j x y lo hi h w e = (
+    summed-more leastOf entries sides j x lo (w .0) (least-small (entries j) (sides j) (s .pre .0 .entries j h) (bounded j h)) (e .0),
+    summed-more greatestOf entries sides j y hi (w .1) (greatest-small (entries j) (sides j) (s .pre .0 .entries j h) (bounded j h)) (e .1),
+  )
 
-  abbrev entry : Ex
-  entry = var (entries s j) entryLimit (s .pre .0 .entries j h)
+  done : (j : ℕ) (lo hi : ℤ) → s .args .n ≡ j → j ≤ 4 → Sums j lo hi → Extremes (tab entries (s .args .n) 0) (tab sides (s .args .n) 0) lo hi
+  done j lo hi q h w = record {
+    least = rw q (w .0 .sum);
+    greatest = rw q (w .1 .sum);
+    low = omega (arith, w .0 .small);
+    high = omega (arith, w .1 .small);
+  }
 
-  abbrev low : Ex
-  low = var (sides s j .lo) edgeLimit (bounded .low)
+  -- one room more can be asked for
+  asks : (j : ℕ) (lo hi : ℤ) → j < s .args .n → Sums j lo hi
+      → ((j < 4) × (s .args .start + j < length (now (s .args .coef))) × (s .args .start < 320))
+      × (((natAbs (entries j) ≤ entryLimit) × Bounded edgeLimit (sides j)) × ((natAbs lo ≤ rowLimit) × (natAbs hi ≤ rowLimit)))
+  asks j lo hi h w =
+      let r = s .pre .0 .rooms in (
+        (omega arith, omega (arith, s .pre .0 .inside), s .pre .0 .below),
+        ((s .pre .0 .entries j h, bounded j h), (omega (arith, w .0 .small), omega (arith, w .1 .small))),
+      )
 
-  abbrev high : Ex
-  high = var (sides s j .hi) edgeLimit (bounded .high)
+-- after each call
+module _ (c : tie.After-more) where
+  one : Sums (c .before) 1 (c .more .result .lo) (c .more .result .hi)
+  one = sums-more (c .before) 0 (pos 0) (pos 0) (c .more .result .lo) (c .more .result .hi) (c .before .pre .0 .some) (summed-none leastOf (entries (c .before)) (sides (c .before)), summed-none greatestOf (entries (c .before)) (sides (c .before))) (c .more .ensures)
 
--- the call's answer, and the sums with it
-abbrev from : tie.After-term Inv-loop μ-loop → tie.Start Inv-loop μ-loop
-from c = c .before .before .before .before .before .before
+module _ (c : tie.After-more2) where
+  abbrev from2 : tie.Start
+  from2 = c .before .before .before
 
-abbrev index : tie.After-term Inv-loop μ-loop → ℕ
-index c = c .before .before .before .before .before .loop .j
+  two : Sums from2 2 (c .more2 .result .lo) (c .more2 .result .hi)
+  two = let e = c .before .if1 .left in let k = from2 .pre .0 .some in
+      sums-more from2 1 _ _ (c .more2 .result .lo) (c .more2 .result .hi) (omega arith) (one (c .before .before)) (c .more2 .ensures)
 
-module _ (c : tie.After-term Inv-loop μ-loop) where
-  h : index c < from c .args .n
-  h = c .before .before .before .before .loop-test .taken
+module _ (c : tie.After-more3) where
+  abbrev from3 : tie.Start
+  from3 = c .before .before .before .before .before
 
-  gave : (c .term .result .lo ≡ leastOf (entries (from c) (index c)) (sides (from c) (index c)))
-      × (c .term .result .hi ≡ greatestOf (entries (from c) (index c)) (sides (from c) (index c)))
-  gave = rw (exact (entry (from c) (index c) h) tt, exact (low (from c) (index c) h) tt, exact (high (from c) (index c) h) tt) at (c .term .ensures)
+  three : Sums from3 3 (c .more3 .result .lo) (c .more3 .result .hi)
+  three = let e = c .before .if2 .left in let f = c .before .before .before .if1 .left in let k = from3 .pre .0 .some in
+      sums-more from3 2 _ _ (c .more3 .result .lo) (c .more3 .result .hi) (omega arith) (two (c .before .before)) (c .more3 .ensures)
 
-  least-term : natAbs (leastOf (entries (from c) (index c)) (sides (from c) (index c))) ≤ termLimit
-  least-term = least-small (entries (from c) (index c)) (sides (from c) (index c)) (from c .pre .0 .entries (index c) h) (bounded (from c) (index c) h)
+more-requires : tie.Need-more-requires
+more-requires c κs = asks c 0 (pos 0) (pos 0) (c .pre .0 .some) (summed-none leastOf (entries c) (sides c), summed-none greatestOf (entries c) (sides c))
 
-  greatest-term : natAbs (greatestOf (entries (from c) (index c)) (sides (from c) (index c))) ≤ termLimit
-  greatest-term = greatest-small (entries (from c) (index c)) (sides (from c) (index c)) (from c .pre .0 .entries (index c) h) (bounded (from c) (index c) h)
+returns : tie.Need-returns
+returns c = done (c .before .before) 1 _ _ (c .if1 .taken) (omega arith) (one (c .before))
 
-abbrev least : tie.After-term Inv-loop μ-loop → Ex
-least c =
-    let s = from c in
-    let l = c .before .before .before .before .before .loop in
-    next leastOf (entries s) (sides s) (s .args .n) (l .j) (l .lo) (c .term .result .lo) (s .pre .0 .rooms) (h c) (l .inv .1) (gave c .0) (least-term c)
-
-abbrev greatest : tie.After-term Inv-loop μ-loop → Ex
-greatest c =
-    let s = from c in
-    let l = c .before .before .before .before .before .loop in
-    next greatestOf (entries s) (sides s) (s .args .n) (l .j) (l .hi) (c .term .result .hi) (s .pre .0 .rooms) (h c) (l .inv .2) (gave c .1) (greatest-term c)
-
-loop-holds : tie.Need-loop-holds Inv-loop μ-loop
-loop-holds c = (omega arith, summed-none leastOf (entries c) (sides c) (c .args .n), summed-none greatestOf (entries c) (sides c) (c .args .n))
-
-add-a : tie.Need-add-a Inv-loop μ-loop
-add-a c = omega arith
-
-mul-a : tie.Need-mul-a Inv-loop μ-loop
-mul-a c = omega arith
-
-shared-slice-copy-out-a : tie.Need-shared-slice-copy-out-a Inv-loop μ-loop
-shared-slice-copy-out-a c = omega arith
-
-mul-l : tie.Need-mul-l Inv-loop μ-loop
-mul-l c = omega arith
-
-element-copy-out-l : tie.Need-element-copy-out-l Inv-loop μ-loop
-element-copy-out-l c = omega arith
-
-mul-h : tie.Need-mul-h Inv-loop μ-loop
-mul-h c = omega arith
-
-element-copy-out-h : tie.Need-element-copy-out-h Inv-loop μ-loop
-element-copy-out-h c = omega arith
-
-term-requires : tie.Need-term-requires Inv-loop μ-loop
-term-requires c κs =
-    let s = c .before .before .before .before .before in
-    let j = c .before .before .before .before .loop .j in
-    let h : j < s .args .n = omega arith in
-    (under (entry s j h) entryLimit tt, under (low s j h) edgeLimit tt, under (high s j h) edgeLimit tt)
-
-add-lo : tie.Need-add-lo Inv-loop μ-loop
-add-lo c = need (least (c .before .before)) tt
-
-add-hi : tie.Need-add-hi Inv-loop μ-loop
-add-hi c = need (greatest (c .before .before .before .before)) tt
-
-add-j : tie.Need-add-j Inv-loop μ-loop
-add-j c = omega arith
-
-loop-less : tie.Need-loop-less Inv-loop μ-loop
-loop-less c = omega arith
-
-loop-again : tie.Need-loop-again Inv-loop μ-loop
-loop-again c =
-    let t = c .before .before .before .before in
-    let s = from t in
-    let l = t .before .before .before .before .before .loop in
-    let r = s .pre .0 .rooms in (
-      omega arith,
-      summed-next leastOf (entries s) (sides s) (s .args .n) (l .j) (l .lo) (t .term .result .lo) r (h t) (l .inv .1) (gave t .0) (least-term t),
-      summed-next greatestOf (entries s) (sides s) (s .args .n) (l .j) (l .hi) (t .term .result .hi) r (h t) (l .inv .2) (gave t .1) (greatest-term t),
-    )
-
-returns : tie.Need-returns Inv-loop μ-loop
-returns c =
-    let l = c .before .loop in
+more-requires-2 : tie.Need-more-requires-2
+more-requires-2 c κs =
     let s = c .before .before in
-    let k : termLimit * l .j ≤ rowLimit = omega arith in
-    record {
-      least = summed-done leastOf (entries s) (sides s) (s .args .n) (l .inv .1) (c .loop-test .left);
-      greatest = summed-done greatestOf (entries s) (sides s) (s .args .n) (l .inv .2) (c .loop-test .left);
-      low = omega (arith, l .inv .1 .small);
-      high = omega (arith, l .inv .2 .small);
-    }
+    let e = c .if1 .left in
+    let k = s .pre .0 .some in
+    asks s 1 _ _ (omega arith) (one (c .before))
+
+returns-2 : tie.Need-returns-2
+returns-2 c = done (c .before .before .before .before) 2 _ _ (c .if2 .taken) (omega arith) (two (c .before))
+
+more-requires-3 : tie.Need-more-requires-3
+more-requires-3 c κs =
+    let s = c .before .before .before .before in
+    let e = c .if2 .left in
+    let f = c .before .before .if1 .left in
+    let k = s .pre .0 .some in
+    asks s 2 _ _ (omega arith) (two (c .before))
+
+returns-3 : tie.Need-returns-3
+returns-3 c = done (c .before .before .before .before .before .before) 3 _ _ (c .if3 .taken) (omega arith) (three (c .before))
+
+more-requires-4 : tie.Need-more-requires-4
+more-requires-4 c κs =
+    let s = c .before .before .before .before .before .before in
+    let e = c .if3 .left in
+    let f = c .before .before .if2 .left in
+    let g = c .before .before .before .before .if1 .left in
+    let k = s .pre .0 .some in
+    asks s 3 _ _ (omega arith) (three (c .before))
+
+returns-4 : tie.Need-returns-4
+returns-4 c =
+    let s = c .before .before .before .before .before .before .before in
+    let e = c .before .if3 .left in
+    let f = c .before .before .before .if2 .left in
+    let g = c .before .before .before .before .before .if1 .left in
+    let k = s .pre .0 .some in
+    let r = s .pre .0 .rooms in
+    done s 4 _ _ (omega arith) (omega arith) (sums-more s 3 _ _ (c .more4 .result .lo) (c .more4 .result .hi) (omega arith) (three (c .before .before)) (c .more4 .ensures))
 
 pub extremes-spec : {M : Type 1} → statement M
 extremes-spec =
     tie.close
     (tie.spec
-    Inv-loop
-    μ-loop
-    loop-holds
-    add-a
-    mul-a
-    shared-slice-copy-out-a
-    mul-l
-    element-copy-out-l
-    mul-h
-    element-copy-out-h
-    term-requires
-    add-lo
-    add-hi
-    add-j
-    loop-less
-    loop-again
-    returns)
+    more-requires
+    returns
+    more-requires-2
+    returns-2
+    more-requires-3
+    returns-3
+    more-requires-4
+    returns-4)

@@ -8,9 +8,9 @@ use mir.Facts.{toZ-ofZ}
 use Rattle.laws.specs.Integers.{ok64}
 use Rattle.laws.specs.Lists.{at, tab}
 use Rattle.laws.specs.Expressions.{Ex, var, exact, under}
-use Rattle.meaning.specs.Boxes.{Side, sideAt}
+use Rattle.meaning.specs.Boxes.{Side, sideAt, sidesOf}
 use Rattle.meaning.specs.Plants.{bandLimit, rowStart}
-use Rattle.tables.specs.Boxes.{Bounded, boxOf}
+use Rattle.tables.specs.Boxes.{Bounded}
 use Rattle.tables.specs.Images.{RowSound}
 use Rattle.tables.proofs.boxes.Laws.{small-side}
 use Rattle.tables.proofs.images.Laws.{imageSideAt, image-tab, image-more, image-done}
@@ -18,28 +18,28 @@ use Rattle.tables.proofs.images.image.Statement.{statement}
 use Rattle.tables.proofs.images.image.Tie as tie
 
 abbrev Inv-loop : tie.InvT-loop
-Inv-loop n q coef u b w lo₀ hi₀ i₀ lo hi i =
-    (i ≤ n) × (length lo ≡ 4) × (length hi ≡ 4) × (tab (sideAt lo hi) i 0 ≡ tab (imageSideAt n q w coef u (boxOf n b)) i 0)
+Inv-loop n q wlo whi coef u lo hi least₀ greatest₀ i₀ least greatest i =
+    (i ≤ n) × (length least ≡ 4) × (length greatest ≡ 4) × (tab (sideAt least greatest) i 0 ≡ tab (imageSideAt n q wlo whi coef u (sidesOf n lo hi)) i 0)
 
 abbrev μ-loop : tie.MeasureT-loop
-μ-loop n q coef u b w lo₀ hi₀ i₀ lo hi i = n - i
+μ-loop n q wlo whi coef u lo hi least₀ greatest₀ i₀ least greatest i = n - i
 
 -- side i of the image, its row and its band
 abbrev sides : tie.Start Inv-loop μ-loop → ℕ → Side
-sides s = let a = s .args in imageSideAt (a .n) (a .q) (a .t3) (now (a .coef)) (a .u) (boxOf (a .n) (a .b))
+sides s = let a = s .args in imageSideAt (a .n) (a .q) (now (a .wlo)) (now (a .whi)) (now (a .coef)) (a .u) (sidesOf (a .n) (now (a .lo)) (now (a .hi)))
 
 module _ (s : tie.Start Inv-loop μ-loop) (i : ℕ) (h : i < s .args .n) where
   row : RowSound (s .args .n) (now (s .args .coef)) (rowStart (s .args .n) (s .args .u) i)
   row = s .pre .0 .rows i h
 
-  band : Bounded bandLimit (sideAt (s .args .t3 .lo) (s .args .t3 .hi) i)
-  band = small-side (s .args .t3 .lo) (s .args .t3 .hi) (s .args .n) i (s .pre .0 .bands) h
+  band : Bounded bandLimit (sideAt (now (s .args .wlo)) (now (s .args .whi)) i)
+  band = small-side (now (s .args .wlo)) (now (s .args .whi)) (s .args .n) i (s .pre .0 .bands) h
 
   abbrev low : Ex
-  low = var (at (s .args .t3 .lo) i) bandLimit (band .low)
+  low = var (at (now (s .args .wlo)) i) bandLimit (band .low)
 
   abbrev high : Ex
-  high = var (at (s .args .t3 .hi) i) bandLimit (band .high)
+  high = var (at (now (s .args .whi)) i) bandLimit (band .high)
 
 loop-holds : tie.Need-loop-holds Inv-loop μ-loop
 unfolding tab
@@ -76,17 +76,17 @@ image-side-requires c κs =
     let h = c .before .before .loop-test .taken in
     ((s .pre .0 .least, s .pre .0 .most, under (low s i h) bandLimit tt, under (high s i h) bandLimit tt), (row s i h, s .pre .1))
 
-mul-lo : tie.Need-mul-lo Inv-loop μ-loop
-mul-lo c = omega arith
+mul-least : tie.Need-mul-least Inv-loop μ-loop
+mul-least c = omega arith
 
-array-set-from-lo : tie.Need-array-set-from-lo Inv-loop μ-loop
-array-set-from-lo c = omega arith
+array-set-from-least : tie.Need-array-set-from-least Inv-loop μ-loop
+array-set-from-least c = omega arith
 
-mul-hi : tie.Need-mul-hi Inv-loop μ-loop
-mul-hi c = omega arith
+mul-greatest : tie.Need-mul-greatest Inv-loop μ-loop
+mul-greatest c = omega arith
 
-array-set-from-hi : tie.Need-array-set-from-hi Inv-loop μ-loop
-array-set-from-hi c = omega arith
+array-set-from-greatest : tie.Need-array-set-from-greatest Inv-loop μ-loop
+array-set-from-greatest c = omega arith
 
 add-i : tie.Need-add-i Inv-loop μ-loop
 add-i c = omega arith
@@ -104,7 +104,7 @@ loop-again c =
       omega arith,
       simp length-set (l .inv .1),
       simp length-set (l .inv .2),
-      image-more (sides s) (l .lo) (l .hi) (l .i) _ _ (omega (arith, s .pre .0 .rooms)) (omega (arith, s .pre .0 .rooms))
+      image-more (sides s) (l .least) (l .greatest) (l .i) _ _ (omega (arith, s .pre .0 .rooms)) (omega (arith, s .pre .0 .rooms))
           (rw (toZ-ofZ (ok64 (e .result .lo) (omega arith)), toZ-ofZ (ok64 (e .result .hi) (omega arith))) g) (l .inv .3),
     )
 
@@ -113,7 +113,7 @@ returns c =
     let l = c .before .loop in
     let s = c .before .before in
     let a = s .args in
-    image-done (sides s) (l .lo) (l .hi) (a .n) (l .i) (omega arith) (l .inv .3) ∙ sym (image-tab (a .n) (a .q) (a .t3) (now (a .coef)) (a .u) (boxOf (a .n) (a .b)))
+    image-done (sides s) (l .least) (l .greatest) (a .n) (l .i) (omega arith) (l .inv .3) ∙ sym (image-tab (a .n) (a .q) (now (a .wlo)) (now (a .whi)) (now (a .coef)) (a .u) (sidesOf (a .n) (now (a .lo)) (now (a .hi))))
 
 pub image-spec : {M : Type 1} → statement M
 image-spec =
@@ -131,10 +131,10 @@ image-spec =
     mul-wh
     element-copy-out-wh
     image-side-requires
-    mul-lo
-    array-set-from-lo
-    mul-hi
-    array-set-from-hi
+    mul-least
+    array-set-from-least
+    mul-greatest
+    array-set-from-greatest
     add-i
     loop-less
     loop-again

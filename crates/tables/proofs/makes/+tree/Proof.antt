@@ -34,25 +34,25 @@ use Rattle.tables.proofs.search.first.Reads as first-reads
 use Rattle.tables.proofs.makes.+tree.{statement}
 use Rattle.tables.proofs.makes.+tree.Tie.{close}
 
-abbrev μ-tree : Measures 2 tree-kinds.ps ℕ
-μ-tree κs a = a .1 .1 .0
+abbrev μ-tree : Measures 3 tree-kinds.ps ℕ
+μ-tree κs a = a .1 .1 .1 .0
 
-abbrev tree-at : ℕ → In 2 tree-kinds.ps
-tree-at t = and 2 tree-kinds.ps (is 2 tree-kinds.ps μ-tree t) tree.Pre
+abbrev tree-at : ℕ → In 3 tree-kinds.ps
+tree-at t = and 3 tree-kinds.ps (is 3 tree-kinds.ps μ-tree t) tree.Pre
 
-abbrev tree-below : ℕ → In 2 tree-kinds.ps
-tree-below t = and 2 tree-kinds.ps (falls 2 tree-kinds.ps _<_ μ-tree t) tree.Pre
+abbrev tree-below : ℕ → In 3 tree-kinds.ps
+tree-below t = and 3 tree-kinds.ps (falls 3 tree-kinds.ps _<_ μ-tree t) tree.Pre
 
 abbrev claims : ℕ → tree-lts.Claims
 claims t = (first-reads.Asked, first-reads.Learnt, put-tile-reads.Asked, put-tile-reads.Learnt, count-reads.Asked, count-reads.Learnt, put-number-reads.Asked, put-number-reads.Learnt, child-reads.Asked, child-reads.Learnt, tree-below t, tree.Post)
 
 abbrev tree-Inv-loop : tree-lts.InvT-loop
-tree-Inv-loop f coef d b buf₀ at n count place₀ c₀ buf place c =
+tree-Inv-loop f coef limits d b buf₀ at n count place₀ c₀ buf place c =
     (c ≤ count)
     × Growing buf₀ place₀ (treesBytes (rulesOf (plantFrom f coef)) (d - 1) (children (boxOf (f .n) b))) (treesBytes (rulesOf (plantFrom f coef)) (d - 1) (drop c (children (boxOf (f .n) b)))) place buf
 
 abbrev tree-μ-loop : tree-lts.MeasureT-loop
-tree-μ-loop f coef d b buf₀ at n count place₀ c₀ buf place c = count - c
+tree-μ-loop f coef limits d b buf₀ at n count place₀ c₀ buf place c = count - c
 
 -- a call with that much depth: at its start, with a split's number written, with a child's tree written
 abbrev Call : ℕ → Type 0
@@ -101,7 +101,7 @@ module _ (t : ℕ) (w : Child t) where
   done = w .before .before .before .before .loop .c
 
   abbrev left : List ℕ
-  left = w .tree .last .1 .1 .1 .1 .0
+  left = w .tree .last .1 .1 .1 .1 .1 .0
 
   in-count : done < length (children (box t (from t parent)))
   in-count = in-box t parent (w .before .before .before .loop-test .taken)
@@ -145,7 +145,7 @@ tree-returns-2 t c =
     node-deep (plant t s) (s .args .d) (box t s) (x .result .found) (backwards (x .result .size) (x .result .us)) (x .ensures .0) (now (s .args .buf)) (s .args .at) (c .before .if1 .left) (c .if2 .taken)
 
 tree-count-requires : (t : ℕ) → tree-lts.Need-count-requires (claims t) (tree-at t) tree.Post tree-Inv-loop tree-μ-loop
-tree-count-requires t c κs = let s = c .before .before .before .before in rooms (plant t s) (s .pre .1 .0)
+tree-count-requires t c κs = let s = c .before .before .before .before in rooms (plant t s) (s .pre .1 .0 .sound)
 
 tree-returns-3 : (t : ℕ) → tree-lts.Need-returns-3 (claims t) (tree-at t) tree.Post tree-Inv-loop tree-μ-loop
 tree-returns-3 t c =
@@ -165,7 +165,7 @@ tree-child-requires : (t : ℕ) → tree-lts.Need-child-requires (claims t) (tre
 tree-child-requires t c κs =
     let k = c .before .before in
     let s = from t k in
-    (rooms (plant t s) (s .pre .1 .0), s .pre .1 .1, in-box t k (c .loop-test .taken))
+    (rooms (plant t s) (s .pre .1 .0 .sound), s .pre .1 .1, in-box t k (c .loop-test .taken))
 
 tree-sub-tree : (t : ℕ) → tree-lts.Need-sub-tree (claims t) (tree-at t) tree.Post tree-Inv-loop tree-μ-loop
 tree-sub-tree t c = let z = c .before .before .before .before .before .before .before .before .before .if2 .left in omega arith

@@ -1,4 +1,5 @@
--- `search::behind`, which calls itself with fewer modes to come: the modes that are left say what all of them say. Assumes nothing.
+-- `search::behind`, which calls itself with fewer modes to come: the modes that are left say what all of them say, for any plant that has what is
+-- lent. Assumes nothing.
 use Prim.Native.Nat.{ℕ, suc, _-_, _≤_, _<_}
 use mathlib.Core.Path.{_≡_, refl, sym, ap, _∙_}
 use mathlib.Core.Bool.{true}
@@ -6,171 +7,224 @@ use mathlib.Core.List.{List}
 use mathlib.Core.Option.{Option, some}
 use native.Mathlib.Omega.{arith}
 use denote.Ref.{now}
+use lib.IntN.{ℤ}
 use lib.ListN.{set, length-set}
 use Rattle.meaning.specs.declared.Plant.{Plant}
-use Rattle.meaning.specs.Boxes.{Side, within}
-use Rattle.meaning.specs.Plants.{edgeLimit, safeOf}
+use Rattle.meaning.specs.Boxes.{Side, sidesOf, within}
+use Rattle.meaning.specs.Images.{image}
+use Rattle.meaning.specs.Plants.{edgeLimit, safeOf, stepOf}
 use Rattle.meaning.specs.Tables.{rulesOf}
 use Rattle.meaning.specs.Defined.{firstMode, exactly}
-use Rattle.tables.specs.declared.boxes.Bx.{Bx}
 use Rattle.tables.specs.Boxes.{boxOf, Small}
-use Rattle.tables.specs.Frames.{plantFrom}
+use Rattle.tables.specs.Limits.{Unlent, plantLent, Ready}
 use Rattle.tables.specs.Search.{backwards, behindMode}
-use Rattle.tables.proofs.frames.Laws.{rooms, step-sound}
-use Rattle.tables.proofs.search.Laws.{modes-done, modes-next, modes-found, behind-leaves, behind-stays, behind-small, modes-last, modes-one}
+use Rattle.tables.proofs.frames.Laws.{divisor, divisor-small}
+use Rattle.tables.proofs.steps.Laws.{covered-safe, made-image}
+use Rattle.tables.proofs.search.Laws.{modes-done, modes-next, modes-found, rows-sound, lent-band, last-is, lands-is, behind-leaves, behind-stays, behind-small, modes-one}
 use borrow.Fn.Kinds.{In}
 use borrow.Fn.PlainCycle.{Measures, is, falls, and}
 use Rattle.tables.proofs.search.behind.Reads as behind
 use Rattle.tables.proofs.search.behind.Kinds as behind-kinds
 use Rattle.tables.proofs.search.+behind.Lts-behind as behind-lts
-use Rattle.tables.proofs.boxes.within.Reads as within-reads
-use Rattle.tables.proofs.images.image.Reads as image-reads
+use Rattle.tables.proofs.steps.lands.Reads as lands-reads
+use Rattle.tables.proofs.steps.last.Reads as last-reads
+use Rattle.tables.proofs.steps.step.Reads as step-reads
 use Rattle.tables.proofs.search.+behind.{statement}
 use Rattle.tables.proofs.search.+behind.Tie.{close}
 
-abbrev μ-behind : Measures 1 behind-kinds.ps ℕ
-μ-behind κs a = a .1 .1 .0
+abbrev μ-behind : Measures 4 behind-kinds.ps ℕ
+μ-behind κs a = a .1 .1 .1 .1 .1 .0
 
-abbrev behind-at : ℕ → In 1 behind-kinds.ps
-behind-at t = and 1 behind-kinds.ps (is 1 behind-kinds.ps μ-behind t) behind.Pre
+abbrev behind-at : ℕ → In 4 behind-kinds.ps
+behind-at t = and 4 behind-kinds.ps (is 4 behind-kinds.ps μ-behind t) behind.Pre
 
-abbrev behind-below : ℕ → In 1 behind-kinds.ps
-behind-below t = and 1 behind-kinds.ps (falls 1 behind-kinds.ps _<_ μ-behind t) behind.Pre
+abbrev behind-below : ℕ → In 4 behind-kinds.ps
+behind-below t = and 4 behind-kinds.ps (falls 4 behind-kinds.ps _<_ μ-behind t) behind.Pre
 
 abbrev claims : ℕ → behind-lts.Claims
-claims t = (image-reads.Asked, image-reads.Learnt, within-reads.Asked, within-reads.Learnt, behind-below t, behind.Post)
+claims t = (lands-reads.Asked, lands-reads.Learnt, step-reads.Asked, step-reads.Learnt, last-reads.Asked, last-reads.Learnt, behind-below t, behind.Post)
 
 abbrev behind-Inv-loop : behind-lts.InvT-loop
-behind-Inv-loop f coef m u none n modes q c v₀ v =
-    (v ≤ f .modes) × (firstMode (behindMode (rulesOf (plantFrom f coef)) (m - 1) (boxOf (f .n) c)) (f .modes - v) v ≡ exactly (rulesOf (plantFrom f coef)) m (boxOf (f .n) c))
+behind-Inv-loop n modes q coef limits m u lo hi none clo chi v₀ v =
+    (v ≤ modes)
+    × ((x : Unlent) → Ready (plantLent x n modes q coef) limits
+    → firstMode (behindMode (rulesOf (plantLent x n modes q coef)) (m - 1) (sidesOf n clo chi)) (modes - v) v ≡ exactly (rulesOf (plantLent x n modes q coef)) m (sidesOf n clo chi))
 
 abbrev behind-μ-loop : behind-lts.MeasureT-loop
-behind-μ-loop f coef m u none n modes q c v₀ v = modes - v
+behind-μ-loop n modes q coef limits m u lo hi none clo chi v₀ v = modes - v
 
--- a call with that many modes to come, and one whose image stays in S
+-- a call with that many modes to come; one that has made a step; and one whose image stays in S
 abbrev Call : ℕ → Type 0
 Call t = behind-lts.Start (claims t) (behind-at t) behind.Post behind-Inv-loop behind-μ-loop
 
+abbrev Step : ℕ → Type 0
+Step t = behind-lts.After-step (claims t) (behind-at t) behind.Post behind-Inv-loop behind-μ-loop
+
 abbrev Stays : ℕ → Type 0
-Stays t = behind-lts.Else2 (claims t) (behind-at t) behind.Post behind-Inv-loop behind-μ-loop
+Stays t = behind-lts.After-chi (claims t) (behind-at t) behind.Post behind-Inv-loop behind-μ-loop
 
 module _ (t : ℕ) (s : Call t) where
-  abbrev plant : Plant
-  plant = plantFrom (s .args .f) (now (s .args .coef))
+  abbrev plant : Unlent → Plant
+  plant x = let a = s .args in plantLent x (a .n) (a .modes) (a .q) (now (a .coef))
 
-  abbrev box : Bx → List Side
-  box b = boxOf (s .args .f .n) b
+  abbrev Fits : Unlent → Type 0
+  Fits x = Ready (plant x) (now (s .args .limits))
+
+  abbrev box : List Side
+  box = let a = s .args in sidesOf (a .n) (now (a .lo)) (now (a .hi))
+
+  -- the plant that is there
+  abbrev some-plant : Unlent
+  some-plant = s .pre .1 .0 .0 .rest
+
+  fits-some : Fits some-plant
+  fits-some = s .pre .1 .0 .0 .ready
+
+module _ (t : ℕ) (c : Step t) where
+  abbrev began : Call t
+  began = c .before .before
+
+  module _ (x : Unlent) (g : Fits t began x) where
+    told : c .step .result .stays ≡ within (image (stepOf (plant t began x) (began .args .u)) (box t began)) (safeOf (plant t began x))
+    told = c .step .ensures .0 ∙ covered-safe (plant t began x) (now (began .args .limits)) g (began .args .u) (box t began)
+
+    made : c .step .result .stays ≡ true → boxOf (began .args .n) (c .step .result .image) ≡ image (stepOf (plant t began x) (began .args .u)) (box t began)
+    made e = c .step .ensures .1 e ∙ made-image (plant t began x) (now (began .args .limits)) g (began .args .u) (box t began)
 
 module _ (t : ℕ) (c : Stays t) where
   abbrev from : Call t
-  from = c .before .before .before .before .before .before .before
+  from = began t (c .before .before .before .before)
 
-  abbrev image : List Side
-  image = box t from (c .before .before .before .before .before .image .result)
+  abbrev held : List Side
+  held = boxOf (from .args .n) (c .before .before .before .before .step .result .image)
 
-  in-safe : within image (safeOf (plant t from)) ≡ true
-  in-safe = sym (c .before .before .within .ensures) ∙ c .before .if1 .taken
+  module _ (x : Unlent) (g : Fits t from x) where
+    is-image : held ≡ image (stepOf (plant t from x) (from .args .u)) (box t from)
+    is-image = made t (c .before .before .before .before) x g (c .before .before .before .if2 .taken)
 
-  stays : exactly (rulesOf (plant t from)) (from .args .m) image ≡ behindMode (rulesOf (plant t from)) (from .args .m) (box t from (from .args .b)) (from .args .u)
-  stays = behind-stays (plant t from) (from .args .m) (from .args .u) (box t from (from .args .b)) image (c .before .before .before .before .before .image .ensures) in-safe
+    in-safe : within held (safeOf (plant t from x)) ≡ true
+    in-safe = rw is-image (sym (told t (c .before .before .before .before) x g) ∙ c .before .before .before .if2 .taken)
 
-  small : Small edgeLimit image
-  small = behind-small (plant t from) (from .args .m) (from .args .u) (box t from (from .args .b)) image (c .before .before .before .before .before .image .ensures) in-safe (from .pre .1 .0 .0) (from .pre .1 .0 .1)
+    stays : exactly (rulesOf (plant t from x)) (from .args .m) held ≡ behindMode (rulesOf (plant t from x)) (from .args .m) (box t from) (from .args .u)
+    stays = behind-stays (plant t from x) (from .args .m) (from .args .u) (box t from) held is-image in-safe
 
-  abbrev try : ℕ → Option (List ℕ)
-  try = behindMode (rulesOf (plant t from)) (from .args .m - 1) image
+    abbrev try : ℕ → Option (List ℕ)
+    try = behindMode (rulesOf (plant t from x)) (from .args .m - 1) held
 
-behind-image-requires : (t : ℕ) → behind-lts.Need-image-requires (claims t) (behind-at t) behind.Post behind-Inv-loop behind-μ-loop
-behind-image-requires t c κs = let s = c .before in (step-sound (plant t s) (s .pre .1 .0 .0) (s .args .u) (s .pre .1 .1 .0), s .pre .1 .0 .1)
+    abbrev whole : Option (List ℕ)
+    whole = exactly (rulesOf (plant t from x)) (from .args .m) held
 
-behind-within-requires : (t : ℕ) → behind-lts.Need-within-requires (claims t) (behind-at t) behind.Post behind-Inv-loop behind-μ-loop
-behind-within-requires t c κs = let s = c .before .before .before .before in rooms (plant t s) (s .pre .1 .0 .0)
+  small : Small edgeLimit held
+  small =
+      let x = some-plant t from in
+      let g = fits-some t from in
+      behind-small (plant t from x) (from .args .m) (from .args .u) (box t from) held (is-image x g) (in-safe x g) (g .sound) (from .pre .1 .0 .1)
+
+behind-lands-requires : (t : ℕ) → behind-lts.Need-lands-requires (claims t) (behind-at t) behind.Post behind-Inv-loop behind-μ-loop
+behind-lands-requires t c κs =
+    let s = c .before in
+    (rows-sound (plant t s (some-plant t s)) (now (s .args .limits)) (fits-some t s) (s .args .u) (s .pre .1 .1 .0), s .pre .1 .0 .1)
 
 behind-returns : (t : ℕ) → behind-lts.Need-returns (claims t) (behind-at t) behind.Post behind-Inv-loop behind-μ-loop
 behind-returns t c =
-    let s = c .before .before .before .before .before .before .before .before in
-    let g = c .before .before .before .before .before .before .image in
-    let e = sym (c .before .before .before .within .ensures) ∙ c .before .before .if1 .taken in (
-      modes-last (plant t s) (s .args .m) (box t s (g .result)) (c .before .if2 .taken) (c .within2 .result) _ (c .within2 .ensures)
-          ∙ behind-stays (plant t s) (s .args .m) (s .args .u) (box t s (s .args .b)) (box t s (g .result)) (g .ensures) e,
-      refl,
-    )
+    let s = c .before .before in
+    (λ x g. lands-is (plant t s x) (now (s .args .limits)) g (box t s) (s .args .m) (s .args .u) (c .lands .result) _ (c .before .if1 .taken) (c .lands .ensures), refl)
 
-behind-within-requires-2 : (t : ℕ) → behind-lts.Need-within-requires-2 (claims t) (behind-at t) behind.Post behind-Inv-loop behind-μ-loop
-behind-within-requires-2 t c κs = let s = c .before .before .before .before .before .before .before in rooms (plant t s) (s .pre .1 .0 .0)
+behind-step-requires : (t : ℕ) → behind-lts.Need-step-requires (claims t) (behind-at t) behind.Post behind-Inv-loop behind-μ-loop
+behind-step-requires t c κs =
+    let s = c .before in
+    let p = plant t s (some-plant t s) in
+    let g = fits-some t s in
+    let u = s .pre .1 .1 .0 in
+    ((rows-sound p (now (s .args .limits)) g (s .args .u) u, divisor p (g .sound), divisor-small p (g .sound), lent-band p (now (s .args .limits)) g), s .pre .1 .0 .1)
+
+behind-last-requires : (t : ℕ) → behind-lts.Need-last-requires (claims t) (behind-at t) behind.Post behind-Inv-loop behind-μ-loop
+behind-last-requires t c κs =
+    let k = c .before .before .before in
+    let s = from t k in
+    ((λ u h. rows-sound (plant t s (some-plant t s)) (now (s .args .limits)) (fits-some t s) u h), small t k)
 
 behind-returns-2 : (t : ℕ) → behind-lts.Need-returns-2 (claims t) (behind-at t) behind.Post behind-Inv-loop behind-μ-loop
 behind-returns-2 t c =
-    let k = c .before .before .before .before .before in
+    let k = c .before .before .before .before in
     let s = from t k in
-    let l = c .before .before .before .before .loop in
-    let r = c .before .before .behind in
-    let few = s .pre .1 .1 .1 in
-    let z = k .if2 .left in
-    let q : s .args .m ≡ suc (s .args .m - 1) = omega arith in (
-      ap (λ (i : ℕ). some (backwards i (set (r .result .us) (s .args .m - 1) (l .v)))) q
-          ∙ modes-found (try t k) (s .args .f .modes) (l .v) (exactly (rulesOf (plant t s)) (s .args .m) (image t k)) (l .inv .1) (c .before .before .before .loop-test .taken) (s .args .m - 1) (r .result .found)
-          (r .result .us) (r .ensures .0) (c .before .if3 .taken) (omega (arith, r .ensures .1))
-          ∙ stays t k,
-      length-set (r .result .us) (s .args .m - 1) (l .v) ∙ r .ensures .1,
-    )
+    (λ x g. last-is (plant t s x) (now (s .args .limits)) g (held t k) (s .args .m) (c .last .result) (c .before .before .before .if3 .taken) (c .last .ensures) ∙ stays t k x g, refl)
 
 behind-loop-holds : (t : ℕ) → behind-lts.Need-loop-holds (claims t) (behind-at t) behind.Post behind-Inv-loop behind-μ-loop
-behind-loop-holds t c = (omega arith, modes-one (plant t (from t c)) (from t c .args .m) (image t c) (c .if2 .left))
+behind-loop-holds t c =
+    let k = c .before in
+    let s = from t k in
+    (omega arith, λ x g. modes-one (plant t s x) (s .args .m) (held t k) (k .before .before .before .before .before .if1 .left))
 
 behind-sub-behind : (t : ℕ) → behind-lts.Need-sub-behind (claims t) (behind-at t) behind.Post behind-Inv-loop behind-μ-loop
-behind-sub-behind t c = let z = c .before .before .if2 .left in omega arith
+behind-sub-behind t c = let z = c .before .before .before .before .before .before .before .before .if1 .left in omega arith
 
 behind-behind-requires : (t : ℕ) → behind-lts.Need-behind-requires (claims t) (behind-at t) behind.Post behind-Inv-loop behind-μ-loop
 behind-behind-requires t c κs =
-    let k = c .before .before in
+    let k = c .before .before .before .before .before in
     let s = from t k in
-    let z = k .if2 .left in
+    let z = k .before .before .before .before .before .if1 .left in
     let less = s .pre .0 in
     let few = s .pre .1 .1 .1 in
-    (omega arith, ((s .pre .1 .0 .0, small t k), (c .loop-test .taken, omega arith)))
+    (omega arith, ((s .pre .1 .0 .0, small t k), (c .before .before .loop-test .taken, omega arith)))
 
 behind-sub-us : (t : ℕ) → behind-lts.Need-sub-us (claims t) (behind-at t) behind.Post behind-Inv-loop behind-μ-loop
-behind-sub-us t c = let z = c .before .before .before .before .before .if2 .left in omega arith
+behind-sub-us t c = let z = c .before .before .before .before .before .before .before .before .before .before .before .before .before .if1 .left in omega arith
 
 behind-mul-us : (t : ℕ) → behind-lts.Need-mul-us (claims t) (behind-at t) behind.Post behind-Inv-loop behind-μ-loop
-behind-mul-us t c = let few = c .before .before .before .before .before .before .before .before .before .before .before .before .pre .1 .1 .1 in omega arith
+behind-mul-us t c = let few = from t (c .before .before .before .before .before .before .before .before) .pre .1 .1 .1 in omega arith
 
 behind-array-write-us : (t : ℕ) → behind-lts.Need-array-write-us (claims t) (behind-at t) behind.Post behind-Inv-loop behind-μ-loop
 behind-array-write-us t c =
-    let few = c .before .before .before .before .before .before .before .before .before .before .before .before .pre .1 .1 .1 in
-    let z = c .before .before .before .before .before .if2 .left in
+    let few = from t (c .before .before .before .before .before .before .before .before) .pre .1 .1 .1 in
+    let z = c .before .before .before .before .before .before .before .before .before .before .before .before .before .if1 .left in
     omega arith
 
 behind-returns-3 : (t : ℕ) → behind-lts.Need-returns-3 (claims t) (behind-at t) behind.Post behind-Inv-loop behind-μ-loop
 behind-returns-3 t c =
-    let k = c .before .before in
+    let k = c .before .before .before .before .before .before .before .before in
     let s = from t k in
-    let l = c .before .loop in
-    (modes-done (try t k) (s .args .f .modes) (l .v) (exactly (rulesOf (plant t s)) (s .args .m) (image t k)) (l .inv .1) (c .loop-test .left) ∙ stays t k, refl)
+    let l = c .before .before .before .before .before .before .loop in
+    let r = c .before .before .behind in
+    let few = s .pre .1 .1 .1 in
+    let z = k .before .before .before .before .before .if1 .left in
+    let q : s .args .m ≡ suc (s .args .m - 1) = omega arith in (
+      λ x g. ap (λ (i : ℕ). some (backwards i (set (r .result .us) (s .args .m - 1) (l .v)))) q
+          ∙ modes-found (try t k x g) (s .args .modes) (l .v) (whole t k x g) (l .inv .1 x g) (c .before .before .before .before .before .loop-test .taken) (s .args .m - 1) (r .result .found) (r .result .us) (r .ensures .0 x g) (c .before .if4 .taken)
+          (omega (arith, r .ensures .1))
+          ∙ stays t k x g,
+      length-set (r .result .us) (s .args .m - 1) (l .v) ∙ r .ensures .1,
+    )
 
 behind-add-v : (t : ℕ) → behind-lts.Need-add-v (claims t) (behind-at t) behind.Post behind-Inv-loop behind-μ-loop
-behind-add-v t c = omega arith
+behind-add-v t c = let h = c .before .before .before .before .loop-test .taken in omega arith
 
 behind-loop-less : (t : ℕ) → behind-lts.Need-loop-less (claims t) (behind-at t) behind.Post behind-Inv-loop behind-μ-loop
-behind-loop-less t c = omega arith
+behind-loop-less t c = let h = c .before .before .before .before .loop-test .taken in omega arith
 
 behind-loop-again : (t : ℕ) → behind-lts.Need-loop-again (claims t) (behind-at t) behind.Post behind-Inv-loop behind-μ-loop
 behind-loop-again t c =
-    let k = c .before .before .before .before in
+    let k = c .before .before .before .before .before .before .before in
     let s = from t k in
-    let l = c .before .before .before .loop in
+    let l = c .before .before .before .before .before .loop in
     let r = c .before .behind in
-    let h = c .before .before .loop-test .taken in (
+    let h = c .before .before .before .before .loop-test .taken in (
       omega arith,
-      modes-next (try t k) (s .args .f .modes) (l .v) (exactly (rulesOf (plant t s)) (s .args .m) (image t k)) (l .inv .1) h (s .args .m - 1) (r .result .found) (r .result .us) (r .ensures .0) (c .if3 .left),
+      λ x g. modes-next (try t k x g) (s .args .modes) (l .v) (whole t k x g) (l .inv .1 x g) h (s .args .m - 1) (r .result .found) (r .result .us) (r .ensures .0 x g) (c .if4 .left),
     )
 
 behind-returns-4 : (t : ℕ) → behind-lts.Need-returns-4 (claims t) (behind-at t) behind.Post behind-Inv-loop behind-μ-loop
 behind-returns-4 t c =
-    let s = c .before .before .before .before .before .before in
-    let g = c .before .before .before .before .image in
-    (behind-leaves (plant t s) (s .args .m) (s .args .u) (box t s (s .args .b)) (box t s (g .result)) (g .ensures) (sym (c .before .within .ensures) ∙ c .if1 .left), refl)
+    let k = c .before .before .before in
+    let s = from t k in
+    let l = c .before .loop in
+    (λ x g. modes-done (try t k x g) (s .args .modes) (l .v) (whole t k x g) (l .inv .1 x g) (c .loop-test .left) ∙ stays t k x g, refl)
+
+behind-returns-5 : (t : ℕ) → behind-lts.Need-returns-5 (claims t) (behind-at t) behind.Post behind-Inv-loop behind-μ-loop
+behind-returns-5 t c =
+    let k = c .before in
+    let s = began t k in
+    (λ x g. behind-leaves (plant t s x) (s .args .m) (s .args .u) (box t s) _ refl (sym (told t k x g) ∙ c .if2 .left), refl)
 
 pub +behind-spec : {M : Type 1} → statement M
 +behind-spec = close μ-behind λ t. behind-lts.spec (claims t)
@@ -178,19 +232,20 @@ pub +behind-spec : {M : Type 1} → statement M
     behind.Post
     behind-Inv-loop
     behind-μ-loop
-    (behind-image-requires t)
-    (behind-within-requires t)
-    (behind-within-requires-2 t)
+    (behind-lands-requires t)
     (behind-returns t)
+    (behind-step-requires t)
+    (behind-last-requires t)
+    (behind-returns-2 t)
     (behind-loop-holds t)
     (behind-sub-behind t)
     (behind-behind-requires t)
     (behind-sub-us t)
     (behind-mul-us t)
     (behind-array-write-us t)
-    (behind-returns-2 t)
+    (behind-returns-3 t)
     (behind-add-v t)
     (behind-loop-less t)
     (behind-loop-again t)
-    (behind-returns-3 t)
     (behind-returns-4 t)
+    (behind-returns-5 t)

@@ -23,12 +23,12 @@ use Rattle.tables.proofs.tiles.tile_rule.Statement.{statement}
 use Rattle.tables.proofs.tiles.tile_rule.Tie as tie
 
 abbrev Inv-loop : tie.InvT-loop
-Inv-loop f coef k us n q band safe c₀ i₀ c i =
+Inv-loop f coef k us n q wlo whi safe c₀ i₀ c i =
     (i ≤ k) × Small edgeLimit (boxOf (f .n) c)
     × (ruleFrom (rulesOf (plantFrom f coef)) i (boxOf (f .n) c) (tab (modeAt us) (k - i) i) ≡ rule (rulesOf (plantFrom f coef)) (boxOf (f .n) c₀) (patternOf k us))
 
 abbrev μ-loop : tie.MeasureT-loop
-μ-loop f coef k us n q band safe c₀ i₀ c i = k - i
+μ-loop f coef k us n q wlo whi safe c₀ i₀ c i = k - i
 
 -- the plant, the pattern, a box, and the step of mode i
 module _ (s : tie.Start Inv-loop μ-loop) where
@@ -41,73 +41,84 @@ module _ (s : tie.Start Inv-loop μ-loop) where
   abbrev box : Bx → List Side
   box b = boxOf (s .args .f .n) b
 
-  sound : (i : ℕ) → i < s .args .k → StepSound (s .args .f .n) (s .args .f .q) (s .args .f .band) (now (s .args .coef)) (modes i)
+  sound : (i : ℕ) → i < s .args .k → StepSound (s .args .f .n) (s .args .f .q) (s .args .f .band .lo) (s .args .f .band .hi) (now (s .args .coef)) (modes i)
   sound i h = step-sound plant (s .pre .0 .0) (modes i) (s .pre .1 .each i h)
+
+-- where a round began: the call, and the loop's test
+abbrev start : tie.At-loop Inv-loop μ-loop → tie.Start Inv-loop μ-loop
+start l = l .before .before .before .before .before
+
+abbrev round : tie.After-image Inv-loop μ-loop → tie.In-loop Inv-loop μ-loop
+round c = c .before .before .before .before .before .before .before
 
 loop-holds : tie.Need-loop-holds Inv-loop μ-loop
 loop-holds c =
-    let s = c .before .before in
+    let s = c .before .before .before .before in
     (omega arith, s .pre .0 .1, rw (tab-all (modeAt (s .args .t4)) (s .args .k)) refl)
 
 mul-u : tie.Need-mul-u Inv-loop μ-loop
-mul-u c = omega (arith, c .before .before .before .before .pre .1 .longest)
+mul-u c = omega (arith, start (c .before) .pre .1 .longest)
 
 array-read-u : tie.Need-array-read-u Inv-loop μ-loop
-array-read-u c = omega (arith, c .before .before .before .before .pre .1 .longest)
+array-read-u c = omega (arith, start (c .before) .pre .1 .longest)
 
 image-requires : tie.Need-image-requires Inv-loop μ-loop
 image-requires c κs =
-    let s = c .before .before .before .before in
-    let l = c .before .loop in
-    (sound s (l .i) (c .loop-test .taken), l .inv .1)
+    let t = c .before .before .before .before .before .before in
+    let l = t .before .loop in
+    (sound (start (t .before)) (l .i) (t .loop-test .taken), l .inv .1)
 
 within-requires : tie.Need-within-requires Inv-loop μ-loop
-within-requires c κs = let s = c .before .before .before .before .before in rooms (plant s) (s .pre .0 .0)
+within-requires c κs = let s = start (round c .before) in rooms (plant s) (s .pre .0 .0)
 
 add-i : tie.Need-add-i Inv-loop μ-loop
-add-i c = omega arith
+add-i c = let t = round (c .before .before) in let h = t .loop-test .taken in let k = start (t .before) .pre .1 .longest in omega arith
 
 loop-less : tie.Need-loop-less Inv-loop μ-loop
-loop-less c = omega arith
+loop-less c = let h = round (c .before .before) .loop-test .taken in omega arith
 
 loop-again : tie.Need-loop-again Inv-loop μ-loop
 loop-again c =
-    let l = c .before .before .before .before .loop in
-    let s = c .before .before .before .before .before .before .before in
-    let g = c .before .before .image in
-    let h = c .before .before .before .loop-test .taken in
+    let g = c .before .before in
+    let t = round g in
+    let l = t .before .loop in
+    let s = start (t .before) in
+    let h = t .loop-test .taken in
     let e = sym (c .before .within .ensures) ∙ c .if1 .taken in (
       omega arith,
-      tile-small (plant s) (modes s) (s .args .k) (l .i) (box s (l .c)) (box s (g .result)) h (g .ensures) (s .pre .0 .0) (l .inv .1) e,
-      sym (tile-more (plant s) (modes s) (s .args .k) (l .i) (box s (l .c)) (box s (g .result)) h (g .ensures) e) ∙ l .inv .2,
+      tile-small (plant s) (modes s) (s .args .k) (l .i) (box s (l .c)) (box s (g .image .result)) h (g .image .ensures) (s .pre .0 .0) (l .inv .1) e,
+      sym (tile-more (plant s) (modes s) (s .args .k) (l .i) (box s (l .c)) (box s (g .image .result)) h (g .image .ensures) e) ∙ l .inv .2,
     )
 
-add-t21 : tie.Need-add-t21 Inv-loop μ-loop
-add-t21 c = omega arith
+add-t29 : tie.Need-add-t29 Inv-loop μ-loop
+add-t29 c = let t = round (c .before .before) in let h = t .loop-test .taken in let k = start (t .before) .pre .1 .longest in omega arith
 
 returns : tie.Need-returns Inv-loop μ-loop
 returns c =
-    let l = c .before .before .before .before .loop in
-    let s = c .before .before .before .before .before .before .before in
-    let g = c .before .before .image in
+    let g = c .before .before in
+    let t = round g in
+    let l = t .before .loop in
+    let s = start (t .before) in
     let e = sym (c .before .within .ensures) ∙ c .if1 .left in
-    sym (tile-leaves (plant s) (modes s) (s .args .k) (l .i) (box s (l .c)) (box s (g .result)) (c .before .before .before .loop-test .taken) (g .ensures) e) ∙ l .inv .2
+    sym (tile-leaves (plant s) (modes s) (s .args .k) (l .i) (box s (l .c)) (box s (g .image .result)) (t .loop-test .taken) (g .image .ensures) e) ∙ l .inv .2
 
 within-requires-2 : tie.Need-within-requires-2 Inv-loop μ-loop
-within-requires-2 c κs = let s = c .before .before .before .before .before in rooms (plant s) (s .pre .0 .0)
+within-requires-2 c κs = let s = start (c .before .before) in rooms (plant s) (s .pre .0 .0)
 
 returns-2 : tie.Need-returns-2 Inv-loop μ-loop
 returns-2 c =
-    let l = c .before .before .before .before .loop in
-    let s = c .before .before .before .before .before .before .before in
-    sym (rule-works (rulesOf (plant s)) (modes s) (s .args .k) (l .i) (box s (l .c)) (c .before .before .before .loop-test .left) (sym (c .before .within2 .ensures) ∙ c .if2 .taken)) ∙ l .inv .2
+    let t = c .before .before .before in
+    let l = t .before .loop in
+    let s = start (t .before) in
+    sym (rule-works (rulesOf (plant s)) (modes s) (s .args .k) (l .i) (box s (l .c)) (t .loop-test .left) (sym (c .before .within2 .ensures) ∙ c .if2 .taken)) ∙ l .inv .2
 
 returns-3 : tie.Need-returns-3 Inv-loop μ-loop
 returns-3 c =
-    let l = c .before .before .before .before .loop in
-    let s = c .before .before .before .before .before .before .before in
+    let t = c .before .before .before in
+    let l = t .before .loop in
+    let s = start (t .before) in
     let q : s .args .k ≡ l .i = omega arith in
-    ap Misses q ∙ sym (rule-misses (rulesOf (plant s)) (modes s) (s .args .k) (l .i) (box s (l .c)) (c .before .before .before .loop-test .left) (sym (c .before .within2 .ensures) ∙ c .if2 .left)) ∙ l .inv .2
+    ap Misses q ∙ sym (rule-misses (rulesOf (plant s)) (modes s) (s .args .k) (l .i) (box s (l .c)) (t .loop-test .left) (sym (c .before .within2 .ensures) ∙ c .if2 .left)) ∙ l .inv .2
 
 pub tile-rule-spec : {M : Type 1} → statement M
 tile-rule-spec =
@@ -123,7 +134,7 @@ tile-rule-spec =
     add-i
     loop-less
     loop-again
-    add-t21
+    add-t29
     returns
     within-requires-2
     returns-2

@@ -1,0 +1,128 @@
+-- Laws of the search's steps: the sums of a row from its extremes; that sums lie in the limits exactly where the image's side lies in the side
+-- they are of; and from there, for a plant and its limits, that what is tested is the image in R or S, and what is made is the image.
+-- Assumes nothing.
+use Prim.Native.Nat.{ℕ, suc, _+_, _-_, _≤_, _<_}
+use mathlib.Core.Path.{_≡_, refl, sym, ap, _∙_}
+use mathlib.Core.Bool.{Bool, true, false, _&&_}
+use mathlib.Core.List.{List, [], _∷_}
+use mathlib.Core.Option.{Option, none, some}
+use native.Mathlib.Omega.{arith}
+use native.Mathlib.Nat.{zero-add, sub-zero}
+use native.Mathlib.Numerals.{add-one}
+use lib.Dec.{ltb}
+use lib.IntN.{ℤ, pos, _+ℤ_, _-ℤ_, _*ℤ_}
+use lib.Signed.{leZ, _≤ℤ_, _<ℤ_}
+use Rattle.laws.specs.Guards.{guard}
+use Rattle.laws.specs.Integers.{zarith, add, sub, leZ-true, leZ-false}
+use Rattle.laws.specs.Division.{floorZ, ceilZ}
+use Rattle.laws.specs.DivisionLaws.{floor-greatest, ceil-least}
+use Rattle.laws.specs.Lists.{at, tab, all}
+use Rattle.laws.specs.Tabs.{tab-same}
+use Rattle.laws.specs.Tests.{true-leZ, false-leZ}
+use Rattle.meaning.specs.declared.Plant.{Plant}
+use Rattle.meaning.specs.Boxes.{Side, side, sideAt, covers, within}
+use Rattle.meaning.specs.Images.{leastOf, greatestOf, extreme, image}
+use Rattle.meaning.specs.Plants.{rootOf, safeOf, rowStart, stepOf}
+use Rattle.meaning.specs.Defined.{firstMode}
+use Rattle.tables.specs.Images.{Extremes, entriesOf}
+use Rattle.tables.specs.Limits.{limitSide, sumSide, divided, lentSide, covered, coveredAt, dividedAt, Ready}
+use Rattle.tables.proofs.frames.Laws.{divisor}
+use Rattle.tables.proofs.boxes.Laws.{lies-tab}
+use Rattle.tables.proofs.images.Laws.{imageSideAt, image-tab}
+
+-- ---- the sums
+
+pub sides-are : {es : List ℤ} {b : List Side} {lo hi : ℤ} → Extremes es b lo hi → (o : ℤ) → side (lo +ℤ o) (hi +ℤ o) ≡ side (extreme leastOf es b +ℤ o) (extreme greatestOf es b +ℤ o)
+sides-are e o = rw (e .least, e .greatest) refl
+
+-- ---- limits
+
+module _ (q : ℕ) (h : 1 ≤ q) where
+  -- lo ≤ ceil((v + w) / q) exactly where q·(lo − 1) + 1 − w ≤ v
+  low-limit : (lo w v : ℤ) → leZ (pos q *ℤ (lo -ℤ pos 1) +ℤ pos 1 -ℤ w) v ≡ leZ lo (ceilZ (v +ℤ w) q)
+  low-limit lo w v = go (leZ (v +ℤ w) (pos q *ℤ m)) refl
+    where
+      m : ℤ
+      m = lo -ℤ pos 1
+
+      e : ℤ
+      e = pos q *ℤ m
+
+      go : (t : Bool) → leZ (v +ℤ w) e ≡ t → leZ (e +ℤ pos 1 -ℤ w) v ≡ leZ lo (ceilZ (v +ℤ w) q)
+      go true k =
+          let c = ceil-least q h m (v +ℤ w) .1 (leZ-true (v +ℤ w) e k) in
+          let l = leZ-true (v +ℤ w) e k in
+          false-leZ {a = e +ℤ pos 1 -ℤ w} {b = v} (omega (zarith, add v w, add e (pos 1), sub (e +ℤ pos 1) w)) ∙ sym (false-leZ {a = lo} {b = ceilZ (v +ℤ w) q} (omega (zarith, sub lo (pos 1))))
+      go false k =
+          let l = leZ-false (v +ℤ w) e k in
+          true-leZ {a = e +ℤ pos 1 -ℤ w} {b = v} (omega (zarith, add v w, add e (pos 1), sub (e +ℤ pos 1) w)) ∙ sym (true-leZ {a = lo} {b = ceilZ (v +ℤ w) q} (over l))
+        where
+          over : e <ℤ (v +ℤ w) → lo ≤ℤ ceilZ (v +ℤ w) q
+          over l = pick (leZ (ceilZ (v +ℤ w) q) m) refl
+            where
+              pick : (t : Bool) → leZ (ceilZ (v +ℤ w) q) m ≡ t → lo ≤ℤ ceilZ (v +ℤ w) q
+              pick true k = let c = ceil-least q h m (v +ℤ w) .0 (leZ-true (ceilZ (v +ℤ w) q) m k) in absurd (omega zarith)
+              pick false k = let c = leZ-false (ceilZ (v +ℤ w) q) m k in omega (zarith, sub lo (pos 1))
+
+  -- floor((v + w) / q) ≤ hi exactly where v ≤ q·(hi + 1) − 1 − w
+  high-limit : (hi w v : ℤ) → leZ v (pos q *ℤ (hi +ℤ pos 1) -ℤ pos 1 -ℤ w) ≡ leZ (floorZ (v +ℤ w) q) hi
+  high-limit hi w v = go (leZ (pos q *ℤ m) (v +ℤ w)) refl
+    where
+      m : ℤ
+      m = hi +ℤ pos 1
+
+      e : ℤ
+      e = pos q *ℤ m
+
+      go : (t : Bool) → leZ e (v +ℤ w) ≡ t → leZ v (e -ℤ pos 1 -ℤ w) ≡ leZ (floorZ (v +ℤ w) q) hi
+      go true k =
+          let c = floor-greatest q h m (v +ℤ w) .1 (leZ-true e (v +ℤ w) k) in
+          let l = leZ-true e (v +ℤ w) k in
+          false-leZ {a = v} {b = e -ℤ pos 1 -ℤ w} (omega (zarith, add v w, sub e (pos 1), sub (e -ℤ pos 1) w)) ∙ sym (false-leZ {a = floorZ (v +ℤ w) q} {b = hi} (omega (zarith, add hi (pos 1))))
+      go false k =
+          let l = leZ-false e (v +ℤ w) k in
+          true-leZ {a = v} {b = e -ℤ pos 1 -ℤ w} (omega (zarith, add v w, sub e (pos 1), sub (e -ℤ pos 1) w)) ∙ sym (true-leZ {a = floorZ (v +ℤ w) q} {b = hi} (under l))
+        where
+          under : (v +ℤ w) <ℤ e → floorZ (v +ℤ w) q ≤ℤ hi
+          under l = pick (leZ m (floorZ (v +ℤ w) q)) refl
+            where
+              pick : (t : Bool) → leZ m (floorZ (v +ℤ w) q) ≡ t → floorZ (v +ℤ w) q ≤ℤ hi
+              pick true k = let c = floor-greatest q h m (v +ℤ w) .0 (leZ-true m (floorZ (v +ℤ w) q) k) in absurd (omega zarith)
+              pick false k = let c = leZ-false m (floorZ (v +ℤ w) q) k in omega (zarith, add hi (pos 1))
+
+  -- sums lie in the limits of a side exactly where what they are divided to lies in it
+  limit-covers : (w s t : Side) → covers (limitSide q w s) t ≡ covers s (divided q w t)
+  limit-covers w s t = rw (low-limit (s .lo) (w .lo) (t .lo), high-limit (s .hi) (w .hi) (t .hi)) refl
+
+-- ---- a plant and its limits
+
+module _ (p : Plant) (limits : List ℤ) (g : Ready p limits) (u : ℕ) (b : List Side) where
+  abbrev sides : ℕ → Side
+  sides = imageSideAt (p .n) (p .q) (p .wlo) (p .whi) (p .coef) u b
+
+  divided-is : (i : ℕ) → i < p .n → dividedAt (p .n) (p .q) (p .coef) limits u b i ≡ sides i
+  divided-is i h = ap (λ (w : Side). divided (p .q) w (sumSide (p .n) (p .coef) (rowStart (p .n) u i) b)) (g .laid .in-band i h)
+
+  pub made-image : tab (dividedAt (p .n) (p .q) (p .coef) limits u b) (p .n) 0 ≡ image (stepOf p u) b
+  made-image =
+      tab-same (dividedAt (p .n) (p .q) (p .coef) limits u b) sides (p .n) 0 (λ i l h. divided-is i (omega arith))
+      ∙ sym (image-tab (p .n) (p .q) (p .wlo) (p .whi) (p .coef) u b)
+
+  -- the limits at `base` are those of the box with sides t
+  covered-is : (base : ℕ) (t : ℕ → Side) → ((i : ℕ) → i < p .n → lentSide limits base i ≡ limitSide (p .q) (sideAt (p .wlo) (p .whi) i) (t i))
+      → covered (p .n) (p .coef) limits base u b ≡ within (image (stepOf p u) b) (tab t (p .n) 0)
+  covered-is base t e =
+      ap all (tab-same (coveredAt (p .n) (p .coef) limits base u b) (λ i. covers (t i) (sides i)) (p .n) 0 (λ i l h. at-side i (omega arith)))
+      ∙ sym (ap all (lies-tab sides t (p .n) 0))
+      ∙ sym (ap (λ (c : List Side). within c (tab t (p .n) 0)) (image-tab (p .n) (p .q) (p .wlo) (p .whi) (p .coef) u b))
+    where
+      at-side : (i : ℕ) → i < p .n → coveredAt (p .n) (p .coef) limits base u b i ≡ covers (t i) (sides i)
+      at-side i h =
+          ap (λ (s : Side). covers s (sumSide (p .n) (p .coef) (rowStart (p .n) u i) b)) (e i h)
+          ∙ limit-covers (p .q) (divisor p (g .sound)) (sideAt (p .wlo) (p .whi) i) (t i) (sumSide (p .n) (p .coef) (rowStart (p .n) u i) b)
+
+  pub covered-safe : covered (p .n) (p .coef) limits 0 u b ≡ within (image (stepOf p u) b) (safeOf p)
+  covered-safe = covered-is 0 (sideAt (p .slo) (p .shi)) (g .laid .in-safe)
+
+  pub covered-root : covered (p .n) (p .coef) limits 8 u b ≡ within (image (stepOf p u) b) (rootOf p)
+  covered-root = covered-is 8 (sideAt (p .rlo) (p .rhi)) (g .laid .in-root)

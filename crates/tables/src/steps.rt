@@ -1,0 +1,142 @@
+// One mode on a box, as the search needs it: whether the image lies in R, the first mode whose image does, and the image where it lies in S.
+// Relies on images for the extremes of a row, on limits for where the sums have to lie. Leaves out which modes are tried in which order (search).
+// Neither test divides. Everything is lent, so that a call copies only small numbers.
+use crate::boxes;
+use crate::boxes::Bx;
+use crate::division;
+use crate::images;
+use crate::images::Span;
+ghost use mathlib.Core.Path.{_≡_};
+ghost use mathlib.Core.Bool.{true};
+ghost use Prim.Native.Nat.{ℕ, _≤_, _<_};
+ghost use lib.IntN.{natAbs};
+ghost use Rattle.laws.specs.Lists.{tab};
+ghost use Rattle.meaning.specs.Boxes.{side, sidesOf, covers};
+ghost use Rattle.meaning.specs.Defined.{firstMode};
+ghost use Rattle.meaning.specs.Plants.{edgeLimit, bandLimit};
+ghost use Rattle.tables.specs.Boxes.{boxOf, Small};
+ghost use Rattle.tables.specs.Images.{RowSound};
+ghost use Rattle.tables.specs.Limits.{addLimit, sumSide, lentSide, covered, landing, dividedAt, RowsSound};
+ghost use Rattle.tables.specs.Search.{oneOf};
+
+// The least and the greatest of A·x + b over a box, by the row that starts at `start`.
+fn sums(n: usize, coef: &[i64], start: usize, lo: &[i64; 4], hi: &[i64; 4]) -> Span
+    requires { ⌜ RowSound n (now coef) start × Small edgeLimit (sidesOf n (now lo) (now hi)) ⌝ }
+    ensures sides { λ r. ⌜ side (r .lo) (r .hi) ≡ sumSide n (now (coef .entry)) start (sidesOf n (now (lo .entry)) (now (hi .entry))) ⌝ }
+    ensures sizes { λ r. ⌜ (natAbs (r .lo) ≤ addLimit) × (natAbs (r .hi) ≤ addLimit) ⌝ }
+{
+    let e = images::extremes(n, coef, start, lo, hi);
+    let offset = coef[start + n];
+    let least = e.lo + offset;
+    let greatest = e.hi + offset;
+    Span {
+        lo: least,
+        hi: greatest,
+    }
+}
+
+// Whether sums lie in side i of the limits at `base`.
+fn inside(limits: &[i64; 24], base: usize, i: usize, least: i64, greatest: i64) -> bool
+    requires { ⌜ (base ≤ 16) × (i < 4) ⌝ }
+    ensures { λ r. ⌜ r ≡ covers (lentSide (now (limits .entry)) base i) (side least greatest) ⌝ }
+{
+    let from = limits[base + i];
+    let to = limits[base + 4 + i];
+    boxes::ordered(from, least, greatest, to)
+}
+
+// Whether the image of a box under mode u lies in R.
+pub fn lands(
+    n: usize,
+    coef: &[i64],
+    limits: &[i64; 24],
+    u: usize,
+    lo: &[i64; 4],
+    hi: &[i64; 4],
+) -> bool
+    requires { ⌜ RowsSound n (now coef) u × Small edgeLimit (sidesOf n (now lo) (now hi)) ⌝ }
+    ensures { λ r. ⌜ r ≡ covered n (now (coef .entry)) (now (limits .entry)) 8 u (sidesOf n (now (lo .entry)) (now (hi .entry))) ⌝ }
+{
+    let mut i: usize = 0;
+    while i < n {
+        let s = sums(n, coef, (u * n + i) * (n + 1), lo, hi);
+        let least = s.lo;
+        let greatest = s.hi;
+        if inside(limits, 8, i, least, greatest) {
+            i += 1;
+        } else {
+            return false;
+        }
+    }
+    true
+}
+
+// The first mode under which the image of a box lies in R; `modes` where there is none.
+pub fn last(
+    n: usize,
+    modes: usize,
+    coef: &[i64],
+    limits: &[i64; 24],
+    lo: &[i64; 4],
+    hi: &[i64; 4],
+) -> usize
+    requires { ⌜ ((u : ℕ) → u < modes → RowsSound n (now coef) u) × Small edgeLimit (sidesOf n (now lo) (now hi)) ⌝ }
+    ensures { λ r. ⌜ oneOf modes r ≡ firstMode (landing n (now (coef .entry)) (now (limits .entry)) (sidesOf n (now (lo .entry)) (now (hi .entry)))) modes 0 ⌝ }
+{
+    let mut u: usize = 0;
+    while u < modes {
+        if lands(n, coef, limits, u, lo, hi) {
+            return u;
+        }
+        u += 1;
+    }
+    u
+}
+
+// An image, made where it lies in S; where it does not, the box says nothing.
+pub struct Stepped {
+    pub stays: bool,
+    pub image: Bx,
+}
+
+pub fn step(
+    n: usize,
+    q: usize,
+    coef: &[i64],
+    limits: &[i64; 24],
+    u: usize,
+    lo: &[i64; 4],
+    hi: &[i64; 4],
+) -> Stepped
+    requires step { ⌜ RowsSound n (now coef) u × (1 ≤ q) × (q ≤ 10_000) × Small bandLimit (tab (lentSide (now limits) 16) n 0) ⌝ }
+    requires edges { ⌜ Small edgeLimit (sidesOf n (now lo) (now hi)) ⌝ }
+    ensures stays { λ r. ⌜ r .stays ≡ covered n (now (coef .entry)) (now (limits .entry)) 0 u (sidesOf n (now (lo .entry)) (now (hi .entry))) ⌝ }
+    ensures image { λ r. ⌜ (r .stays ≡ true → boxOf n (r .image) ≡ tab (dividedAt n q (now (coef .entry)) (now (limits .entry)) u (sidesOf n (now (lo .entry)) (now (hi .entry)))) n 0) ⌝ }
+{
+    let mut ilo = [0i64; 4];
+    let mut ihi = [0i64; 4];
+    let mut i: usize = 0;
+    while i < n {
+        let s = sums(n, coef, (u * n + i) * (n + 1), lo, hi);
+        let least = s.lo;
+        let greatest = s.hi;
+        if inside(limits, 0, i, least, greatest) {
+            let wl = limits[16 + i];
+            let wh = limits[20 + i];
+            let low = division::ceiling(least + wl, q);
+            let high = division::floor(greatest + wh, q);
+            ilo[i] = low;
+            ihi[i] = high;
+            i += 1;
+        } else {
+            return Stepped {
+                stays: false,
+                image: Bx { lo: ilo, hi: ihi },
+            };
+        }
+    }
+    Stepped {
+        stays: true,
+        image: Bx { lo: ilo, hi: ihi },
+    }
+}
