@@ -1,6 +1,6 @@
--- A pattern that is sought, as the code holds it: whether there is one, and its modes from the last to the first, so that the mode in front of
--- a pattern is stored behind it. And one mode in front of the search of the rest. Definitions alone.
-use Prim.Native.Nat.{ℕ, zero, suc}
+-- A pattern that is sought, as the code holds it: one number with a digit of 16 for each mode, the first mode lowest; and one more than it where
+-- there may be none. And one mode in front of the search of the rest. Definitions alone.
+use Prim.Native.Nat.{ℕ, zero, suc, _/_, _%_}
 use mathlib.Core.Bool.{Bool, true, false}
 use mathlib.Core.List.{List, [], _∷_}
 use mathlib.Core.Option.{Option, none, some}
@@ -8,20 +8,29 @@ use lib.Dec.{ltb}
 use Rattle.laws.specs.Guards.{guard}
 use Rattle.meaning.specs.Rules.{Rules}
 use Rattle.meaning.specs.Defined.{exactly}
-use Rattle.tables.specs.Tiles.{modeAt}
 
--- the pattern of m modes whose last mode stands at 0
-unfoldable pub backwards : ℕ → List ℕ → List ℕ
-backwards zero us = []
-backwards (suc m) us = modeAt us m ∷ backwards m us
+-- the m modes of a number
+unfoldable pub digits : ℕ → ℕ → List ℕ
+digits zero code = []
+digits (suc m) code = code % 16 ∷ digits m (code / 16)
 
-abbrev pub soughtOf : Bool → List ℕ → Option (List ℕ)
-soughtOf true us = some us
-soughtOf false us = none
+-- 0 where there is no pattern
+abbrev pub soughtOf : ℕ → ℕ → Option (List ℕ)
+soughtOf m zero = none
+soughtOf m (suc code) = some (digits m code)
+
+-- a pattern by its length, 0 where there is none
+abbrev pub patternBy : ℕ → ℕ → Option (List ℕ)
+patternBy zero code = none
+patternBy (suc m) code = some (digits (suc m) code)
+
+abbrev pub picked : Bool → ℕ → Option (List ℕ)
+picked true u = some (u ∷ [])
+picked false u = none
 
 -- a mode below N, as a pattern of one
 abbrev pub oneOf : ℕ → ℕ → Option (List ℕ)
-oneOf modes u = soughtOf (ltb u modes) (u ∷ [])
+oneOf modes u = picked (ltb u modes) u
 
 module _ (r : Rules) where
   open Rules r using (Kept, within, image, kept, safe)

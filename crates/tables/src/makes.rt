@@ -24,7 +24,7 @@ ghost use Rattle.promises.specs.Sound.{Sound};
 ghost use Rattle.tables.specs.Boxes.{boxOf, Small};
 ghost use Rattle.tables.specs.Frames.{plantFrom};
 ghost use Rattle.tables.specs.Limits.{Ready};
-ghost use Rattle.tables.specs.Search.{backwards};
+ghost use Rattle.tables.specs.Search.{digits};
 ghost use Rattle.tables.specs.Makes.{Wrote, treeBytes, definedBytes};
 
 // A tree that was written: the place behind it, one past the buffer's end where there was not room for all; or that there is no such tree.
@@ -33,16 +33,18 @@ enum Grown {
     Nothing,
 }
 
-// A tile of k modes, the last one at 0: its number, then its modes from the first on.
-fn put_tile(buf: &mut [u8], at: usize, k: usize, us: [usize; 6]) -> usize
+// A tile of k modes: its number, then its modes, which are the digits of a number.
+fn put_tile(buf: &mut [u8], at: usize, k: usize, code: usize) -> usize
     requires { ⌜ k ≤ 6 ⌝ }
-    ensures { λ r. ⌜ Put (now (buf .entry)) at (layout (tile (backwards k us))) r (now (buf .exit)) ⌝ }
+    ensures { λ r. ⌜ Put (now (buf .entry)) at (layout (tile (digits k code))) r (now (buf .exit)) ⌝ }
 {
     let mut place = numbers::put_number(buf, at, k);
+    let mut rest = code;
     let mut left = k;
     while 0 < left {
+        place = numbers::put_number(buf, place, rest % 16);
+        rest /= 16;
         left -= 1;
-        place = numbers::put_number(buf, place, us[left]);
     }
     place
 }
@@ -61,9 +63,9 @@ fn tree(
     ensures { λ r. ⌜ Wrote (treeBytes (rulesOf (plantFrom f (now (coef .entry)))) d (boxOf (f .n) b)) (now (buf .entry)) at r (now (buf .exit)) ⌝ }
 {
     let sought = search::first(f, coef, limits, b);
-    if sought.found {
-        let us = sought.us;
-        return Grown::Next(put_tile(buf, at, sought.size, us));
+    let size = sought.size;
+    if size != 0 {
+        return Grown::Next(put_tile(buf, at, size, sought.code));
     }
     if d == 0 {
         return Grown::Nothing;

@@ -1,13 +1,12 @@
 // The first pattern of a box (document 01, "The defined table"): the shortest that works, and among equal lengths the first in mode order.
 // Relies on steps. Leaves out what is done where a box has none (makes).
 // Patterns that begin alike share their images: the image under a mode is made once, and where it leaves S nothing behind it is tried.
-// The last image is not made at all.
+// The last image is not made at all. A pattern is one number, so that nothing but numbers is handed back.
 use crate::boxes::Bx;
 use crate::frames::Frame;
 use crate::steps;
 ghost use mathlib.Core.Path.{_≡_};
-ghost use Prim.Native.Nat.{_≤_, _<_};
-ghost use lib.ListN.{length};
+ghost use Prim.Native.Nat.{_^_, _≤_, _<_};
 ghost use Rattle.meaning.specs.Boxes.{sidesOf};
 ghost use Rattle.meaning.specs.Defined.{firstPattern};
 ghost use Rattle.meaning.specs.Plants.{edgeLimit};
@@ -15,22 +14,9 @@ ghost use Rattle.meaning.specs.Tables.{rulesOf};
 ghost use Rattle.tables.specs.Boxes.{boxOf, Small};
 ghost use Rattle.tables.specs.Frames.{plantFrom};
 ghost use Rattle.tables.specs.Limits.{Unlent, plantLent, Ready, Lent};
-ghost use Rattle.tables.specs.Search.{backwards, soughtOf, behindMode};
+ghost use Rattle.tables.specs.Search.{soughtOf, patternBy, behindMode};
 
-// The modes behind those that are tried, the last one at 0; where none were found the array says nothing.
-struct Rest {
-    found: bool,
-    us: [usize; 6],
-}
-
-// A pattern of `size` modes, the last one at 0; where none was found neither says anything.
-pub struct Sought {
-    pub found: bool,
-    pub size: usize,
-    pub us: [usize; 6],
-}
-
-// Mode u on a box, and behind it the first m modes that work from the image.
+// Mode u on a box, and behind it the first m modes that work from the image: one more than their number, 0 where there are none.
 fn behind(
     n: usize,
     modes: usize,
@@ -41,73 +27,71 @@ fn behind(
     u: usize,
     lo: &[i64; 4],
     hi: &[i64; 4],
-) -> Rest
+) -> usize
     requires plant { ⌜ Lent n modes q (now coef) (now limits) × Small edgeLimit (sidesOf n (now lo) (now hi)) ⌝ }
     requires mode { ⌜ (u < modes) × (m ≤ 6) ⌝ }
-    ensures modes { λ r. ⌜ ((x : Unlent) → Ready (plantLent x n modes q (now (coef .entry))) (now (limits .entry)) → soughtOf (r .found) (backwards m (r .us)) ≡ behindMode (rulesOf (plantLent x n modes q (now (coef .entry)))) m (sidesOf n (now (lo .entry)) (now (hi .entry))) u) ⌝ }
-    ensures room { λ r. ⌜ length (r .us) ≡ 6 ⌝ }
+    ensures modes { λ r. ⌜ ((x : Unlent) → Ready (plantLent x n modes q (now (coef .entry))) (now (limits .entry)) → soughtOf m r ≡ behindMode (rulesOf (plantLent x n modes q (now (coef .entry)))) m (sidesOf n (now (lo .entry)) (now (hi .entry))) u) ⌝ }
+    ensures size { λ r. ⌜ r ≤ 16 ^ m ⌝ }
 {
-    let none = [0usize; 6];
     if m == 0 {
-        let found = steps::lands(n, coef, limits, u, lo, hi);
-        return Rest { found, us: none };
+        let v = steps::last(n, u, u + 1, coef, limits, lo, hi);
+        if v == u {
+            return 1;
+        }
+        return 0;
     }
-    let c = steps::step(n, q, coef, limits, u, lo, hi);
-    if c.stays {
-        let image = c.image;
-        let clo = image.lo;
-        let chi = image.hi;
+    let mut ilo = [0i64; 4];
+    let mut ihi = [0i64; 4];
+    if steps::step(n, q, coef, limits, u, lo, hi, &mut ilo, &mut ihi) {
         if m == 1 {
-            let v = steps::last(n, modes, coef, limits, &clo, &chi);
-            return Rest {
-                found: v < modes,
-                us: [v, 0, 0, 0, 0, 0],
-            };
+            let v = steps::last(n, 0, modes, coef, limits, &ilo, &ihi);
+            if v < modes {
+                return v + 1;
+            }
+            return 0;
         }
         let mut v: usize = 0;
         while v < modes {
-            let rest = behind(n, modes, q, coef, limits, m - 1, v, &clo, &chi);
-            if rest.found {
-                let mut us = rest.us;
-                us[m - 1] = v;
-                return Rest { found: true, us };
+            let rest = behind(n, modes, q, coef, limits, m - 1, v, &ilo, &ihi);
+            if rest != 0 {
+                return v + 16 * (rest - 1) + 1;
             }
             v += 1;
         }
     }
-    Rest {
-        found: false,
-        us: none,
-    }
+    0
+}
+
+// A pattern of `size` modes by its number; where there is none the size is 0.
+pub struct Sought {
+    pub size: usize,
+    pub code: usize,
 }
 
 // The first pattern of a box: lengths from 1 on, at each length its first mode in order, and out of both with the first that works.
 // m modes stand behind the first.
 pub fn first(f: Frame, coef: &[i64], limits: &[i64; 24], b: Bx) -> Sought
     requires { ⌜ Ready (plantFrom f (now coef)) (now limits) × Small edgeLimit (boxOf (f .n) b) ⌝ }
-    ensures pattern { λ r. ⌜ soughtOf (r .found) (backwards (r .size) (r .us)) ≡ firstPattern (rulesOf (plantFrom f (now (coef .entry)))) (boxOf (f .n) b) ⌝ }
+    ensures pattern { λ r. ⌜ patternBy (r .size) (r .code) ≡ firstPattern (rulesOf (plantFrom f (now (coef .entry)))) (boxOf (f .n) b) ⌝ }
     ensures size { λ r. ⌜ r .size ≤ 6 ⌝ }
 {
     let lo = b.lo;
     let hi = b.hi;
-    let mut found = false;
-    let mut us = [0usize; 6];
     let mut size: usize = 0;
+    let mut code: usize = 0;
     let mut m: usize = 0;
     'search: while m < f.k {
         let mut u: usize = 0;
         while u < f.modes {
             let rest = behind(f.n, f.modes, f.q, coef, limits, m, u, &lo, &hi);
-            if rest.found {
-                us = rest.us;
-                us[m] = u;
+            if rest != 0 {
+                code = u + 16 * (rest - 1);
                 size = m + 1;
-                found = true;
                 break 'search;
             }
             u += 1;
         }
         m += 1;
     }
-    Sought { found, size, us }
+    Sought { size, code }
 }

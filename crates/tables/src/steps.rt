@@ -2,19 +2,19 @@
 // Relies on images for the extremes of a row, on limits for where the sums have to lie. Leaves out which modes are tried in which order (search).
 // Neither test divides. Everything is lent, so that a call copies only small numbers.
 use crate::boxes;
-use crate::boxes::Bx;
 use crate::division;
 use crate::images;
 use crate::images::Span;
 ghost use mathlib.Core.Path.{_≡_};
 ghost use mathlib.Core.Bool.{true};
-ghost use Prim.Native.Nat.{ℕ, _≤_, _<_};
+ghost use Prim.Native.Nat.{ℕ, _-_, _≤_, _<_};
+ghost use lib.ListN.{length};
 ghost use lib.IntN.{natAbs};
 ghost use Rattle.laws.specs.Lists.{tab};
 ghost use Rattle.meaning.specs.Boxes.{side, sidesOf, covers};
 ghost use Rattle.meaning.specs.Defined.{firstMode};
 ghost use Rattle.meaning.specs.Plants.{edgeLimit, bandLimit};
-ghost use Rattle.tables.specs.Boxes.{boxOf, Small};
+ghost use Rattle.tables.specs.Boxes.{Small};
 ghost use Rattle.tables.specs.Images.{RowSound};
 ghost use Rattle.tables.specs.Limits.{addLimit, sumSide, lentSide, covered, landing, dividedAt, RowsSound};
 ghost use Rattle.tables.specs.Search.{oneOf};
@@ -46,14 +46,7 @@ fn inside(limits: &[i64; 24], base: usize, i: usize, least: i64, greatest: i64) 
 }
 
 // Whether the image of a box under mode u lies in R.
-pub fn lands(
-    n: usize,
-    coef: &[i64],
-    limits: &[i64; 24],
-    u: usize,
-    lo: &[i64; 4],
-    hi: &[i64; 4],
-) -> bool
+fn lands(n: usize, coef: &[i64], limits: &[i64; 24], u: usize, lo: &[i64; 4], hi: &[i64; 4]) -> bool
     requires { ⌜ RowsSound n (now coef) u × Small edgeLimit (sidesOf n (now lo) (now hi)) ⌝ }
     ensures { λ r. ⌜ r ≡ covered n (now (coef .entry)) (now (limits .entry)) 8 u (sidesOf n (now (lo .entry)) (now (hi .entry))) ⌝ }
 {
@@ -71,20 +64,22 @@ pub fn lands(
     true
 }
 
-// The first mode under which the image of a box lies in R; `modes` where there is none.
+// The first of the modes from..to under which the image of a box lies in R; `to` where there is none.
 pub fn last(
     n: usize,
-    modes: usize,
+    from: usize,
+    to: usize,
     coef: &[i64],
     limits: &[i64; 24],
     lo: &[i64; 4],
     hi: &[i64; 4],
 ) -> usize
-    requires { ⌜ ((u : ℕ) → u < modes → RowsSound n (now coef) u) × Small edgeLimit (sidesOf n (now lo) (now hi)) ⌝ }
-    ensures { λ r. ⌜ oneOf modes r ≡ firstMode (landing n (now (coef .entry)) (now (limits .entry)) (sidesOf n (now (lo .entry)) (now (hi .entry)))) modes 0 ⌝ }
+    requires { ⌜ (from ≤ to) × ((u : ℕ) → u < to → RowsSound n (now coef) u) × Small edgeLimit (sidesOf n (now lo) (now hi)) ⌝ }
+    ensures first { λ r. ⌜ oneOf to r ≡ firstMode (landing n (now (coef .entry)) (now (limits .entry)) (sidesOf n (now (lo .entry)) (now (hi .entry)))) (to - from) from ⌝ }
+    ensures least { λ r. ⌜ from ≤ r ⌝ }
 {
-    let mut u: usize = 0;
-    while u < modes {
+    let mut u = from;
+    while u < to {
         if lands(n, coef, limits, u, lo, hi) {
             return u;
         }
@@ -93,12 +88,7 @@ pub fn last(
     u
 }
 
-// An image, made where it lies in S; where it does not, the box says nothing.
-pub struct Stepped {
-    pub stays: bool,
-    pub image: Bx,
-}
-
+// Whether the image of a box under mode u lies in S; where it does it is left in ilo and ihi, which otherwise say nothing.
 pub fn step(
     n: usize,
     q: usize,
@@ -107,14 +97,14 @@ pub fn step(
     u: usize,
     lo: &[i64; 4],
     hi: &[i64; 4],
-) -> Stepped
+    ilo: &mut [i64; 4],
+    ihi: &mut [i64; 4],
+) -> bool
     requires step { ⌜ RowsSound n (now coef) u × (1 ≤ q) × (q ≤ 10_000) × Small bandLimit (tab (lentSide (now limits) 16) n 0) ⌝ }
-    requires edges { ⌜ Small edgeLimit (sidesOf n (now lo) (now hi)) ⌝ }
-    ensures stays { λ r. ⌜ r .stays ≡ covered n (now (coef .entry)) (now (limits .entry)) 0 u (sidesOf n (now (lo .entry)) (now (hi .entry))) ⌝ }
-    ensures image { λ r. ⌜ (r .stays ≡ true → boxOf n (r .image) ≡ tab (dividedAt n q (now (coef .entry)) (now (limits .entry)) u (sidesOf n (now (lo .entry)) (now (hi .entry)))) n 0) ⌝ }
+    requires edges { ⌜ Small edgeLimit (sidesOf n (now lo) (now hi)) × (length (now ilo) ≡ 4) × (length (now ihi) ≡ 4) ⌝ }
+    ensures stays { λ r. ⌜ r ≡ covered n (now (coef .entry)) (now (limits .entry)) 0 u (sidesOf n (now (lo .entry)) (now (hi .entry))) ⌝ }
+    ensures image { λ r. ⌜ (r ≡ true → sidesOf n (now (ilo .exit)) (now (ihi .exit)) ≡ tab (dividedAt n q (now (coef .entry)) (now (limits .entry)) u (sidesOf n (now (lo .entry)) (now (hi .entry)))) n 0) ⌝ }
 {
-    let mut ilo = [0i64; 4];
-    let mut ihi = [0i64; 4];
     let mut i: usize = 0;
     while i < n {
         let s = sums(n, coef, (u * n + i) * (n + 1), lo, hi);
@@ -129,14 +119,8 @@ pub fn step(
             ihi[i] = high;
             i += 1;
         } else {
-            return Stepped {
-                stays: false,
-                image: Bx { lo: ilo, hi: ihi },
-            };
+            return false;
         }
     }
-    Stepped {
-        stays: true,
-        image: Bx { lo: ilo, hi: ihi },
-    }
+    true
 }

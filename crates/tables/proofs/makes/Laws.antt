@@ -1,6 +1,6 @@
 -- The defined table, written: a tile's modes one after another; a box by its first pattern; the children of a split one after another; the whole
 -- by its parts. Assumes nothing.
-use Prim.Native.Nat.{ℕ, zero, suc, _+_, _-_, _≤_, _<_}
+use Prim.Native.Nat.{ℕ, zero, suc, _+_, _-_, _/_, _%_, _≤_, _<_}
 use mathlib.Core.Path.{_≡_, refl, sym, ap, _∙_}
 use mathlib.Core.Bool.{Bool, true, false}
 use mathlib.Core.List.{List, [], _∷_, _++_}
@@ -25,27 +25,26 @@ use Rattle.meaning.specs.Trees.{Tree, Forest, split, tile, more, modesBytes, la
 use Rattle.meaning.specs.Defined.{mapSome, andAlso, allOf, splitOf, firstPattern, treeOf, definedTree}
 use Rattle.meaning.specs.Tables.{rulesOf, tableBytes, made, makerLeft}
 use Rattle.tables.specs.declared.makes.Grown.{Grown}
-use Rattle.tables.specs.Tiles.{modeAt}
-use Rattle.tables.specs.Search.{backwards, soughtOf}
+use Rattle.tables.specs.Search.{digits, patternBy}
 use Rattle.tables.specs.Makes.{Wrote, treeBytes, treesBytes, definedBytes}
-use Rattle.tables.proofs.search.Laws.{backwards-length}
+use Rattle.tables.proofs.search.Laws.{digits-length}
 
 -- ---- a tile: so many of its modes are left
 
-pub tile-whole : (k : ℕ) (us : List ℕ) {buf : List ℕ} {at next : ℕ} {mid : List ℕ} {last : ℕ} {out : List ℕ} → Put buf at (bytesOf k) next mid → Put mid next (modesBytes (backwards k us)) last out
-    → Put buf at (layout (tile (backwards k us))) last out
+pub tile-whole : (k code : ℕ) {buf : List ℕ} {at next : ℕ} {mid : List ℕ} {last : ℕ} {out : List ℕ} → Put buf at (bytesOf k) next mid → Put mid next (modesBytes (digits k code)) last out
+    → Put buf at (layout (tile (digits k code))) last out
 unfolding layout
-tile-whole k us t v = rw (backwards-length k us) (put-append t v)
+tile-whole k code t v = rw (digits-length k code) (put-append t v)
 
-pub tile-mode : (left : ℕ) (us : List ℕ) → 0 < left → modesBytes (backwards left us) ≡ bytesOf (modeAt us (left - 1)) ++ modesBytes (backwards (left - 1) us)
-unfolding modesBytes backwards
-tile-mode zero us h = absurd (omega arith)
-tile-mode (suc left) us h = let e : suc left - 1 ≡ left = omega arith in rw e refl
+pub tile-mode : (left code : ℕ) → 0 < left → modesBytes (digits left code) ≡ bytesOf (code % 16) ++ modesBytes (digits (left - 1) (code / 16))
+unfolding modesBytes digits
+tile-mode zero code h = absurd (omega arith)
+tile-mode (suc left) code h = let e : suc left - 1 ≡ left = omega arith in rw e refl
 
-pub tile-end : (left : ℕ) (us : List ℕ) → left ≤ 0 → modesBytes (backwards left us) ≡ []
-unfolding modesBytes backwards
-tile-end zero us h = refl
-tile-end (suc left) us h = absurd (omega arith)
+pub tile-end : (left code : ℕ) → left ≤ 0 → modesBytes (digits left code) ≡ []
+unfolding modesBytes digits
+tile-end zero code h = refl
+tile-end (suc left) code h = absurd (omega arith)
 
 -- ---- some bytes, and behind them what may not exist
 
@@ -157,11 +156,15 @@ empty : {A : Type 0} (xs : List A) → length xs ≡ 0 → xs ≡ []
 empty [] e = refl
 empty (x ∷ xs) e = absurd (omega arith)
 
-module _ (p : Plant) (d : ℕ) (b : List Side) (found : Bool) (us : List ℕ) (q : soughtOf found us ≡ firstPattern (rulesOf p) b) (buf : List ℕ) (at : ℕ) where
-  pub node-tile : found ≡ true → (next : ℕ) (out : List ℕ) → Put buf at (layout (tile us)) next out → Wrote (treeBytes (rulesOf p) d b) buf at (Grown.Next next) out
-  node-tile z next out t = rw (box-tile (rulesOf p) d b us (sym q ∙ rw z refl)) t
+module _ (p : Plant) (d : ℕ) (b : List Side) (size code : ℕ) (q : patternBy size code ≡ firstPattern (rulesOf p) b) (buf : List ℕ) (at : ℕ) where
+  pub node-tile : (size ≡ 0 → ⊥) → (next : ℕ) (out : List ℕ) → Put buf at (layout (tile (digits size code))) next out → Wrote (treeBytes (rulesOf p) d b) buf at (Grown.Next next) out
+  node-tile z next out t = rw (box-tile (rulesOf p) d b (digits size code) (sym q ∙ there size z)) t
+    where
+      there : (k : ℕ) → (k ≡ 0 → ⊥) → patternBy k code ≡ some (digits k code)
+      there zero z = absurd (z refl)
+      there (suc k) z = refl
 
-  module _ (z : found ≡ false) where
+  module _ (z : size ≡ 0) where
     nothing : firstPattern (rulesOf p) b ≡ none
     nothing = sym q ∙ rw z refl
 

@@ -1,6 +1,6 @@
 -- The search of a pattern, step by step, in the terms that the code has: the modes in front one after another, the lengths one after another, and
 -- what stands behind one mode. What is left of a loop says what the whole says. Assumes nothing.
-use Prim.Native.Nat.{ℕ, zero, suc, _+_, _-_, _≤_, _<_}
+use Prim.Native.Nat.{ℕ, zero, suc, _+_, _-_, _*_, _/_, _%_, _^_, _≤_, _<_}
 use mathlib.Core.Path.{_≡_, refl, sym, ap, _∙_, subst}
 use mathlib.Core.Bool.{Bool, true, false}
 use mathlib.Core.List.{List, [], _∷_}
@@ -9,9 +9,9 @@ use native.Mathlib.Omega.{arith}
 use native.Mathlib.Nat.{sub-zero}
 use native.Mathlib.Numerals.{add-one}
 use lib.Dec.{ltb}
-use lib.ListN.{length, set}
+use borrow.Author.Tests.{lt-ltb, le-ltb}
+use lib.ListN.{length}
 use lib.IntN.{ℤ}
-use lib.Seq.{getD-set-same, getD-set-other}
 use Rattle.laws.specs.Guards.{guard}
 use Rattle.laws.specs.Lists.{tab}
 use Rattle.laws.specs.Tabs.{tab-same}
@@ -21,37 +21,53 @@ use Rattle.meaning.specs.Boxes.{Side, sideAt, within}
 use Rattle.meaning.specs.Images.{image}
 use Rattle.meaning.specs.Plants.{edgeLimit, bandLimit, rootOf, safeOf, stepOf}
 use Rattle.meaning.specs.Tables.{rulesOf}
-use Rattle.meaning.specs.Defined.{firstMode, exactly, shortest, firstPattern}
+use Rattle.meaning.specs.Defined.{orElse, mapSome, firstMode, exactly, shortest, firstPattern}
 use Rattle.promises.specs.Sound.{Sound}
 use Rattle.promises.specs.Boxes.{within-trans}
 use Rattle.tables.specs.Boxes.{Small}
-use Rattle.tables.specs.Tiles.{modeAt}
 use Rattle.tables.specs.Limits.{lentSide, covered, landing, RowsSound, Ready}
-use Rattle.tables.specs.Search.{backwards, soughtOf, oneOf, behindMode}
+use Rattle.tables.specs.Search.{digits, soughtOf, picked, oneOf, behindMode}
 use Rattle.tables.proofs.frames.Laws.{step-sound, band-small}
 use Rattle.tables.proofs.images.Laws.{small-image}
 use Rattle.tables.proofs.steps.Laws.{covered-root}
 
 -- ---- patterns as the code holds them
 
-backwards-other : (us : List ℕ) (i u m : ℕ) → m ≤ i → backwards m (set us i u) ≡ backwards m us
-unfolding backwards
-backwards-other us i u zero h = refl
-backwards-other us i u (suc m) h =
-    let e : modeAt (set us i u) m ≡ modeAt us m = getD-set-other us i m u 0 (λ e. absurd (omega arith)) in
-    rw (e, backwards-other us i u m (omega arith)) refl
+pub digits-length : (m code : ℕ) → length (digits m code) ≡ m
+unfolding digits
+digits-length zero code = refl
+digits-length (suc m) code = ap suc (digits-length m (code / 16))
 
--- the mode in front is stored behind
-backwards-stored : (us : List ℕ) (m u : ℕ) → m < length us → backwards (suc m) (set us m u) ≡ u ∷ backwards m us
-unfolding backwards
-backwards-stored us m u h =
-    let e : modeAt (set us m u) m ≡ u = getD-set-same us m u 0 h in
-    rw (e, backwards-other us m u m (omega arith)) refl
+-- the mode in front is the lowest digit
+digits-front : (m u code : ℕ) → u < 16 → digits (suc m) (u + 16 * code) ≡ u ∷ digits m code
+unfolding digits
+digits-front m u code h =
+    let e : (u + 16 * code) % 16 ≡ u = omega arith in
+    let q : (u + 16 * code) / 16 ≡ code = omega arith in
+    rw (e, q) refl
 
-pub backwards-length : (m : ℕ) (us : List ℕ) → length (backwards m us) ≡ m
-unfolding backwards
-backwards-length zero us = refl
-backwards-length (suc m) us = rw (backwards-length m us) refl
+-- a number of m digits
+pub digit-more : (m : ℕ) → (m ≡ 0 → ⊥) → 16 ^ m ≡ 16 * 16 ^ (m - 1)
+digit-more zero z = absurd (z refl)
+digit-more (suc m) z = let e : suc m - 1 ≡ m = omega arith in rw e (omega arith)
+
+pub digits-small : (m : ℕ) → m ≤ 6 → 16 ^ m ≤ 16 ^ 6
+digits-small zero h = omega arith
+digits-small (suc zero) h = omega arith
+digits-small (suc (suc zero)) h = omega arith
+digits-small (suc (suc (suc zero))) h = omega arith
+digits-small (suc (suc (suc (suc zero)))) h = omega arith
+digits-small (suc (suc (suc (suc (suc zero))))) h = omega arith
+digits-small (suc (suc (suc (suc (suc (suc zero)))))) h = omega arith
+digits-small (suc (suc (suc (suc (suc (suc (suc m))))))) h = absurd (omega arith)
+
+-- a pattern that was sought: there is none, or it is by its number
+none-sought : (m r : ℕ) → r ≡ 0 → soughtOf m r ≡ none
+none-sought m r z = rw z refl
+
+some-sought : (m r : ℕ) → (r ≡ 0 → ⊥) → soughtOf m r ≡ some (digits m (r - 1))
+some-sought m zero z = absurd (z refl)
+some-sought m (suc r) z = let e : suc r - 1 ≡ r = omega arith in rw e refl
 
 -- ---- the modes in front: v of N are tried, and a is the answer behind mode v
 
@@ -76,13 +92,13 @@ module _ (try : ℕ → Option (List ℕ)) (N v : ℕ) (whole : Option (List ℕ
   pub modes-done : N ≤ v → none ≡ whole
   modes-done h = sym (modes-over try N v h) ∙ q
 
-  module _ (h : v < N) (m : ℕ) (found : Bool) (us : List ℕ) (e : soughtOf found (backwards m us) ≡ try v) where
-    pub modes-next : found ≡ false → firstMode try (N - (v + 1)) (v + 1) ≡ whole
-    modes-next z = sym (modes-miss try N v h (sym e ∙ rw z refl)) ∙ q
+  module _ (h : v < N) (m r : ℕ) (e : soughtOf m r ≡ try v) where
+    pub modes-next : r ≡ 0 → firstMode try (N - (v + 1)) (v + 1) ≡ whole
+    modes-next z = sym (modes-miss try N v h (sym e ∙ none-sought m r z)) ∙ q
 
-    pub modes-found : found ≡ true → m < length us → some (backwards (suc m) (set us m v)) ≡ whole
+    pub modes-found : (r ≡ 0 → ⊥) → v < 16 → some (digits (suc m) (v + 16 * (r - 1))) ≡ whole
     modes-found z l =
-        ap some (backwards-stored us m v l) ∙ sym (modes-hit try N v h (backwards m us) (sym e ∙ rw z refl)) ∙ q
+        ap some (digits-front m v (r - 1) l) ∙ sym (modes-hit try N v h (digits m (r - 1)) (sym e ∙ some-sought m r z)) ∙ q
 
 -- the same answers, the same first
 first-same : (f g : ℕ → Option (List ℕ)) → ((u : ℕ) → f u ≡ g u) → (m v : ℕ) → firstMode f m v ≡ firstMode g m v
@@ -95,6 +111,13 @@ first-same f g e (suc m) v = rw (e v, first-same f g e m (suc v)) refl
 -- nothing is left behind a last mode
 abbrev ending : Bool → Option (List ℕ)
 ending t = guard t none λ _. some []
+
+apart : {us : List ℕ} → some us ≡ none → ⊥
+apart e = subst there e tt
+  where
+    there : Option (List ℕ) → Type 0
+    there (some us) = Unit {0}
+    there none = ⊥
 
 module _ (p : Plant) (limits : List ℤ) (g : Ready p limits) where
   pub rows-sound : (u : ℕ) → u < p .modes → RowsSound (p .n) (p .coef) u
@@ -119,18 +142,46 @@ module _ (p : Plant) (limits : List ℤ) (g : Ready p limits) where
         go false false e f = refl
         go false true e f = never (sym e ∙ within-trans c (rootOf p) (safeOf p) f (g .sound .root-safe))
 
-    pub lands-is : (m u : ℕ) (found : Bool) (us : List ℕ) → m ≡ 0 → found ≡ covered (p .n) (p .coef) limits 8 u b → soughtOf found (backwards m us) ≡ behindMode (rulesOf p) m b u
-    unfolding backwards
-    lands-is m u found us z e = rw z (go found ∙ ap ending e ∙ landing-is u)
-      where
-        go : (t : Bool) → soughtOf t [] ≡ ending t
-        go true = refl
-        go false = refl
+    -- one mode alone was tried
+    module _ (m u v : ℕ) (z : m ≡ 0) (e : oneOf (u + 1) v ≡ firstMode (landing (p .n) (p .coef) limits b) (u + 1 - u) u) where
+      alone : picked (ltb v (u + 1)) v ≡ mapSome (λ us. u ∷ us) (landing (p .n) (p .coef) limits b u)
+      unfolding firstMode
+      alone = e ∙ (let q : u + 1 - u ≡ 1 = omega arith in rw q (end (mapSome (λ us. u ∷ us) (landing (p .n) (p .coef) limits b u))))
+        where
+          end : (o : Option (List ℕ)) → orElse o (λ _. none) ≡ o
+          end (some us) = refl
+          end none = refl
 
-    pub last-is : (m v : ℕ) → m ≡ 1 → oneOf (p .modes) v ≡ firstMode (landing (p .n) (p .coef) limits b) (p .modes) 0
-        → soughtOf (ltb v (p .modes)) (backwards m (v ∷ 0 ∷ 0 ∷ 0 ∷ 0 ∷ 0 ∷ [])) ≡ exactly (rulesOf p) m b
-    unfolding exactly backwards
-    last-is m v z e = rw z (e ∙ first-same (landing (p .n) (p .coef) limits b) (behindMode (rulesOf p) 0 b) landing-is (p .modes) 0)
+      pub lands-is : v ≡ u → soughtOf m 1 ≡ behindMode (rulesOf p) m b u
+      unfolding digits
+      lands-is q = rw z (go (covered (p .n) (p .coef) limits 8 u b) (rw (q, lt-ltb u (u + 1) (omega arith)) at alone) ∙ landing-is u)
+        where
+          go : (t : Bool) → some (u ∷ []) ≡ mapSome (λ us. u ∷ us) (ending t) → some [] ≡ ending t
+          go true k = refl
+          go false k = absurd (apart k)
+
+      pub misses-is : (v ≡ u → ⊥) → u ≤ v → soughtOf m 0 ≡ behindMode (rulesOf p) m b u
+      misses-is q h = rw z (go (covered (p .n) (p .coef) limits 8 u b) (rw (le-ltb v (u + 1) (omega arith)) at alone) ∙ landing-is u)
+        where
+          go : (t : Bool) → none ≡ mapSome (λ us. u ∷ us) (ending t) → none ≡ ending t
+          go true k = absurd (apart (sym k))
+          go false k = refl
+
+    -- all modes were tried
+    module _ (m v : ℕ) (z : m ≡ 1) (e : oneOf (p .modes) v ≡ firstMode (landing (p .n) (p .coef) limits b) (p .modes - 0) 0) where
+      all-tried : picked (ltb v (p .modes)) v ≡ exactly (rulesOf p) 1 b
+      unfolding exactly
+      all-tried = e ∙ rw sub-zero (first-same (landing (p .n) (p .coef) limits b) (behindMode (rulesOf p) 0 b) landing-is (p .modes) 0)
+
+      pub last-is : v < p .modes → soughtOf m (v + 1) ≡ exactly (rulesOf p) m b
+      unfolding digits
+      last-is h =
+          let few = g .sound .modes-high in
+          let q : v % 16 ≡ v = omega arith in
+          rw (z, add-one, q) (rw (lt-ltb v (p .modes) h) at all-tried)
+
+      pub last-none : p .modes ≤ v → soughtOf m 0 ≡ exactly (rulesOf p) m b
+      last-none h = rw z (rw (le-ltb v (p .modes) h) at all-tried)
 
 -- ---- behind mode u on box b, whose image the code holds as c
 

@@ -16,7 +16,6 @@ use Rattle.meaning.specs.Tables.{rulesOf}
 use Rattle.tables.specs.declared.makes.Grown.{Grown}
 use Rattle.tables.specs.Boxes.{boxOf}
 use Rattle.tables.specs.Frames.{plantFrom}
-use Rattle.tables.specs.Search.{backwards}
 use Rattle.tables.specs.Makes.{Wrote, treeBytes, treesBytes}
 use Rattle.tables.proofs.boxes.Laws.{small-children}
 use Rattle.tables.proofs.frames.Laws.{rooms}
@@ -47,12 +46,12 @@ abbrev claims : ℕ → tree-lts.Claims
 claims t = (first-reads.Asked, first-reads.Learnt, put-tile-reads.Asked, put-tile-reads.Learnt, count-reads.Asked, count-reads.Learnt, put-number-reads.Asked, put-number-reads.Learnt, child-reads.Asked, child-reads.Learnt, tree-below t, tree.Post)
 
 abbrev tree-Inv-loop : tree-lts.InvT-loop
-tree-Inv-loop f coef limits d b buf₀ at n count place₀ c₀ buf place c =
+tree-Inv-loop f coef limits d b buf₀ at size n count place₀ c₀ buf place c =
     (c ≤ count)
     × Growing buf₀ place₀ (treesBytes (rulesOf (plantFrom f coef)) (d - 1) (children (boxOf (f .n) b))) (treesBytes (rulesOf (plantFrom f coef)) (d - 1) (drop c (children (boxOf (f .n) b)))) place buf
 
 abbrev tree-μ-loop : tree-lts.MeasureT-loop
-tree-μ-loop f coef limits d b buf₀ at n count place₀ c₀ buf place c = count - c
+tree-μ-loop f coef limits d b buf₀ at size n count place₀ c₀ buf place c = count - c
 
 -- a call with that much depth: at its start, with a split's number written, with a child's tree written
 abbrev Call : ℕ → Type 0
@@ -86,7 +85,7 @@ module _ (t : ℕ) (k : Split t) where
       → Wrote (treeBytes (rulesOf (plant t from)) (from .args .d) (box t from)) (now (from .args .buf)) (from .args .at) a out
   goes a out w =
       let x = k .before .before .before .before .before .before .before .before .first in
-      node-split (plant t from) (from .args .d) (box t from) (x .result .found) (backwards (x .result .size) (x .result .us)) (x .ensures .0) (now (from .args .buf)) (from .args .at) (k .before .before .before .before .before .before .before .if1 .left) (k .before .before .before .before .before .before .if2 .left)
+      node-split (plant t from) (from .args .d) (box t from) (x .result .size) (x .result .code) (x .ensures .0) (now (from .args .buf)) (from .args .at) (k .before .before .before .before .before .before .before .if1 .left) (k .before .before .before .before .before .before .if2 .left)
       (λ z. k .before .before .before .before .if3 .left (k .before .before .before .before .before .count .ensures ∙ z)) (k .before .before .put-number .result) (k .before .before .put-number .last .0) (k .before .before .put-number .ensures) a out w
 
   same : length (k .before .before .put-number .last .0) ≡ length (now (from .args .buf))
@@ -126,23 +125,23 @@ tree-first-requires : (t : ℕ) → tree-lts.Need-first-requires (claims t) (tre
 tree-first-requires t c κs = c .before .pre .1
 
 tree-put-tile-requires : (t : ℕ) → tree-lts.Need-put-tile-requires (claims t) (tree-at t) tree.Post tree-Inv-loop tree-μ-loop
-tree-put-tile-requires t c κs = c .before .before .before .first .ensures .1
+tree-put-tile-requires t c κs = c .before .before .first .ensures .1
 
 tree-same-length : (t : ℕ) → tree-lts.Need-same-length (claims t) (tree-at t) tree.Post tree-Inv-loop tree-μ-loop
 tree-same-length t c = put-length (c .before .before .put-tile .ensures)
 
 tree-returns : (t : ℕ) → tree-lts.Need-returns (claims t) (tree-at t) tree.Post tree-Inv-loop tree-μ-loop
 tree-returns t c =
-    let s = c .before .before .before .before .before .before .before .before in
-    let x = c .before .before .before .before .before .before .first in
+    let s = c .before .before .before .before .before .before .before in
+    let x = c .before .before .before .before .before .first in
     let w = c .before .before .put-tile in
-    node-tile (plant t s) (s .args .d) (box t s) (x .result .found) (backwards (x .result .size) (x .result .us)) (x .ensures .0) (now (s .args .buf)) (s .args .at) (c .before .before .before .before .before .if1 .taken) (w .result) (w .last .0) (w .ensures)
+    node-tile (plant t s) (s .args .d) (box t s) (x .result .size) (x .result .code) (x .ensures .0) (now (s .args .buf)) (s .args .at) (c .before .before .before .before .if1 .taken) (w .result) (w .last .0) (w .ensures)
 
 tree-returns-2 : (t : ℕ) → tree-lts.Need-returns-2 (claims t) (tree-at t) tree.Post tree-Inv-loop tree-μ-loop
 tree-returns-2 t c =
     let s = c .before .before .before .before in
     let x = c .before .before .first in
-    node-deep (plant t s) (s .args .d) (box t s) (x .result .found) (backwards (x .result .size) (x .result .us)) (x .ensures .0) (now (s .args .buf)) (s .args .at) (c .before .if1 .left) (c .if2 .taken)
+    node-deep (plant t s) (s .args .d) (box t s) (x .result .size) (x .result .code) (x .ensures .0) (now (s .args .buf)) (s .args .at) (c .before .if1 .left) (c .if2 .taken)
 
 tree-count-requires : (t : ℕ) → tree-lts.Need-count-requires (claims t) (tree-at t) tree.Post tree-Inv-loop tree-μ-loop
 tree-count-requires t c κs = let s = c .before .before .before .before in rooms (plant t s) (s .pre .1 .0 .sound)
@@ -151,7 +150,7 @@ tree-returns-3 : (t : ℕ) → tree-lts.Need-returns-3 (claims t) (tree-at t) tr
 tree-returns-3 t c =
     let s = c .before .before .before .before .before .before in
     let x = c .before .before .before .before .first in
-    node-stuck (plant t s) (s .args .d) (box t s) (x .result .found) (backwards (x .result .size) (x .result .us)) (x .ensures .0) (now (s .args .buf)) (s .args .at) (c .before .before .before .if1 .left) (sym (c .before .count .ensures) ∙ c .if3 .taken)
+    node-stuck (plant t s) (s .args .d) (box t s) (x .result .size) (x .result .code) (x .ensures .0) (now (s .args .buf)) (s .args .at) (c .before .before .before .if1 .left) (sym (c .before .count .ensures) ∙ c .if3 .taken)
 
 tree-put-number-requires : (t : ℕ) → tree-lts.Need-put-number-requires (claims t) (tree-at t) tree.Post tree-Inv-loop tree-μ-loop
 tree-put-number-requires t c κs = tt

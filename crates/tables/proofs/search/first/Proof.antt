@@ -1,13 +1,11 @@
 -- `search::first`: the modes that are left of a length say what the length says, the lengths that are left what the search says. Assumes nothing.
-use Prim.Native.Nat.{ℕ, suc, _-_, _≤_}
+use Prim.Native.Nat.{ℕ, suc, _+_, _-_, _*_, _≤_}
 use mathlib.Core.Path.{_≡_, refl}
-use mathlib.Core.Bool.{false}
 use mathlib.Core.List.{List}
 use mathlib.Core.Option.{Option}
 use native.Mathlib.Omega.{arith}
 use native.Mathlib.Numerals.{add-one}
 use denote.Ref.{now}
-use lib.ListN.{set}
 use Rattle.meaning.specs.declared.Plant.{Plant}
 use Rattle.meaning.specs.Boxes.{Side, sidesOf}
 use Rattle.meaning.specs.Tables.{rulesOf}
@@ -15,25 +13,25 @@ use Rattle.meaning.specs.Defined.{firstMode, exactly, shortest, firstPattern}
 use Rattle.tables.specs.Boxes.{boxOf}
 use Rattle.tables.specs.Frames.{plantFrom}
 use Rattle.tables.specs.Limits.{Unlent, Lent}
-use Rattle.tables.specs.Search.{backwards, behindMode}
+use Rattle.tables.specs.Search.{digits, behindMode}
 use Rattle.tables.proofs.frames.Laws.{longest}
-use Rattle.tables.proofs.search.Laws.{modes-all, modes-done, modes-next, modes-found, lengths-all, lengths-done, lengths-found, lengths-next}
+use Rattle.tables.proofs.search.Laws.{digits-small, modes-all, modes-done, modes-next, modes-found, lengths-all, lengths-done, lengths-found, lengths-next}
 use Rattle.tables.proofs.search.first.Statement.{statement}
 use Rattle.tables.proofs.search.first.Tie as tie
 
 abbrev Inv-loop : tie.InvT-loop
-Inv-loop f coef limits lo hi found₀ us₀ size₀ m u₀ found us size u =
-    (u ≤ f .modes) × (found ≡ false) × (size ≡ 0) × (firstMode (behindMode (rulesOf (plantFrom f coef)) m (sidesOf (f .n) lo hi)) (f .modes - u) u ≡ exactly (rulesOf (plantFrom f coef)) (suc m) (sidesOf (f .n) lo hi))
+Inv-loop f coef limits lo hi size₀ code₀ m u₀ size code u =
+    (u ≤ f .modes) × (size ≡ 0) × (firstMode (behindMode (rulesOf (plantFrom f coef)) m (sidesOf (f .n) lo hi)) (f .modes - u) u ≡ exactly (rulesOf (plantFrom f coef)) (suc m) (sidesOf (f .n) lo hi))
 
 abbrev μ-loop : tie.MeasureT-loop
-μ-loop f coef limits lo hi found₀ us₀ size₀ m u₀ found us size u = f .modes - u
+μ-loop f coef limits lo hi size₀ code₀ m u₀ size code u = f .modes - u
 
 abbrev Inv-search : tie.InvT-search
-Inv-search f coef limits lo hi found₀ us₀ size₀ m₀ found us size m =
-    (m ≤ f .k) × (found ≡ false) × (size ≡ 0) × (shortest (rulesOf (plantFrom f coef)) (f .k - m) (suc m) (sidesOf (f .n) lo hi) ≡ firstPattern (rulesOf (plantFrom f coef)) (sidesOf (f .n) lo hi))
+Inv-search f coef limits lo hi size₀ code₀ m₀ size code m =
+    (m ≤ f .k) × (size ≡ 0) × (shortest (rulesOf (plantFrom f coef)) (f .k - m) (suc m) (sidesOf (f .n) lo hi) ≡ firstPattern (rulesOf (plantFrom f coef)) (sidesOf (f .n) lo hi))
 
 abbrev μ-search : tie.MeasureT-search
-μ-search f coef limits lo hi found₀ us₀ size₀ m₀ found us size m = f .k - m
+μ-search f coef limits lo hi size₀ code₀ m₀ size code m = f .k - m
 
 -- the plant and the box
 module _ (s : tie.Start Inv-loop μ-loop Inv-search μ-search) where
@@ -73,10 +71,10 @@ abbrev start : tie.At-search Inv-loop μ-loop Inv-search μ-search → tie.Start
 start l = l .before .before .before
 
 search-holds : tie.Need-search-holds Inv-loop μ-loop Inv-search μ-search
-search-holds c = let s = c .before .before in (omega arith, refl, refl, lengths-all (plant s) (box s))
+search-holds c = let s = c .before .before in (omega arith, refl, lengths-all (plant s) (box s))
 
 loop-holds : tie.Need-loop-holds Inv-loop μ-loop Inv-search μ-search
-loop-holds c = let o = c .before .before in let s = start o in let l = o .search in (omega arith, l .inv .1, l .inv .2, modes-all (plant s) (l .m) (box s))
+loop-holds c = let o = c .before .before in let s = start o in let l = o .search in (omega arith, l .inv .1, modes-all (plant s) (l .m) (box s))
 
 behind-requires : tie.Need-behind-requires Inv-loop μ-loop Inv-search μ-search
 behind-requires c κs =
@@ -86,29 +84,49 @@ behind-requires c κs =
     let h = l .before .if1 .taken in
     ((lent s, s .pre .1), (c .before .before .if2 .taken, omega arith))
 
-mul-us : tie.Need-mul-us Inv-loop μ-loop Inv-search μ-search
-mul-us c =
-    let l = c .before .before .before .before .before .before .before in
+sub-code : tie.Need-sub-code Inv-loop μ-loop Inv-search μ-search
+sub-code c =
+    let l = c .before .before .before .before .before .before in
     let s = start (length-of l) in
     let few = longest (plant s) (s .pre .0 .sound) in
     let h = l .before .if1 .taken in
-    omega arith
+    let u = c .before .before .before .before .if2 .taken in
+    let some-found = c .if3 .taken in
+    let modes = s .pre .0 .sound .modes-high in
+    omega (arith, c .before .behind .ensures .1, digits-small (length-of l .search .m) (omega arith))
 
-array-write-us : tie.Need-array-write-us Inv-loop μ-loop Inv-search μ-search
-array-write-us c =
-    let l = c .before .before .before .before .before .before .before in
+mul-code : tie.Need-mul-code Inv-loop μ-loop Inv-search μ-search
+mul-code c =
+    let l = c .before .before .before .before .before .before in
     let s = start (length-of l) in
     let few = longest (plant s) (s .pre .0 .sound) in
     let h = l .before .if1 .taken in
-    omega arith
+    let u = c .before .before .before .before .if2 .taken in
+    let some-found = c .if3 .taken in
+    let modes = s .pre .0 .sound .modes-high in
+    omega (arith, c .before .behind .ensures .1, digits-small (length-of l .search .m) (omega arith))
+
+add-code : tie.Need-add-code Inv-loop μ-loop Inv-search μ-search
+add-code c =
+    let l = c .before .before .before .before .before .before in
+    let s = start (length-of l) in
+    let few = longest (plant s) (s .pre .0 .sound) in
+    let h = l .before .if1 .taken in
+    let u = c .before .before .before .before .if2 .taken in
+    let some-found = c .if3 .taken in
+    let modes = s .pre .0 .sound .modes-high in
+    omega (arith, c .before .behind .ensures .1, digits-small (length-of l .search .m) (omega arith))
 
 add-size : tie.Need-add-size Inv-loop μ-loop Inv-search μ-search
 add-size c =
-    let l = c .before .before .before .before .before .before .before in
+    let l = c .before .before .before .before .before .before in
     let s = start (length-of l) in
     let few = longest (plant s) (s .pre .0 .sound) in
     let h = l .before .if1 .taken in
-    omega arith
+    let u = c .before .before .before .before .if2 .taken in
+    let some-found = c .if3 .taken in
+    let modes = s .pre .0 .sound .modes-high in
+    omega (arith, c .before .behind .ensures .1, digits-small (length-of l .search .m) (omega arith))
 
 add-u : tie.Need-add-u Inv-loop μ-loop Inv-search μ-search
 add-u c = let h = c .before .before .before .before .if2 .taken in omega arith
@@ -126,8 +144,7 @@ loop-again c =
     let h = c .before .before .before .before .if2 .taken in (
       omega arith,
       l .inv .1,
-      l .inv .2,
-      modes-next (behindMode (rulesOf (plant s)) m (box s)) (s .args .f .modes) (l .u) (ofLength s (suc m)) (l .inv .3) h m (r .result .found) (r .result .us) (r .ensures .0 (kept s) (s .pre .0)) (c .if3 .left),
+      modes-next (behindMode (rulesOf (plant s)) m (box s)) (s .args .f .modes) (l .u) (ofLength s (suc m)) (l .inv .2) h m (r .result) (r .ensures .0 (kept s) (s .pre .0)) (c .if3 .left),
     )
 
 add-m : tie.Need-add-m Inv-loop μ-loop Inv-search μ-search
@@ -143,30 +160,31 @@ search-again c =
     let s = start o in
     let m = o .search .m in
     let l = a .loop in
-    let none-of = modes-done (behindMode (rulesOf (plant s)) m (box s)) (s .args .f .modes) (l .u) (ofLength s (suc m)) (l .inv .3) (c .if2 .left) in
+    let none-of = modes-done (behindMode (rulesOf (plant s)) m (box s)) (s .args .f .modes) (l .u) (ofLength s (suc m)) (l .inv .2) (c .if2 .left) in
     let h = a .before .if1 .taken in
-    (omega arith, l .inv .1, l .inv .2, lengths-next (plant s) (box s) m (whole s) (o .search .inv .3) h none-of)
+    (omega arith, l .inv .1, lengths-next (plant s) (box s) m (whole s) (o .search .inv .2) h none-of)
 
 returns : tie.Need-returns Inv-loop μ-loop Inv-search μ-search
 returns c =
     let o = c .before .before in
     let s = start o in
     let l = o .search in
-    let z = l .inv .2 in
-    (rw (l .inv .1) (lengths-done (plant s) (box s) (l .m) (whole s) (l .inv .3) (c .if1 .left)), omega arith)
+    let z = l .inv .1 in
+    (rw z (lengths-done (plant s) (box s) (l .m) (whole s) (l .inv .2) (c .if1 .left)), omega arith)
 
 returns-2 : tie.Need-returns-2 Inv-loop μ-loop Inv-search μ-search
 returns-2 c =
-    let a = c .before .before .before .before .before .before .before in
+    let a = c .before .before .before .before .before .before in
     let o = length-of a .search in
     let s = start (length-of a) in
     let l = a .loop in
-    let r = c .before .before .behind in
+    let r = c .before .behind in
     let few = longest (plant s) (s .pre .0 .sound) in
     let h = a .before .if1 .taken in
-    let hit = modes-found (behindMode (rulesOf (plant s)) (o .m) (box s)) (s .args .f .modes) (l .u) (ofLength s (suc (o .m))) (l .inv .3) (c .before .before .before .before .before .if2 .taken) (o .m) (r .result .found)
-    (r .result .us) (r .ensures .0 (kept s) (s .pre .0)) (c .before .if3 .taken) (omega (arith, r .ensures .1)) in
-    (rw add-one (lengths-found (plant s) (box s) (o .m) (whole s) (o .inv .3) h (backwards (suc (o .m)) (set (r .result .us) (o .m) (l .u))) hit), omega arith)
+    let u = c .before .before .before .before .if2 .taken in
+    let modes = s .pre .0 .sound .modes-high in
+    let hit = modes-found (behindMode (rulesOf (plant s)) (o .m) (box s)) (s .args .f .modes) (l .u) (ofLength s (suc (o .m))) (l .inv .2) u (o .m) (r .result) (r .ensures .0 (kept s) (s .pre .0)) (c .if3 .taken) (omega arith) in
+    (rw add-one (lengths-found (plant s) (box s) (o .m) (whole s) (o .inv .2) h (digits (suc (o .m)) (l .u + 16 * (r .result - 1))) hit), omega arith)
 
 pub first-spec : {M : Type 1} → statement M
 first-spec =
@@ -179,8 +197,9 @@ first-spec =
     search-holds
     loop-holds
     behind-requires
-    mul-us
-    array-write-us
+    sub-code
+    mul-code
+    add-code
     add-size
     add-u
     loop-less

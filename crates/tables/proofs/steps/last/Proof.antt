@@ -5,24 +5,23 @@ use mathlib.Core.Bool.{Bool, true, false}
 use mathlib.Core.List.{List, [], _∷_}
 use mathlib.Core.Option.{Option, none, some}
 use native.Mathlib.Omega.{arith}
-use native.Mathlib.Nat.{sub-zero}
 use denote.Ref.{now}
 use borrow.Author.Tests.{lt-ltb, le-ltb}
 use Rattle.laws.specs.Guards.{guard}
 use Rattle.meaning.specs.Boxes.{sidesOf}
 use Rattle.meaning.specs.Defined.{firstMode}
 use Rattle.tables.specs.Limits.{landing}
-use Rattle.tables.specs.Search.{soughtOf}
+use Rattle.tables.specs.Search.{picked}
 use Rattle.tables.proofs.search.Laws.{modes-over, modes-hit, modes-miss}
 use Rattle.tables.proofs.steps.last.Statement.{statement}
 use Rattle.tables.proofs.steps.last.Tie as tie
 
 abbrev Inv-loop : tie.InvT-loop
-Inv-loop n modes coef limits lo hi u₀ u =
-    (u ≤ modes) × (firstMode (landing n coef limits (sidesOf n lo hi)) (modes - u) u ≡ firstMode (landing n coef limits (sidesOf n lo hi)) modes 0)
+Inv-loop n from to coef limits lo hi u₀ u =
+    (from ≤ u) × (u ≤ to) × (firstMode (landing n coef limits (sidesOf n lo hi)) (to - u) u ≡ firstMode (landing n coef limits (sidesOf n lo hi)) (to - from) from)
 
 abbrev μ-loop : tie.MeasureT-loop
-μ-loop n modes coef limits lo hi u₀ u = modes - u
+μ-loop n from to coef limits lo hi u₀ u = to - u
 
 abbrev try : tie.Start Inv-loop μ-loop → ℕ → Option (List ℕ)
 try s = let a = s .args in landing (a .n) (now (a .coef)) (now (a .limits)) (sidesOf (a .n) (now (a .lo)) (now (a .hi)))
@@ -38,18 +37,20 @@ missed : {t c : Bool} → t ≡ c → t ≡ false → behind c ≡ none
 missed e h = rw (sym e ∙ h) refl
 
 loop-holds : tie.Need-loop-holds Inv-loop μ-loop
-loop-holds c = (omega arith, rw sub-zero refl)
+loop-holds c = (omega arith, c .pre .0, refl)
 
 lands-requires : tie.Need-lands-requires Inv-loop μ-loop
-lands-requires c κs = (c .before .before .pre .0 (c .before .loop .u) (c .loop-test .taken), c .before .before .pre .1)
+lands-requires c κs = (c .before .before .pre .1 (c .before .loop .u) (c .loop-test .taken), c .before .before .pre .2)
 
 returns : tie.Need-returns Inv-loop μ-loop
 returns c =
     let t = c .before .before in
     let s = t .before .before in
-    let u = t .before .loop .u in
-    ap (λ (b : Bool). soughtOf b (u ∷ [])) (lt-ltb u (s .args .modes) (t .loop-test .taken))
-    ∙ sym (modes-hit (try s) (s .args .modes) u (t .loop-test .taken) [] (landed (c .before .lands .ensures) (c .if1 .taken))) ∙ t .before .loop .inv .1
+    let u = t .before .loop .u in (
+      ap (λ (b : Bool). picked b u) (lt-ltb u (s .args .to) (t .loop-test .taken))
+          ∙ sym (modes-hit (try s) (s .args .to) u (t .loop-test .taken) [] (landed (c .before .lands .ensures) (c .if1 .taken))) ∙ t .before .loop .inv .2,
+      t .before .loop .inv .0,
+    )
 
 add-u : tie.Need-add-u Inv-loop μ-loop
 add-u c = let h = c .before .before .loop-test .taken in omega arith
@@ -63,14 +64,16 @@ loop-again c =
     let s = t .before .before in
     let u = t .before .loop .u in
     let h = t .loop-test .taken in
-    (omega arith, sym (modes-miss (try s) (s .args .modes) u h (missed (c .before .lands .ensures) (c .if1 .left))) ∙ t .before .loop .inv .1)
+    let l = t .before .loop .inv .0 in
+    (omega arith, omega arith, sym (modes-miss (try s) (s .args .to) u h (missed (c .before .lands .ensures) (c .if1 .left))) ∙ t .before .loop .inv .2)
 
 returns-2 : tie.Need-returns-2 Inv-loop μ-loop
 returns-2 c =
     let s = c .before .before in
-    let u = c .before .loop .u in
-    ap (λ (b : Bool). soughtOf b (u ∷ [])) (le-ltb u (s .args .modes) (c .loop-test .left))
-    ∙ sym (modes-over (try s) (s .args .modes) u (c .loop-test .left)) ∙ c .before .loop .inv .1
+    let u = c .before .loop .u in (
+      ap (λ (b : Bool). picked b u) (le-ltb u (s .args .to) (c .loop-test .left)) ∙ sym (modes-over (try s) (s .args .to) u (c .loop-test .left)) ∙ c .before .loop .inv .2,
+      c .before .loop .inv .0,
+    )
 
 pub last-spec : {M : Type 1} → statement M
 last-spec =

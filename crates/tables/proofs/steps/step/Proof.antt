@@ -71,7 +71,7 @@ module _ (c : tie.After-inside Inv-loop μ-loop) where
 
 loop-holds : tie.Need-loop-holds Inv-loop μ-loop
 unfolding tab
-loop-holds c = (refl, refl, refl, hold-none (test c) (c .args .n))
+loop-holds c = (c .pre .1 .1, c .pre .1 .2, refl, hold-none (test c) (c .args .n))
 
 mul-sums : tie.Need-mul-sums Inv-loop μ-loop
 mul-sums c = let r = row (c .before .before) (c .before .loop .i) (c .loop-test .taken) in omega (arith, r .below)
@@ -86,7 +86,7 @@ mul-sums-2 : tie.Need-mul-sums-2 Inv-loop μ-loop
 mul-sums-2 c = let r = row (c .before .before) (c .before .loop .i) (c .loop-test .taken) in omega (arith, r .below)
 
 sums-requires : tie.Need-sums-requires Inv-loop μ-loop
-sums-requires c κs = (row (c .before .before) (c .before .loop .i) (c .loop-test .taken), c .before .before .pre .1)
+sums-requires c κs = (row (c .before .before) (c .before .loop .i) (c .loop-test .taken), c .before .before .pre .1 .0)
 
 inside-requires : tie.Need-inside-requires Inv-loop μ-loop
 inside-requires c κs =
@@ -125,17 +125,17 @@ add-floor c = need (high (c .before .before .before .before)) tt
 floor-requires : tie.Need-floor-requires Inv-loop μ-loop
 floor-requires c κs = let t = c .before .before .before .before in (under (high t) sumLimit tt, from t .pre .0 .1, from t .pre .0 .2)
 
-mul-ilo : tie.Need-mul-ilo Inv-loop μ-loop
-mul-ilo c = let t = c .before .before .before .before .before in let r = row (from t) (index t) (round t .loop-test .taken) in let h = round t .loop-test .taken in omega (arith, r .rooms)
+mul-low : tie.Need-mul-low Inv-loop μ-loop
+mul-low c = let t = c .before .before .before .before .before in let r = row (from t) (index t) (round t .loop-test .taken) in let h = round t .loop-test .taken in omega (arith, r .rooms)
 
-array-set-from-ilo : tie.Need-array-set-from-ilo Inv-loop μ-loop
-array-set-from-ilo c = let t = c .before .before .before .before .before in let r = row (from t) (index t) (round t .loop-test .taken) in let h = round t .loop-test .taken in omega (arith, r .rooms)
+element-set-from-low : tie.Need-element-set-from-low Inv-loop μ-loop
+element-set-from-low c = let t = c .before .before .before .before .before in let r = row (from t) (index t) (round t .loop-test .taken) in let h = round t .loop-test .taken in omega (arith, r .rooms)
 
-mul-ihi : tie.Need-mul-ihi Inv-loop μ-loop
-mul-ihi c = let t = c .before .before .before .before .before in let r = row (from t) (index t) (round t .loop-test .taken) in let h = round t .loop-test .taken in omega (arith, r .rooms)
+mul-high : tie.Need-mul-high Inv-loop μ-loop
+mul-high c = let t = c .before .before .before .before .before in let r = row (from t) (index t) (round t .loop-test .taken) in let h = round t .loop-test .taken in omega (arith, r .rooms)
 
-array-set-from-ihi : tie.Need-array-set-from-ihi Inv-loop μ-loop
-array-set-from-ihi c = let t = c .before .before .before .before .before in let r = row (from t) (index t) (round t .loop-test .taken) in let h = round t .loop-test .taken in omega (arith, r .rooms)
+element-set-from-high : tie.Need-element-set-from-high Inv-loop μ-loop
+element-set-from-high c = let t = c .before .before .before .before .before in let r = row (from t) (index t) (round t .loop-test .taken) in let h = round t .loop-test .taken in omega (arith, r .rooms)
 
 add-i : tie.Need-add-i Inv-loop μ-loop
 add-i c = let h = round (c .before .before .before .before .before) .loop-test .taken in omega arith
@@ -194,10 +194,10 @@ step-spec =
     ceiling-requires
     add-floor
     floor-requires
-    mul-ilo
-    array-set-from-ilo
-    mul-ihi
-    array-set-from-ihi
+    mul-low
+    element-set-from-low
+    mul-high
+    element-set-from-high
     add-i
     loop-less
     loop-again
