@@ -1,11 +1,11 @@
 -- Limits: where the sums of a row over a box have to lie for the side of the image to lie in a given side, so that no division is needed to
 -- tell it; the array in which the search is lent them; and a plant of which the search is lent only a part. Definitions alone.
-use Prim.Native.Nat.{ℕ, _+_, _<_}
+use Prim.Native.Nat.{ℕ, _+_, _≤_, _<_}
 use mathlib.Core.Path.{_≡_}
 use mathlib.Core.Bool.{Bool}
 use mathlib.Core.List.{List, []}
 use mathlib.Core.Option.{Option, none, some}
-use lib.IntN.{ℤ, pos, _+ℤ_, _-ℤ_, _*ℤ_}
+use lib.IntN.{ℤ, pos, natAbs, _+ℤ_, _-ℤ_, _*ℤ_}
 use Rattle.laws.specs.Guards.{guard}
 use Rattle.laws.specs.Lists.{at, tab, all}
 use Rattle.laws.specs.Division.{floorZ, ceilZ}
@@ -52,6 +52,17 @@ covered n coef limits base u b = all (tab (coveredAt n coef limits base u b) n 0
 
 abbrev pub dividedAt : ℕ → ℕ → List ℤ → List ℤ → ℕ → List Side → ℕ → Side
 dividedAt n q coef limits u b i = divided q (lentSide limits 16 i) (sumSide n coef (rowStart n u i) b)
+
+-- the same in two steps: the sums, and what two arrays hold of them divided
+abbrev pub sumsAt : ℕ → List ℤ → ℕ → List Side → ℕ → Side
+sumsAt n coef u b i = sumSide n coef (rowStart n u i) b
+
+abbrev pub dividedIn : ℕ → List ℤ → List ℤ → List ℤ → ℕ → Side
+dividedIn q limits lo hi i = divided q (lentSide limits 16 i) (sideAt lo hi i)
+
+-- the first n of two arrays lie within ±k
+abbrev pub Within : ℕ → ℕ → List ℤ → List ℤ → Type 0
+Within k n lo hi = (i : ℕ) → i < n → (natAbs (at lo i) ≤ k) × (natAbs (at hi i) ≤ k)
 
 -- the rest of a pattern behind a last mode: none is left, where the image lies in R
 abbrev pub landing : ℕ → List ℤ → List ℤ → List Side → ℕ → Option (List ℕ)

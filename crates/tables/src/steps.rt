@@ -16,7 +16,7 @@ ghost use Rattle.meaning.specs.Defined.{firstMode};
 ghost use Rattle.meaning.specs.Plants.{edgeLimit, bandLimit};
 ghost use Rattle.tables.specs.Boxes.{Small};
 ghost use Rattle.tables.specs.Images.{RowSound};
-ghost use Rattle.tables.specs.Limits.{addLimit, sumSide, lentSide, covered, landing, dividedAt, RowsSound};
+ghost use Rattle.tables.specs.Limits.{addLimit, sumSide, sumsAt, lentSide, covered, landing, dividedIn, dividedAt, Within, RowsSound};
 ghost use Rattle.tables.specs.Search.{oneOf};
 
 // The least and the greatest of A·x + b over a box, by the row that starts at `start`.
@@ -88,7 +88,62 @@ pub fn last(
     u
 }
 
-// Whether the image of a box under mode u lies in S; where it does it is left in ilo and ihi, which otherwise say nothing.
+// Whether the image of a box under mode u lies in S; where it does the sums are left in slo and shi, which otherwise say nothing.
+fn stays(
+    n: usize,
+    coef: &[i64],
+    limits: &[i64; 24],
+    u: usize,
+    lo: &[i64; 4],
+    hi: &[i64; 4],
+    slo: &mut [i64; 4],
+    shi: &mut [i64; 4],
+) -> bool
+    requires rows { ⌜ RowsSound n (now coef) u ⌝ }
+    requires edges { ⌜ Small edgeLimit (sidesOf n (now lo) (now hi)) × (length (now slo) ≡ 4) × (length (now shi) ≡ 4) ⌝ }
+    ensures stays { λ r. ⌜ r ≡ covered n (now (coef .entry)) (now (limits .entry)) 0 u (sidesOf n (now (lo .entry)) (now (hi .entry))) ⌝ }
+    ensures sums { λ r. ⌜ (r ≡ true → sidesOf n (now (slo .exit)) (now (shi .exit)) ≡ tab (sumsAt n (now (coef .entry)) u (sidesOf n (now (lo .entry)) (now (hi .entry)))) n 0) ⌝ }
+    ensures sizes { λ r. ⌜ (r ≡ true → Within addLimit n (now (slo .exit)) (now (shi .exit))) ⌝ }
+    ensures room { λ r. ⌜ (length (now (slo .exit)) ≡ 4) × (length (now (shi .exit)) ≡ 4) ⌝ }
+{
+    let mut i: usize = 0;
+    while i < n {
+        let s = sums(n, coef, (u * n + i) * (n + 1), lo, hi);
+        let least = s.lo;
+        let greatest = s.hi;
+        if inside(limits, 0, i, least, greatest) {
+            slo[i] = least;
+            shi[i] = greatest;
+            i += 1;
+        } else {
+            return false;
+        }
+    }
+    true
+}
+
+// The sides of an image in place of its sums: with the band added, divided by q.
+fn divide(n: usize, q: usize, limits: &[i64; 24], lo: &mut [i64; 4], hi: &mut [i64; 4])
+    requires step { ⌜ (n ≤ 4) × (1 ≤ q) × (q ≤ 10_000) × Small bandLimit (tab (lentSide (now limits) 16) n 0) ⌝ }
+    requires sums { ⌜ Within addLimit n (now lo) (now hi) × (length (now lo) ≡ 4) × (length (now hi) ≡ 4) ⌝ }
+    ensures { λ _. ⌜ sidesOf n (now (lo .exit)) (now (hi .exit)) ≡ tab (dividedIn q (now (limits .entry)) (now (lo .entry)) (now (hi .entry))) n 0 ⌝ }
+{
+    let mut i: usize = 0;
+    while i < n {
+        let l = lo[i];
+        let h = hi[i];
+        let wl = limits[16 + i];
+        let wh = limits[20 + i];
+        let low = division::ceiling(l + wl, q);
+        let high = division::floor(h + wh, q);
+        lo[i] = low;
+        hi[i] = high;
+        i += 1;
+    }
+}
+
+// Whether the image of a box under mode u lies in S; where it does it is left in ilo and ihi, which otherwise say nothing. What leaves S is not
+// divided.
 pub fn step(
     n: usize,
     q: usize,
@@ -100,27 +155,14 @@ pub fn step(
     ilo: &mut [i64; 4],
     ihi: &mut [i64; 4],
 ) -> bool
-    requires step { ⌜ RowsSound n (now coef) u × (1 ≤ q) × (q ≤ 10_000) × Small bandLimit (tab (lentSide (now limits) 16) n 0) ⌝ }
+    requires step { ⌜ RowsSound n (now coef) u × (n ≤ 4) × (1 ≤ q) × (q ≤ 10_000) × Small bandLimit (tab (lentSide (now limits) 16) n 0) ⌝ }
     requires edges { ⌜ Small edgeLimit (sidesOf n (now lo) (now hi)) × (length (now ilo) ≡ 4) × (length (now ihi) ≡ 4) ⌝ }
     ensures stays { λ r. ⌜ r ≡ covered n (now (coef .entry)) (now (limits .entry)) 0 u (sidesOf n (now (lo .entry)) (now (hi .entry))) ⌝ }
     ensures image { λ r. ⌜ (r ≡ true → sidesOf n (now (ilo .exit)) (now (ihi .exit)) ≡ tab (dividedAt n q (now (coef .entry)) (now (limits .entry)) u (sidesOf n (now (lo .entry)) (now (hi .entry)))) n 0) ⌝ }
 {
-    let mut i: usize = 0;
-    while i < n {
-        let s = sums(n, coef, (u * n + i) * (n + 1), lo, hi);
-        let least = s.lo;
-        let greatest = s.hi;
-        if inside(limits, 0, i, least, greatest) {
-            let wl = limits[16 + i];
-            let wh = limits[20 + i];
-            let low = division::ceiling(least + wl, q);
-            let high = division::floor(greatest + wh, q);
-            ilo[i] = low;
-            ihi[i] = high;
-            i += 1;
-        } else {
-            return false;
-        }
+    if stays(n, coef, limits, u, lo, hi, ilo, ihi) {
+        divide(n, q, limits, ilo, ihi);
+        return true;
     }
-    true
+    false
 }

@@ -8,16 +8,18 @@ use mathlib.Core.List.{List, [], _∷_}
 use mathlib.Core.Option.{Option, none, some}
 use native.Mathlib.Omega.{arith}
 use native.Mathlib.Nat.{zero-add, sub-zero}
-use native.Mathlib.Numerals.{add-one}
+use native.Mathlib.Decide.{ℕ-discrete}
 use lib.Dec.{ltb}
-use lib.IntN.{ℤ, pos, _+ℤ_, _-ℤ_, _*ℤ_}
+use lib.ListN.{length, set}
+use lib.Seq.{getD-set-other}
+use lib.IntN.{ℤ, pos, natAbs, _+ℤ_, _-ℤ_, _*ℤ_}
 use lib.Signed.{leZ, _≤ℤ_, _<ℤ_}
 use Rattle.laws.specs.Guards.{guard}
 use Rattle.laws.specs.Integers.{zarith, add, sub, leZ-true, leZ-false}
 use Rattle.laws.specs.Division.{floorZ, ceilZ}
 use Rattle.laws.specs.DivisionLaws.{floor-greatest, ceil-least}
 use Rattle.laws.specs.Lists.{at, tab, all}
-use Rattle.laws.specs.Tabs.{tab-same}
+use Rattle.laws.specs.Tabs.{tab-same, at-below, at-stored}
 use Rattle.laws.specs.Tests.{true-leZ, false-leZ}
 use Rattle.meaning.specs.declared.Plant.{Plant}
 use Rattle.meaning.specs.Boxes.{Side, side, sideAt, covers, within}
@@ -25,7 +27,7 @@ use Rattle.meaning.specs.Images.{leastOf, greatestOf, extreme, image}
 use Rattle.meaning.specs.Plants.{rootOf, safeOf, rowStart, stepOf}
 use Rattle.meaning.specs.Defined.{firstMode}
 use Rattle.tables.specs.Images.{Extremes, entriesOf}
-use Rattle.tables.specs.Limits.{limitSide, sumSide, divided, lentSide, covered, coveredAt, dividedAt, Ready}
+use Rattle.tables.specs.Limits.{limitSide, sumSide, divided, lentSide, covered, coveredAt, dividedAt, Within, Ready}
 use Rattle.tables.proofs.frames.Laws.{divisor}
 use Rattle.tables.proofs.boxes.Laws.{lies-tab}
 use Rattle.tables.proofs.images.Laws.{imageSideAt, image-tab}
@@ -34,6 +36,34 @@ use Rattle.tables.proofs.images.Laws.{imageSideAt, image-tab}
 
 pub sides-are : {es : List ℤ} {b : List Side} {lo hi : ℤ} → Extremes es b lo hi → (o : ℤ) → side (lo +ℤ o) (hi +ℤ o) ≡ side (extreme leastOf es b +ℤ o) (extreme greatestOf es b +ℤ o)
 sides-are e o = rw (e .least, e .greatest) refl
+
+-- ---- arrays that are filled, or changed in place, from the front
+
+pub within-none : (k : ℕ) (lo hi : List ℤ) → Within k 0 lo hi
+within-none k lo hi i h = absurd (omega arith)
+
+pub within-more : {k i : ℕ} (lo hi : List ℤ) (x y : ℤ) → i < length lo → i < length hi → Within k i lo hi → natAbs x ≤ k → natAbs y ≤ k → Within k (i + 1) (set lo i x) (set hi i y)
+within-more {k} {i} lo hi x y a b w f g j h = go (ℕ-discrete j i)
+  where
+    go : Dec (j ≡ i) → (natAbs (at (set lo i x) j) ≤ k) × (natAbs (at (set hi i y) j) ≤ k)
+    go (yes e) = rw (e, at-stored lo i x a, at-stored hi i y b) (f, g)
+    go (no e) =
+        let l : j < i = omega arith in
+        rw (at-below lo i x j l, at-below hi i y j l) (w j l)
+
+-- what stands from i on is still what stood there
+pub record Unchanged (i : ℕ) (lo₀ hi₀ lo hi : List ℤ) : Type 0 where
+  pub low : (j : ℕ) → i ≤ j → at lo j ≡ at lo₀ j
+  pub high : (j : ℕ) → i ≤ j → at hi j ≡ at hi₀ j
+
+pub unchanged-all : (lo hi : List ℤ) → Unchanged 0 lo hi lo hi
+unchanged-all lo hi = record { low = λ j h. refl; high = λ j h. refl }
+
+pub unchanged-less : {i : ℕ} {lo₀ hi₀ lo hi : List ℤ} (x y : ℤ) → Unchanged i lo₀ hi₀ lo hi → Unchanged (i + 1) lo₀ hi₀ (set lo i x) (set hi i y)
+unchanged-less {i} {lo₀} {hi₀} {lo} {hi} x y u = record {
+  low = λ j h. getD-set-other lo i j x (pos 0) (λ e. absurd (omega arith)) ∙ u .low j (omega arith);
+  high = λ j h. getD-set-other hi i j y (pos 0) (λ e. absurd (omega arith)) ∙ u .high j (omega arith);
+}
 
 -- ---- limits
 

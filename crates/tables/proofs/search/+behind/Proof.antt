@@ -17,7 +17,7 @@ use Rattle.meaning.specs.Defined.{firstMode, exactly}
 use Rattle.tables.specs.Boxes.{Small}
 use Rattle.tables.specs.Limits.{RowsSound, Unlent, plantLent, Ready}
 use Rattle.tables.specs.Search.{digits, soughtOf, behindMode}
-use Rattle.tables.proofs.frames.Laws.{divisor, divisor-small}
+use Rattle.tables.proofs.frames.Laws.{rooms, divisor, divisor-small}
 use Rattle.tables.proofs.steps.Laws.{covered-safe, made-image}
 use Rattle.tables.proofs.search.Laws.{digit-more, digits-small, modes-done, modes-next, modes-found, rows-sound, lent-band, lands-is, misses-is, last-is, last-none, behind-leaves, behind-stays, behind-small, modes-one}
 use borrow.Fn.Kinds.{In}
@@ -156,7 +156,7 @@ behind-step-requires t c κs =
     let s = c .before .before .before in
     let p = plant t s (some-plant t s) in
     let g = fits-some t s in
-    ((rows t s (s .args .u) (s .pre .1 .1 .0), divisor p (g .sound), divisor-small p (g .sound), lent-band p (now (s .args .limits)) g), (s .pre .1 .0 .1, refl, refl))
+    ((rows t s (s .args .u) (s .pre .1 .1 .0), rooms p (g .sound), divisor p (g .sound), divisor-small p (g .sound), lent-band p (now (s .args .limits)) g), (s .pre .1 .0 .1, refl, refl))
 
 behind-last-requires-2 : (t : ℕ) → behind-lts.Need-last-requires-2 (claims t) (behind-at t) behind.Post behind-Inv-loop behind-μ-loop
 behind-last-requires-2 t c κs =
