@@ -6,9 +6,9 @@ use crate::boxes::Bx;
 use crate::frames::Frame;
 use crate::steps;
 ghost use mathlib.Core.Path.{_≡_};
-ghost use Prim.Native.Nat.{_^_, _≤_, _<_};
+ghost use Prim.Native.Nat.{_-_, _^_, _≤_};
 ghost use Rattle.meaning.specs.Boxes.{sidesOf};
-ghost use Rattle.meaning.specs.Defined.{firstPattern};
+ghost use Rattle.meaning.specs.Defined.{firstMode, firstPattern};
 ghost use Rattle.meaning.specs.Plants.{edgeLimit};
 ghost use Rattle.meaning.specs.Tables.{rulesOf};
 ghost use Rattle.tables.specs.Boxes.{boxOf, Small};
@@ -16,48 +16,43 @@ ghost use Rattle.tables.specs.Frames.{plantFrom};
 ghost use Rattle.tables.specs.Limits.{Unlent, plantLent, Ready, Lent};
 ghost use Rattle.tables.specs.Search.{soughtOf, patternBy, behindMode};
 
-// Mode u on a box, and behind it the first m modes that work from the image: one more than their number, 0 where there are none.
-fn behind(
+// The first m modes that work on a box, the first of them among from..to: one more than their number, 0 where there are none. Only an image
+// that stays in S is gone on from.
+fn modes(
     n: usize,
-    modes: usize,
+    count: usize,
     q: usize,
     coef: &[i64],
     limits: &[i64; 24],
     m: usize,
-    u: usize,
+    from: usize,
+    to: usize,
     lo: &[i64; 4],
     hi: &[i64; 4],
 ) -> usize
-    requires plant { ⌜ Lent n modes q (now coef) (now limits) × Small edgeLimit (sidesOf n (now lo) (now hi)) ⌝ }
-    requires mode { ⌜ (u < modes) × (m ≤ 6) ⌝ }
-    ensures modes { λ r. ⌜ ((x : Unlent) → Ready (plantLent x n modes q (now (coef .entry))) (now (limits .entry)) → soughtOf m r ≡ behindMode (rulesOf (plantLent x n modes q (now (coef .entry)))) m (sidesOf n (now (lo .entry)) (now (hi .entry))) u) ⌝ }
+    requires plant { ⌜ Lent n count q (now coef) (now limits) × Small edgeLimit (sidesOf n (now lo) (now hi)) ⌝ }
+    requires mode { ⌜ (from ≤ to) × (to ≤ count) × (1 ≤ m) × (m ≤ 6) ⌝ }
+    ensures modes { λ r. ⌜ ((x : Unlent) → Ready (plantLent x n count q (now (coef .entry))) (now (limits .entry)) → soughtOf m r ≡ firstMode (behindMode (rulesOf (plantLent x n count q (now (coef .entry)))) (m - 1) (sidesOf n (now (lo .entry)) (now (hi .entry)))) (to - from) from) ⌝ }
     ensures size { λ r. ⌜ r ≤ 16 ^ m ⌝ }
 {
-    if m == 0 {
-        let v = steps::last(n, u, u + 1, coef, limits, lo, hi);
-        if v == u {
-            return 1;
+    if m == 1 {
+        let v = steps::last(n, from, to, coef, limits, lo, hi);
+        if v < to {
+            return v + 1;
         }
         return 0;
     }
     let mut ilo = [0i64; 4];
     let mut ihi = [0i64; 4];
-    if steps::step(n, q, coef, limits, u, lo, hi, &mut ilo, &mut ihi) {
-        if m == 1 {
-            let v = steps::last(n, 0, modes, coef, limits, &ilo, &ihi);
-            if v < modes {
-                return v + 1;
-            }
-            return 0;
-        }
-        let mut v: usize = 0;
-        while v < modes {
-            let rest = behind(n, modes, q, coef, limits, m - 1, v, &ilo, &ihi);
+    let mut v = from;
+    while v < to {
+        if steps::step(n, q, coef, limits, v, lo, hi, &mut ilo, &mut ihi) {
+            let rest = modes(n, count, q, coef, limits, m - 1, 0, count, &ilo, &ihi);
             if rest != 0 {
                 return v + 16 * (rest - 1) + 1;
             }
-            v += 1;
         }
+        v += 1;
     }
     0
 }
@@ -83,9 +78,9 @@ pub fn first(f: Frame, coef: &[i64], limits: &[i64; 24], b: Bx) -> Sought
     'search: while m < f.k {
         let mut u: usize = 0;
         while u < f.modes {
-            let rest = behind(f.n, f.modes, f.q, coef, limits, m, u, &lo, &hi);
-            if rest != 0 {
-                code = u + 16 * (rest - 1);
+            let found = modes(f.n, f.modes, f.q, coef, limits, m + 1, u, u + 1, &lo, &hi);
+            if found != 0 {
+                code = found - 1;
                 size = m + 1;
                 break 'search;
             }

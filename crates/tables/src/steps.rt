@@ -126,7 +126,8 @@ fn stays(
 fn divide(n: usize, q: usize, limits: &[i64; 24], lo: &mut [i64; 4], hi: &mut [i64; 4])
     requires step { ⌜ (n ≤ 4) × (1 ≤ q) × (q ≤ 10_000) × Small bandLimit (tab (lentSide (now limits) 16) n 0) ⌝ }
     requires sums { ⌜ Within addLimit n (now lo) (now hi) × (length (now lo) ≡ 4) × (length (now hi) ≡ 4) ⌝ }
-    ensures { λ _. ⌜ sidesOf n (now (lo .exit)) (now (hi .exit)) ≡ tab (dividedIn q (now (limits .entry)) (now (lo .entry)) (now (hi .entry))) n 0 ⌝ }
+    ensures sides { λ _. ⌜ sidesOf n (now (lo .exit)) (now (hi .exit)) ≡ tab (dividedIn q (now (limits .entry)) (now (lo .entry)) (now (hi .entry))) n 0 ⌝ }
+    ensures room { λ _. ⌜ (length (now (lo .exit)) ≡ 4) × (length (now (hi .exit)) ≡ 4) ⌝ }
 {
     let mut i: usize = 0;
     while i < n {
@@ -159,6 +160,7 @@ pub fn step(
     requires edges { ⌜ Small edgeLimit (sidesOf n (now lo) (now hi)) × (length (now ilo) ≡ 4) × (length (now ihi) ≡ 4) ⌝ }
     ensures stays { λ r. ⌜ r ≡ covered n (now (coef .entry)) (now (limits .entry)) 0 u (sidesOf n (now (lo .entry)) (now (hi .entry))) ⌝ }
     ensures image { λ r. ⌜ (r ≡ true → sidesOf n (now (ilo .exit)) (now (ihi .exit)) ≡ tab (dividedAt n q (now (coef .entry)) (now (limits .entry)) u (sidesOf n (now (lo .entry)) (now (hi .entry)))) n 0) ⌝ }
+    ensures room { λ r. ⌜ (length (now (ilo .exit)) ≡ 4) × (length (now (ihi .exit)) ≡ 4) ⌝ }
 {
     if stays(n, coef, limits, u, lo, hi, ilo, ihi) {
         divide(n, q, limits, ilo, ihi);

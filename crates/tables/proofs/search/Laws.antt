@@ -62,7 +62,7 @@ digits-small (suc (suc (suc (suc (suc (suc zero)))))) h = omega arith
 digits-small (suc (suc (suc (suc (suc (suc (suc m))))))) h = absurd (omega arith)
 
 -- a pattern that was sought: there is none, or it is by its number
-none-sought : (m r : ℕ) → r ≡ 0 → soughtOf m r ≡ none
+pub none-sought : (m r : ℕ) → r ≡ 0 → soughtOf m r ≡ none
 none-sought m r z = rw z refl
 
 some-sought : (m r : ℕ) → (r ≡ 0 → ⊥) → soughtOf m r ≡ some (digits m (r - 1))
@@ -88,17 +88,50 @@ module _ (try : ℕ → Option (List ℕ)) (N v : ℕ) where
     unfolding firstMode
     modes-miss e = rw (one-left, e, add-one) refl
 
+-- a pattern is not none
+apart : {us : List ℕ} → some us ≡ none → ⊥
+apart e = subst there e tt
+  where
+    there : Option (List ℕ) → Type 0
+    there (some us) = Unit {0}
+    there none = ⊥
+
+-- one mode alone
+pub modes-one : (try : ℕ → Option (List ℕ)) (u : ℕ) → firstMode try (u + 1 - u) u ≡ mapSome (λ us. u ∷ us) (try u)
+unfolding firstMode
+modes-one try u = let q : u + 1 - u ≡ 1 = omega arith in rw q (end (mapSome (λ us. u ∷ us) (try u)))
+  where
+    end : (o : Option (List ℕ)) → orElse o (λ _. none) ≡ o
+    end (some us) = refl
+    end none = refl
+
 module _ (try : ℕ → Option (List ℕ)) (N v : ℕ) (whole : Option (List ℕ)) (q : firstMode try (N - v) v ≡ whole) where
   pub modes-done : N ≤ v → none ≡ whole
   modes-done h = sym (modes-over try N v h) ∙ q
 
-  module _ (h : v < N) (m r : ℕ) (e : soughtOf m r ≡ try v) where
-    pub modes-next : r ≡ 0 → firstMode try (N - (v + 1)) (v + 1) ≡ whole
-    modes-next z = sym (modes-miss try N v h (sym e ∙ none-sought m r z)) ∙ q
+  pub modes-fail : v < N → try v ≡ none → firstMode try (N - (v + 1)) (v + 1) ≡ whole
+  modes-fail h e = sym (modes-miss try N v h e) ∙ q
 
+  module _ (h : v < N) (m r : ℕ) (e : soughtOf m r ≡ try v) where
     pub modes-found : (r ≡ 0 → ⊥) → v < 16 → some (digits (suc m) (v + 16 * (r - 1))) ≡ whole
     modes-found z l =
         ap some (digits-front m v (r - 1) l) ∙ sym (modes-hit try N v h (digits m (r - 1)) (sym e ∙ some-sought m r z)) ∙ q
+
+  -- the answer has the mode in front already
+  module _ (h : v < N) (m r : ℕ) (e : soughtOf m r ≡ mapSome (λ us. v ∷ us) (try v)) where
+    pub front-next : r ≡ 0 → firstMode try (N - (v + 1)) (v + 1) ≡ whole
+    front-next z = modes-fail h (go (try v) (sym (none-sought m r z) ∙ e))
+      where
+        go : (o : Option (List ℕ)) → none ≡ mapSome (λ us. v ∷ us) o → o ≡ none
+        go (some us) k = absurd (apart (sym k))
+        go none k = refl
+
+    pub front-found : (r ≡ 0 → ⊥) → some (digits m (r - 1)) ≡ whole
+    front-found z = go (try v) refl (sym (some-sought m r z) ∙ e)
+      where
+        go : (o : Option (List ℕ)) → try v ≡ o → some (digits m (r - 1)) ≡ mapSome (λ us. v ∷ us) o → some (digits m (r - 1)) ≡ whole
+        go (some us) k d = d ∙ sym (modes-hit try N v h us k) ∙ q
+        go none k d = absurd (apart d)
 
 -- the same answers, the same first
 first-same : (f g : ℕ → Option (List ℕ)) → ((u : ℕ) → f u ≡ g u) → (m v : ℕ) → firstMode f m v ≡ firstMode g m v
@@ -111,13 +144,6 @@ first-same f g e (suc m) v = rw (e v, first-same f g e m (suc v)) refl
 -- nothing is left behind a last mode
 abbrev ending : Bool → Option (List ℕ)
 ending t = guard t none λ _. some []
-
-apart : {us : List ℕ} → some us ≡ none → ⊥
-apart e = subst there e tt
-  where
-    there : Option (List ℕ) → Type 0
-    there (some us) = Unit {0}
-    there none = ⊥
 
 module _ (p : Plant) (limits : List ℤ) (g : Ready p limits) where
   pub rows-sound : (u : ℕ) → u < p .modes → RowsSound (p .n) (p .coef) u
@@ -142,46 +168,22 @@ module _ (p : Plant) (limits : List ℤ) (g : Ready p limits) where
         go false false e f = refl
         go false true e f = never (sym e ∙ within-trans c (rootOf p) (safeOf p) f (g .sound .root-safe))
 
-    -- one mode alone was tried
-    module _ (m u v : ℕ) (z : m ≡ 0) (e : oneOf (u + 1) v ≡ firstMode (landing (p .n) (p .coef) limits b) (u + 1 - u) u) where
-      alone : picked (ltb v (u + 1)) v ≡ mapSome (λ us. u ∷ us) (landing (p .n) (p .coef) limits b u)
-      unfolding firstMode
-      alone = e ∙ (let q : u + 1 - u ≡ 1 = omega arith in rw q (end (mapSome (λ us. u ∷ us) (landing (p .n) (p .coef) limits b u))))
-        where
-          end : (o : Option (List ℕ)) → orElse o (λ _. none) ≡ o
-          end (some us) = refl
-          end none = refl
+    -- the last mode among from..to
+    module _ (from to m v : ℕ) (few : to ≤ 16) (z : m ≡ 1) (e : oneOf to v ≡ firstMode (landing (p .n) (p .coef) limits b) (to - from) from) where
+      tried : picked (ltb v to) v ≡ firstMode (behindMode (rulesOf p) (m - 1) b) (to - from) from
+      tried =
+          let q : m - 1 ≡ 0 = omega arith in
+          rw q (e ∙ first-same (landing (p .n) (p .coef) limits b) (behindMode (rulesOf p) 0 b) landing-is (to - from) from)
 
-      pub lands-is : v ≡ u → soughtOf m 1 ≡ behindMode (rulesOf p) m b u
-      unfolding digits
-      lands-is q = rw z (go (covered (p .n) (p .coef) limits 8 u b) (rw (q, lt-ltb u (u + 1) (omega arith)) at alone) ∙ landing-is u)
-        where
-          go : (t : Bool) → some (u ∷ []) ≡ mapSome (λ us. u ∷ us) (ending t) → some [] ≡ ending t
-          go true k = refl
-          go false k = absurd (apart k)
-
-      pub misses-is : (v ≡ u → ⊥) → u ≤ v → soughtOf m 0 ≡ behindMode (rulesOf p) m b u
-      misses-is q h = rw z (go (covered (p .n) (p .coef) limits 8 u b) (rw (le-ltb v (u + 1) (omega arith)) at alone) ∙ landing-is u)
-        where
-          go : (t : Bool) → none ≡ mapSome (λ us. u ∷ us) (ending t) → none ≡ ending t
-          go true k = absurd (apart (sym k))
-          go false k = refl
-
-    -- all modes were tried
-    module _ (m v : ℕ) (z : m ≡ 1) (e : oneOf (p .modes) v ≡ firstMode (landing (p .n) (p .coef) limits b) (p .modes - 0) 0) where
-      all-tried : picked (ltb v (p .modes)) v ≡ exactly (rulesOf p) 1 b
-      unfolding exactly
-      all-tried = e ∙ rw sub-zero (first-same (landing (p .n) (p .coef) limits b) (behindMode (rulesOf p) 0 b) landing-is (p .modes) 0)
-
-      pub last-is : v < p .modes → soughtOf m (v + 1) ≡ exactly (rulesOf p) m b
+      pub last-is : v < to → soughtOf m (v + 1) ≡ firstMode (behindMode (rulesOf p) (m - 1) b) (to - from) from
       unfolding digits
       last-is h =
-          let few = g .sound .modes-high in
           let q : v % 16 ≡ v = omega arith in
-          rw (z, add-one, q) (rw (lt-ltb v (p .modes) h) at all-tried)
+          let w : soughtOf m (v + 1) ≡ some (v ∷ []) = rw (z, add-one, q) refl in
+          w ∙ (rw (lt-ltb v to h) at tried)
 
-      pub last-none : p .modes ≤ v → soughtOf m 0 ≡ exactly (rulesOf p) m b
-      last-none h = rw z (rw (le-ltb v (p .modes) h) at all-tried)
+      pub last-none : to ≤ v → soughtOf m 0 ≡ firstMode (behindMode (rulesOf p) (m - 1) b) (to - from) from
+      last-none h = rw (le-ltb v to h) at tried
 
 -- ---- behind mode u on box b, whose image the code holds as c
 
@@ -203,8 +205,8 @@ module _ (p : Plant) (m : ℕ) (c : List Side) where
   unfolding exactly
   modes-all = rw sub-zero refl
 
-pub modes-one : (p : Plant) (m : ℕ) (c : List Side) → (m ≡ 0 → ⊥) → firstMode (behindMode (rulesOf p) (m - 1) c) (p .modes - 0) 0 ≡ exactly (rulesOf p) m c
-modes-one p m c z = let k : m ≡ suc (m - 1) = omega arith in modes-all p (m - 1) c ∙ sym (ap (λ (i : ℕ). exactly (rulesOf p) i c) k)
+pub modes-rest : (p : Plant) (m : ℕ) (c : List Side) → 1 ≤ m → firstMode (behindMode (rulesOf p) (m - 1) c) (p .modes - 0) 0 ≡ exactly (rulesOf p) m c
+modes-rest p m c z = let k : m ≡ suc (m - 1) = omega arith in modes-all p (m - 1) c ∙ sym (ap (λ (i : ℕ). exactly (rulesOf p) i c) k)
 
 -- ---- the lengths: up to m all are tried
 

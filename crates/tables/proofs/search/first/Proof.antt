@@ -1,7 +1,7 @@
 -- `search::first`: the modes that are left of a length say what the length says, the lengths that are left what the search says. Assumes nothing.
-use Prim.Native.Nat.{ℕ, suc, _+_, _-_, _*_, _≤_}
-use mathlib.Core.Path.{_≡_, refl}
-use mathlib.Core.List.{List}
+use Prim.Native.Nat.{ℕ, suc, _-_, _≤_}
+use mathlib.Core.Path.{_≡_, refl, _∙_}
+use mathlib.Core.List.{List, _∷_}
 use mathlib.Core.Option.{Option}
 use native.Mathlib.Omega.{arith}
 use native.Mathlib.Numerals.{add-one}
@@ -9,13 +9,13 @@ use denote.Ref.{now}
 use Rattle.meaning.specs.declared.Plant.{Plant}
 use Rattle.meaning.specs.Boxes.{Side, sidesOf}
 use Rattle.meaning.specs.Tables.{rulesOf}
-use Rattle.meaning.specs.Defined.{firstMode, exactly, shortest, firstPattern}
+use Rattle.meaning.specs.Defined.{mapSome, firstMode, exactly, shortest, firstPattern}
 use Rattle.tables.specs.Boxes.{boxOf}
 use Rattle.tables.specs.Frames.{plantFrom}
 use Rattle.tables.specs.Limits.{Unlent, Lent}
-use Rattle.tables.specs.Search.{digits, behindMode}
+use Rattle.tables.specs.Search.{digits, soughtOf, behindMode}
 use Rattle.tables.proofs.frames.Laws.{longest}
-use Rattle.tables.proofs.search.Laws.{digits-small, modes-all, modes-done, modes-next, modes-found, lengths-all, lengths-done, lengths-found, lengths-next}
+use Rattle.tables.proofs.search.Laws.{modes-all, modes-done, modes-one, front-next, front-found, lengths-all, lengths-done, lengths-found, lengths-next}
 use Rattle.tables.proofs.search.first.Statement.{statement}
 use Rattle.tables.proofs.search.first.Tie as tie
 
@@ -76,13 +76,43 @@ search-holds c = let s = c .before .before in (omega arith, refl, lengths-all (p
 loop-holds : tie.Need-loop-holds Inv-loop μ-loop Inv-search μ-search
 loop-holds c = let o = c .before .before in let s = start o in let l = o .search in (omega arith, l .inv .1, modes-all (plant s) (l .m) (box s))
 
-behind-requires : tie.Need-behind-requires Inv-loop μ-loop Inv-search μ-search
-behind-requires c κs =
+-- what was found for one mode in front
+sought : (c : tie.After-modes Inv-loop μ-loop Inv-search μ-search) → (let a = c .before .before .before .before .before in let o = length-of a .search in let s = start (length-of a) in
+    soughtOf (suc (o .m)) (c .modes .result) ≡ mapSome (λ us. a .loop .u ∷ us) (behindMode (rulesOf (plant s)) (o .m) (box s) (a .loop .u)))
+sought c =
+    let a = c .before .before .before .before .before in
+    let o = length-of a .search in
+    let s = start (length-of a) in
+    let q : suc (o .m) - 1 ≡ o .m = omega arith in
+    (rw (add-one, q) at (c .modes .ensures .0 (kept s) (s .pre .0))) ∙ modes-one (behindMode (rulesOf (plant s)) (o .m) (box s)) (a .loop .u)
+
+add-modes : tie.Need-add-modes Inv-loop μ-loop Inv-search μ-search
+add-modes c =
+    let l = c .before .before in
+    let s = start (length-of l) in
+    let few = longest (plant s) (s .pre .0 .sound) in
+    let h = l .before .if1 .taken in
+    let modes = s .pre .0 .sound .modes-high in
+    omega arith
+
+add-modes-2 : tie.Need-add-modes-2 Inv-loop μ-loop Inv-search μ-search
+add-modes-2 c =
+    let l = c .before .before in
+    let s = start (length-of l) in
+    let few = longest (plant s) (s .pre .0 .sound) in
+    let h = l .before .if1 .taken in
+    let modes = s .pre .0 .sound .modes-high in
+    let u = c .if2 .taken in
+    omega arith
+
+modes-requires : tie.Need-modes-requires Inv-loop μ-loop Inv-search μ-search
+modes-requires c κs =
     let l = c .before .before .before .before in
     let s = start (length-of l) in
     let few = longest (plant s) (s .pre .0 .sound) in
     let h = l .before .if1 .taken in
-    ((lent s, s .pre .1), (c .before .before .if2 .taken, omega arith))
+    let u = c .before .before .if2 .taken in
+    ((lent s, s .pre .1), (omega arith, omega arith, omega arith, omega arith))
 
 sub-code : tie.Need-sub-code Inv-loop μ-loop Inv-search μ-search
 sub-code c =
@@ -90,32 +120,9 @@ sub-code c =
     let s = start (length-of l) in
     let few = longest (plant s) (s .pre .0 .sound) in
     let h = l .before .if1 .taken in
-    let u = c .before .before .before .before .if2 .taken in
-    let some-found = c .if3 .taken in
     let modes = s .pre .0 .sound .modes-high in
-    omega (arith, c .before .behind .ensures .1, digits-small (length-of l .search .m) (omega arith))
-
-mul-code : tie.Need-mul-code Inv-loop μ-loop Inv-search μ-search
-mul-code c =
-    let l = c .before .before .before .before .before .before in
-    let s = start (length-of l) in
-    let few = longest (plant s) (s .pre .0 .sound) in
-    let h = l .before .if1 .taken in
-    let u = c .before .before .before .before .if2 .taken in
-    let some-found = c .if3 .taken in
-    let modes = s .pre .0 .sound .modes-high in
-    omega (arith, c .before .behind .ensures .1, digits-small (length-of l .search .m) (omega arith))
-
-add-code : tie.Need-add-code Inv-loop μ-loop Inv-search μ-search
-add-code c =
-    let l = c .before .before .before .before .before .before in
-    let s = start (length-of l) in
-    let few = longest (plant s) (s .pre .0 .sound) in
-    let h = l .before .if1 .taken in
-    let u = c .before .before .before .before .if2 .taken in
-    let some-found = c .if3 .taken in
-    let modes = s .pre .0 .sound .modes-high in
-    omega (arith, c .before .behind .ensures .1, digits-small (length-of l .search .m) (omega arith))
+    let z = c .if3 .taken in
+    omega arith
 
 add-size : tie.Need-add-size Inv-loop μ-loop Inv-search μ-search
 add-size c =
@@ -123,10 +130,8 @@ add-size c =
     let s = start (length-of l) in
     let few = longest (plant s) (s .pre .0 .sound) in
     let h = l .before .if1 .taken in
-    let u = c .before .before .before .before .if2 .taken in
-    let some-found = c .if3 .taken in
     let modes = s .pre .0 .sound .modes-high in
-    omega (arith, c .before .behind .ensures .1, digits-small (length-of l .search .m) (omega arith))
+    omega arith
 
 add-u : tie.Need-add-u Inv-loop μ-loop Inv-search μ-search
 add-u c = let h = c .before .before .before .before .if2 .taken in omega arith
@@ -140,11 +145,10 @@ loop-again c =
     let s = start (length-of a) in
     let m = length-of a .search .m in
     let l = a .loop in
-    let r = c .before .behind in
     let h = c .before .before .before .before .if2 .taken in (
       omega arith,
       l .inv .1,
-      modes-next (behindMode (rulesOf (plant s)) m (box s)) (s .args .f .modes) (l .u) (ofLength s (suc m)) (l .inv .2) h m (r .result) (r .ensures .0 (kept s) (s .pre .0)) (c .if3 .left),
+      front-next (behindMode (rulesOf (plant s)) m (box s)) (s .args .f .modes) (l .u) (ofLength s (suc m)) (l .inv .2) h (suc m) (c .before .modes .result) (sought (c .before)) (c .if3 .left),
     )
 
 add-m : tie.Need-add-m Inv-loop μ-loop Inv-search μ-search
@@ -178,13 +182,12 @@ returns-2 c =
     let o = length-of a .search in
     let s = start (length-of a) in
     let l = a .loop in
-    let r = c .before .behind in
+    let r = c .before .modes .result in
     let few = longest (plant s) (s .pre .0 .sound) in
     let h = a .before .if1 .taken in
     let u = c .before .before .before .before .if2 .taken in
-    let modes = s .pre .0 .sound .modes-high in
-    let hit = modes-found (behindMode (rulesOf (plant s)) (o .m) (box s)) (s .args .f .modes) (l .u) (ofLength s (suc (o .m))) (l .inv .2) u (o .m) (r .result) (r .ensures .0 (kept s) (s .pre .0)) (c .if3 .taken) (omega arith) in
-    (rw add-one (lengths-found (plant s) (box s) (o .m) (whole s) (o .inv .2) h (digits (suc (o .m)) (l .u + 16 * (r .result - 1))) hit), omega arith)
+    let hit = front-found (behindMode (rulesOf (plant s)) (o .m) (box s)) (s .args .f .modes) (l .u) (ofLength s (suc (o .m))) (l .inv .2) u (suc (o .m)) r (sought (c .before)) (c .if3 .taken) in
+    (rw add-one (lengths-found (plant s) (box s) (o .m) (whole s) (o .inv .2) h (digits (suc (o .m)) (r - 1)) hit), omega arith)
 
 pub first-spec : {M : Type 1} → statement M
 first-spec =
@@ -196,10 +199,10 @@ first-spec =
     μ-search
     search-holds
     loop-holds
-    behind-requires
+    add-modes
+    add-modes-2
+    modes-requires
     sub-code
-    mul-code
-    add-code
     add-size
     add-u
     loop-less

@@ -144,7 +144,7 @@ returns c =
     let l = c .before .loop in
     let s = c .before .before in
     let a = s .args in
-    image-done (dividedIn (a .q) (now (a .limits)) (now (a .lo)) (now (a .hi))) (l .lo) (l .hi) (a .n) (l .i) (omega arith) (l .inv .3)
+    (image-done (dividedIn (a .q) (now (a .limits)) (now (a .lo)) (now (a .hi))) (l .lo) (l .hi) (a .n) (l .i) (omega arith) (l .inv .3), (l .inv .1, l .inv .2))
 
 pub divide-spec : {M : Type 1} → statement M
 divide-spec =

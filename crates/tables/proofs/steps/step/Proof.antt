@@ -33,13 +33,16 @@ returns c =
     let shi = k .stays .last .1 .1 .1 .1 .1 .1 .1 .0 in
     let sums = k .stays .ensures .1 .0 t in (
       sym t ∙ k .stays .ensures .0,
-      λ e. c .divide .ensures
-          ∙ tab-same (dividedIn (a .q) (now (a .limits)) slo shi) (dividedAt (a .n) (a .q) (now (a .coef)) (now (a .limits)) (a .u) box) (a .n) 0
-          (λ i l h. ap (λ (z : Side). divided (a .q) (lentSide (now (a .limits)) 16 i) z) (tab-entry (sideAt slo shi) (sumsAt (a .n) (now (a .coef)) (a .u) box) (a .n) i sums (omega arith))),
+      (
+        λ e. c .divide .ensures .0
+            ∙ tab-same (dividedIn (a .q) (now (a .limits)) slo shi) (dividedAt (a .n) (a .q) (now (a .coef)) (now (a .limits)) (a .u) box) (a .n) 0
+            (λ i l h. ap (λ (z : Side). divided (a .q) (lentSide (now (a .limits)) 16 i) z) (tab-entry (sideAt slo shi) (sumsAt (a .n) (now (a .coef)) (a .u) box) (a .n) i sums (omega arith))),
+        c .divide .ensures .1,
+      ),
     )
 
 returns-2 : tie.Need-returns-2
-returns-2 c = let k = c .before in (sym (c .if1 .left) ∙ k .stays .ensures .0, λ e. never e)
+returns-2 c = let k = c .before in (sym (c .if1 .left) ∙ k .stays .ensures .0, (λ e. never e, k .stays .ensures .1 .1 .1))
 
 pub step-spec : {M : Type 1} → statement M
 step-spec = tie.close (tie.spec stays-requires divide-requires returns returns-2)
