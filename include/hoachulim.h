@@ -15,6 +15,11 @@ extern "C" {
 /* A plant file. */
 uint8_t hoachulim_plant(const uint8_t *plant, size_t plant_length, uint64_t out[2]);
 
+/* The plant of a sheet, made into a lent buffer; no plant has more than 1,183 bytes. out[0] is the length written where the number is 0.
+   Finished, only the plant's bytes are changed; refused, the whole buffer is zeros. */
+uint8_t hoachulim_sheet(const uint8_t *sheet, size_t sheet_length,
+                        uint8_t *buffer, size_t buffer_length, uint64_t out[2]);
+
 /* A table file for a plant file. */
 uint8_t hoachulim_check(const uint8_t *plant, size_t plant_length,
                         const uint8_t *table, size_t table_length, uint64_t out[2]);

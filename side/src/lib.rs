@@ -3,9 +3,21 @@
 
 #[path = "../../second/tests/common/mod.rs"]
 pub mod common;
+pub mod inputs;
+pub mod seen;
+
+/// Number, place, step.
+pub type Told = (u8, u64, u64);
 
 extern "C" {
     fn hoachulim_plant(plant: *const u8, plant_length: usize, out: *mut u64) -> u8;
+    fn hoachulim_sheet(
+        sheet: *const u8,
+        sheet_length: usize,
+        buffer: *mut u8,
+        buffer_length: usize,
+        out: *mut u64,
+    ) -> u8;
     fn hoachulim_check(
         plant: *const u8,
         plant_length: usize,
@@ -36,14 +48,23 @@ extern "C" {
 }
 
 /// What the library says of a plant's bytes.
-pub fn plant(plant: &[u8]) -> (u8, u64, u64) {
+pub fn plant(plant: &[u8]) -> Told {
     let mut out = [u64::MAX; 2];
     let number = unsafe { hoachulim_plant(plant.as_ptr(), plant.len(), out.as_mut_ptr()) };
     (number, out[0], out[1])
 }
 
+/// The plant that the library makes of a sheet's bytes: number, and length written or place, and step.
+pub fn sheet(sheet: &[u8], buffer: &mut [u8]) -> Told {
+    let mut out = [u64::MAX; 2];
+    let number = unsafe {
+        hoachulim_sheet(sheet.as_ptr(), sheet.len(), buffer.as_mut_ptr(), buffer.len(), out.as_mut_ptr())
+    };
+    (number, out[0], out[1])
+}
+
 /// What the library says of a table's bytes for a plant's bytes.
-pub fn check(plant: &[u8], table: &[u8]) -> (u8, u64, u64) {
+pub fn check(plant: &[u8], table: &[u8]) -> Told {
     let mut out = [u64::MAX; 2];
     let number = unsafe {
         hoachulim_check(plant.as_ptr(), plant.len(), table.as_ptr(), table.len(), out.as_mut_ptr())
@@ -52,7 +73,7 @@ pub fn check(plant: &[u8], table: &[u8]) -> (u8, u64, u64) {
 }
 
 /// The table that the library makes of a plant's bytes: number, and length written or place, and step.
-pub fn make(plant: &[u8], buffer: &mut [u8]) -> (u8, u64, u64) {
+pub fn make(plant: &[u8], buffer: &mut [u8]) -> Told {
     let mut out = [u64::MAX; 2];
     let number = unsafe {
         hoachulim_make(plant.as_ptr(), plant.len(), buffer.as_mut_ptr(), buffer.len(), out.as_mut_ptr())

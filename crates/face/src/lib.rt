@@ -12,6 +12,7 @@ ghost use Rattle.meaning.specs.Plants.{plantRead};
 ghost use mathlib.Core.List.{[], _∷_};
 ghost use Rattle.meaning.specs.declared.State.{State};
 ghost use Rattle.meaning.specs.Refusals.{verdictShown, writtenShown, answerShown};
+ghost use Rattle.meaning.specs.Sheets.{madeLeft};
 ghost use Rattle.meaning.specs.Tables.{checked, makerLeft, controlled};
 ghost use Rattle.face.specs.Numbers.{placeAndStep, lengthOrPlace, mode, numberAndState, stateOf};
 
@@ -24,6 +25,18 @@ pub extern "C" fn hoachulim_plant(plant: &[u8], out: &mut [u64; 2]) -> u8
     let read = plants::read_plant(plant);
     let verdict = read.verdict;
     shown::verdict(verdict, out)
+}
+
+// The plant file of a sheet file into a lent buffer: 0, or the number of the refusal; out holds the length written, or place and step. Finished, only
+// the plant's bytes are changed; refused, the buffer is all zeros.
+#[no_mangle]
+pub extern "C" fn hoachulim_sheet(sheet: &[u8], buf: &mut [u8], out: &mut [u64; 2]) -> u8
+    ensures number { λ r. ⌜ r ≡ writtenShown (madeLeft (now (sheet .entry)) (now (buf .entry)) .answer) .number ⌝ }
+    ensures length { λ r. ⌜ now (out .exit) ≡ lengthOrPlace (madeLeft (now (sheet .entry)) (now (buf .entry)) .answer) ⌝ }
+    ensures bytes { λ r. ⌜ now (buf .exit) ≡ madeLeft (now (sheet .entry)) (now (buf .entry)) .buffer ⌝ }
+{
+    let written = sheets::sheets::make_plant(sheet, buf);
+    shown::written(written, out)
 }
 
 // A table file for a plant file: 0, or the number that they are refused by; out holds place and step.

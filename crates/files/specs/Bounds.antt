@@ -29,6 +29,10 @@ abbrev pub SpanTold : ℤ → ℤ → List ℕ → ℕ → Span → Type 0
 SpanTold least most s from (Span.Ends lo hi next) = Spanned least most s from lo hi next
 SpanTold least most s from (Span.Refused e) = Fails (spanIn least most) s from e
 
+-- both ends of each of n sides lie within a limit
+abbrev pub Sizes : ℕ → ℕ → List ℤ → List ℤ → Type 0
+Sizes limit n lo hi = (i : ℕ) → i < n → (natAbs (at lo i) ≤ limit) × (natAbs (at hi i) ≤ limit)
+
 -- one dimension's R and S
 abbrev pub edgesPart : Form → Form
 edgesPart rest = span edgeLimit (span edgeLimit rest)
@@ -39,6 +43,7 @@ pub record EdgesRead (s : List ℕ) (from n : ℕ) (r : Edges) (next : ℕ) : Ty
   pub rhi-filled : Filled 4 n (r .rhi)
   pub slo-filled : Filled 4 n (r .slo)
   pub shi-filled : Filled 4 n (r .shi)
+  pub sizes : Sizes edgeLimit n (r .slo) (r .shi)
 
 abbrev pub EdgesAs : List ℕ → ℕ → ℕ → Edges → Walk → Type 0
 EdgesAs s from n r (Walk.Next next) = EdgesRead s from n r next
@@ -47,9 +52,8 @@ EdgesAs s from n r (Walk.Refused e) = Fails (times n edgesPart) s from e
 abbrev pub EdgesTold : List ℕ → ℕ → ℕ → Edges → Type 0
 EdgesTold s from n r = EdgesAs s from n r (r .answer)
 
--- both ends of each band lie within its limit
 abbrev pub BandSizes : ℕ → List ℤ → List ℤ → Type 0
-BandSizes n wlo whi = (i : ℕ) → i < n → (natAbs (at wlo i) ≤ bandLimit) × (natAbs (at whi i) ≤ bandLimit)
+BandSizes = Sizes bandLimit
 
 -- the bands, and their sizes
 pub record BandsRead (s : List ℕ) (from n : ℕ) (r : Bands) (next : ℕ) : Type 0 where

@@ -3,7 +3,13 @@ pub mod Signed
 pub mod FieldLaws
 pub mod Parts
 pub mod Headers
+pub mod HeaderLaws
+pub mod Refusing
 pub mod Bounds
 pub mod Rows
+pub mod Beginnings
+pub mod BeginningLaws
+pub mod BeginningFiles
 pub mod Plants
 pub mod Drafts
+pub mod DraftLaws

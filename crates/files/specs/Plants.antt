@@ -1,29 +1,60 @@
--- A plant's file as the code reads it: what stands behind the header. Assumes nothing.
+-- A plant's file as the code reads it: what stands behind the beginning. Assumes nothing.
 use Prim.Native.Nat.{ℕ, _*_}
-use mathlib.Core.List.{List, [], _∷_}
-use lib.IntN.{ℤ, pos}
+use mathlib.Core.List.{List}
+use lib.IntN.{ℤ}
 use Rattle.meaning.specs.declared.Refusal.{Refusal}
 use Rattle.meaning.specs.declared.Walk.{Walk}
+use Rattle.meaning.specs.declared.Plant.{Plant}
 use Rattle.meaning.specs.declared.PlantRead.{PlantRead}
 use Rattle.meaning.specs.Refusals.{unfit}
 use Rattle.meaning.specs.Files.{Form, end, Read, ended, valuesAt}
-use Rattle.meaning.specs.Plants.{edgesAndBands, times, row, plantRelated, readOf}
-use Rattle.files.specs.declared.headers.Header.{Header}
+use Rattle.meaning.specs.Plants.{times, row, plantRelated, readOf}
+use Rattle.files.specs.declared.beginnings.Beginning.{Beginning}
 use Rattle.files.specs.Parts.{behind}
+use Rattle.files.specs.Beginnings.{beginningNumbers}
 
 abbrev pub refusalOf : Walk → Refusal
 refusalOf (Walk.Refused e) = e
 refusalOf (Walk.Next at) = unfit at
 
-abbrev pub headNumbers : Header → List ℤ
-headNumbers h = pos 1 ∷ pos (h .n) ∷ pos (h .m) ∷ pos (h .q) ∷ pos (h .k) ∷ pos (h .d) ∷ []
+abbrev pub rowsForm : ℕ → ℕ → Form
+rowsForm n modes = times (modes * n) (row n) end
 
-abbrev pub bodyForm : ℕ → ℕ → Form
-bodyForm n modes = edgesAndBands n (times (modes * n) (row n) end)
+-- the whole file, its beginning having been read
+abbrev pub valuesBehind : List ℕ → Beginning → ℕ → Read (List ℤ)
+valuesBehind s b at = behind (beginningNumbers b) (valuesAt (rowsForm (b .n) (b .m)) s at)
 
--- the whole file, its header having been read
-abbrev pub valuesBehind : List ℕ → Header → ℕ → Read (List ℤ)
-valuesBehind s h at = behind (headNumbers h) (valuesAt (bodyForm (h .n) (h .m)) s at)
+abbrev pub bodyRead : List ℕ → Beginning → ℕ → PlantRead
+bodyRead s b at = readOf (plantRelated (ended s (valuesBehind s b at)))
 
-abbrev pub bodyRead : List ℕ → Header → ℕ → PlantRead
-bodyRead s h at = readOf (plantRelated (ended s (valuesBehind s h at)))
+-- a beginning and the coefficients of the modes as a plant, and the beginning of a plant
+abbrev pub plantFrom : Beginning → List ℤ → Plant
+plantFrom b coef = record {
+  n = b .n;
+  modes = b .m;
+  q = b .q;
+  k = b .k;
+  d = b .d;
+  rlo = b .rlo;
+  rhi = b .rhi;
+  slo = b .slo;
+  shi = b .shi;
+  wlo = b .wlo;
+  whi = b .whi;
+  coef = coef;
+}
+
+abbrev pub plantBeginning : Plant → Beginning
+plantBeginning p = record {
+  n = p .n;
+  m = p .modes;
+  q = p .q;
+  k = p .k;
+  d = p .d;
+  rlo = p .rlo;
+  rhi = p .rhi;
+  slo = p .slo;
+  shi = p .shi;
+  wlo = p .wlo;
+  whi = p .whi;
+}

@@ -1,5 +1,7 @@
-// Files of document 01, read and written: seven-bit numbers (numbers), the rows of the table of refusals (refusals), lent buffers (buffers), plants (plants).
+// Files of document 01, read and written: seven-bit numbers (numbers), the rows of the table of refusals (refusals), lent buffers (buffers), what plants and
+// sheets begin with (beginnings), plants (plants).
 // What they mean stands in crates/meaning; a file's parts are read by private modules (fields, headers, bounds, rows).
+pub mod beginnings;
 mod bounds;
 pub mod buffers;
 mod fields;

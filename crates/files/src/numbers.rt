@@ -54,7 +54,7 @@ pub fn signed(s: &[u8], at: usize) -> Signed
 }
 
 // One byte at `at`, where there is room; the place behind it, or one past the buffer's end where there is none.
-fn put_byte(buf: &mut [u8], at: usize, b: u8) -> usize
+pub fn put_byte(buf: &mut [u8], at: usize, b: u8) -> usize
     ensures { λ r. ⌜ Put (now (buf .entry)) at (b ∷ []) r (now (buf .exit)) ⌝ }
 {
     if at < buf.len() {

@@ -1,9 +1,7 @@
-// Plant files, read and written. Relies on headers, bounds and rows for the parts. Leaves out what a plant does: that is crates/tables.
-use crate::bounds;
+// Plant files, read and written. Relies on beginnings and rows for the parts. Leaves out what a plant does: that is crates/tables.
+use crate::beginnings;
+use crate::beginnings::Beginning;
 use crate::buffers;
-use crate::headers;
-use crate::headers::Header;
-use crate::headers::HeaderRead;
 use crate::refusals;
 use crate::rows;
 use meaning::Plant;
@@ -13,11 +11,11 @@ use meaning::Verdict;
 use meaning::Walk;
 use meaning::Written;
 ghost use mathlib.Core.Path.{_≡_};
-ghost use Prim.Native.Nat.{_≤_};
-ghost use Rattle.meaning.specs.Files.{bad};
+ghost use Rattle.meaning.specs.Files.{good, bad};
 ghost use Rattle.laws.specs.Writing.{Put};
 ghost use Rattle.meaning.specs.Plants.{readOf, plantRead, plantLeft};
-ghost use Rattle.files.specs.Plants.{refusalOf, bodyRead};
+ghost use Rattle.files.specs.Beginnings.{relation, Begun};
+ghost use Rattle.files.specs.Plants.{refusalOf, bodyRead, plantFrom};
 ghost use Rattle.files.specs.Drafts.{draftBytes};
 
 // A refused plant is all zeros.
@@ -53,55 +51,24 @@ fn refused_by(w: Walk) -> PlantRead
     }
 }
 
-// What stands behind a header: edges, bands and rows, then what is asked of the whole.
-fn read_body(s: &[u8], h: Header, at: usize) -> PlantRead
-    requires { ⌜ h .n ≤ 4 ⌝ ∗ ⌜ h .m ≤ 16 ⌝ ∗ ⌜ h .q ≤ 10000 ⌝ }
-    ensures { λ r. ⌜ r ≡ bodyRead (now (s .entry)) h at ⌝ }
+// A beginning and the coefficients of the modes, put together.
+fn accepted(b: Beginning, coef: [i64; 320]) -> PlantRead
+    ensures { λ r. ⌜ r ≡ readOf (good (plantFrom b coef)) ⌝ }
 {
-    let n = h.n;
-    let modes = h.m;
-    let q = h.q;
-    let edges = bounds::read_edges(s, at, n);
-    let past_edges = edges.answer;
-    let Walk::Next(b) = past_edges else {
-        return refused_by(past_edges);
-    };
-    let bands = bounds::read_bands(s, b, n);
-    let past_bands = bands.answer;
-    let Walk::Next(c) = past_bands else {
-        return refused_by(past_bands);
-    };
-    let modes_rows = rows::read_rows(s, c, n, modes);
-    let past_rows = modes_rows.answer;
-    let Walk::Next(next) = past_rows else {
-        return refused_by(past_rows);
-    };
-    if next != s.len() {
-        return refused(refusals::unfit(next));
-    }
-    let rlo = edges.rlo;
-    let rhi = edges.rhi;
-    let slo = edges.slo;
-    let shi = edges.shi;
-    let out = bounds::first_out(n, rlo, rhi, slo, shi);
-    if out < n {
-        return refused(refusals::not_in_safe(out));
-    }
-    let wlo = bands.wlo;
-    let whi = bands.whi;
-    let thin = bounds::first_narrow(n, q, wlo, whi);
-    if thin < n {
-        return refused(refusals::narrow(thin));
-    }
-    let coef = modes_rows.coef;
+    let rlo = b.rlo;
+    let rhi = b.rhi;
+    let slo = b.slo;
+    let shi = b.shi;
+    let wlo = b.wlo;
+    let whi = b.whi;
     PlantRead {
         verdict: Verdict::Accepted,
         plant: Plant {
-            n,
-            modes,
-            q,
-            k: h.k,
-            d: h.d,
+            n: b.n,
+            modes: b.m,
+            q: b.q,
+            k: b.k,
+            d: b.d,
             rlo,
             rhi,
             slo,
@@ -113,14 +80,42 @@ fn read_body(s: &[u8], h: Header, at: usize) -> PlantRead
     }
 }
 
+// What stands behind a beginning: the rows, then what is asked of the whole.
+fn read_body(s: &[u8], b: Beginning, related: Verdict, at: usize) -> PlantRead
+    requires { ⌜ Begun 16 (now s) b at ⌝ ∗ ⌜ related ≡ relation b ⌝ }
+    ensures { λ r. ⌜ r ≡ bodyRead (now (s .entry)) b at ⌝ }
+{
+    let n = b.n;
+    let modes = b.m;
+    let modes_rows = rows::read_rows(s, at, n, modes);
+    let past_rows = modes_rows.answer;
+    let Walk::Next(next) = past_rows else {
+        return refused_by(past_rows);
+    };
+    if next != s.len() {
+        return refused(refusals::unfit(next));
+    }
+    match related {
+        Verdict::Refused(e) => refused(e),
+        Verdict::Accepted => {
+            let coef = modes_rows.coef;
+            accepted(b, coef)
+        }
+    }
+}
+
 // A plant's file, judged in order: number, place and step of the first fault, or the plant.
 pub fn read_plant(s: &[u8]) -> PlantRead
     ensures { λ r. ⌜ r ≡ plantRead (now (s .entry)) ⌝ }
 {
-    match headers::read_header(s, 16) {
-        HeaderRead::Refused(e) => refused(e),
-        HeaderRead::Header(h, at) => read_body(s, h, at),
-    }
+    let read = beginnings::read_beginning(s, 16);
+    let past = read.answer;
+    let Walk::Next(at) = past else {
+        return refused_by(past);
+    };
+    let b = read.beginning;
+    let related = read.related;
+    read_body(s, b, related, at)
 }
 
 // The file that the values would be, as far as there is room; the place behind it. Where n or N is out of range the header says it all.
@@ -129,30 +124,34 @@ fn put_plant(p: Plant, buf: &mut [u8]) -> usize
 {
     let n = p.n;
     let modes = p.modes;
-    let h = Header {
+    let rlo = p.rlo;
+    let rhi = p.rhi;
+    let slo = p.slo;
+    let shi = p.shi;
+    let wlo = p.wlo;
+    let whi = p.whi;
+    let b = Beginning {
         n,
         m: modes,
         q: p.q,
         k: p.k,
         d: p.d,
+        rlo,
+        rhi,
+        slo,
+        shi,
+        wlo,
+        whi,
     };
-    let past_header = headers::put_header(buf, h);
+    let past = beginnings::put_beginning(buf, b);
     if 4 < n {
-        return past_header;
+        return past;
     }
     if 16 < modes {
-        return past_header;
+        return past;
     }
-    let rlo = p.rlo;
-    let rhi = p.rhi;
-    let slo = p.slo;
-    let shi = p.shi;
-    let past_edges = bounds::put_edges(buf, past_header, n, rlo, rhi, slo, shi);
-    let wlo = p.wlo;
-    let whi = p.whi;
-    let past_bands = bounds::put_bands(buf, past_edges, n, wlo, whi);
     let coef = p.coef;
-    rows::put_rows(buf, past_bands, coef, modes * n * (n + 1))
+    rows::put_rows(buf, past, coef, modes * n * (n + 1))
 }
 
 // A plant as values, judged as the file it would be, then 10. Finished, only the file's bytes are changed; refused, the buffer is all zeros.

@@ -25,7 +25,7 @@ use Rattle.files.specs.FieldLaws.{ranged-was, ranged-fault}
 use Rattle.files.specs.Parts.{behind, Fails, holds-then, holds-fails, fails-then, Rows, rows-none, rows-more, rows-fails, rows-all}
 use Rattle.files.specs.declared.bounds.Bands.{Bands}
 use Rattle.files.specs.declared.bounds.Edges.{Edges}
-use Rattle.files.specs.Bounds.{spanIn, Spanned, edgesPart, EdgesRead, BandSizes, BandsRead}
+use Rattle.files.specs.Bounds.{spanIn, Spanned, edgesPart, Sizes, EdgesRead, BandSizes, BandsRead}
 use Rattle.meaning.specs.declared.Refusal.{Refusal}
 
 module _ (least most : ℤ) (s : List ℕ) (from : ℕ) where
@@ -85,13 +85,20 @@ span-sizes limit {s} {from} {lo} {hi} {next} w =
     let e : negℤ (pos limit) ≤ℤ hi = omega zarith in
     (within limit a d, within limit e c)
 
+sizes-more : (limit : ℕ) (lo hi : List ℤ) (i : ℕ) (a b : ℤ) → i < length lo → i < length hi → (natAbs a ≤ limit) × (natAbs b ≤ limit) → Sizes limit i lo hi → Sizes limit (i + 1) (set lo i a) (set hi i b)
+sizes-more limit lo hi i a b h l t w k g = go (ℕ-discrete k i)
+  where
+    go : Dec (k ≡ i) → (natAbs (at (set lo i a) k) ≤ limit) × (natAbs (at (set hi i b) k) ≤ limit)
+    go (yes e) = rw (e, at-stored lo i a h, at-stored hi i b l) t
+    go (no e) = let c : k < i = omega arith in rw (at-below lo i a k c, at-below hi i b k c) (w k c)
+
 module _ {s : List ℕ} {from n i p : ℕ} {wlo whi : List ℤ} (w : BandsUpTo s from n i p wlo whi) where
   pub bands-more : (lo hi : ℤ) (next : ℕ) → i < n → n ≤ 4 → Spanned (negℤ (pos bandLimit)) (pos bandLimit) s p lo hi next → BandsUpTo s from n (i + 1) next (set wlo i lo) (set whi i hi)
   bands-more lo hi next h l t = record {
     rows = rows-more (w .rows) (bandOf (set wlo i lo) (set whi i hi)) next h (λ k a. pair-same wlo whi i lo hi k a) (rw (pair-new wlo whi i lo hi a b) (t .part));
     wlo-filled = filled-more lo (w .wlo-filled);
     whi-filled = filled-more hi (w .whi-filled);
-    sizes = λ k g. size k g (ℕ-discrete k i);
+    sizes = sizes-more bandLimit wlo whi i lo hi a b (span-sizes bandLimit t) (w .sizes);
   }
     where
       a : i < length wlo
@@ -99,10 +106,6 @@ module _ {s : List ℕ} {from n i p : ℕ} {wlo whi : List ℤ} (w : BandsUpTo s
 
       b : i < length whi
       b = omega (arith, w .whi-filled .size)
-
-      size : (k : ℕ) → k < i + 1 → Dec (k ≡ i) → (natAbs (at (set wlo i lo) k) ≤ bandLimit) × (natAbs (at (set whi i hi) k) ≤ bandLimit)
-      size k g (yes e) = rw (e, at-stored wlo i lo a, at-stored whi i hi b) (span-sizes bandLimit t)
-      size k g (no e) = let c : k < i = omega arith in rw (at-below wlo i lo k c, at-below whi i hi k c) (w .sizes k c)
 
   pub bands-fails : (e : Refusal) → i < n → Fails (spanIn (negℤ (pos bandLimit)) (pos bandLimit)) s p e → Fails (times n (span bandLimit)) s from e
   bands-fails e h t = rows-fails (w .rows) h t
@@ -125,6 +128,7 @@ pub record EdgesUpTo (s : List ℕ) (from n i p : ℕ) (rlo rhi slo shi : List �
   pub rhi-filled : Filled 4 i rhi
   pub slo-filled : Filled 4 i slo
   pub shi-filled : Filled 4 i shi
+  pub sizes : Sizes edgeLimit i slo shi
 
 pub edges-none : (s : List ℕ) (from n : ℕ) → EdgesUpTo s from n 0 from (replicate 4 (pos 0)) (replicate 4 (pos 0)) (replicate 4 (pos 0)) (replicate 4 (pos 0))
 edges-none s from n = record {
@@ -133,6 +137,7 @@ edges-none s from n = record {
   rhi-filled = filled-none 4;
   slo-filled = filled-none 4;
   shi-filled = filled-none 4;
+  sizes = λ k h. absurd (omega arith);
 }
 
 -- R's span, and S's behind it
@@ -148,6 +153,7 @@ module _ {s : List ℕ} {from n i p : ℕ} {rlo rhi slo shi : List ℤ} (w : Edg
     rhi-filled = filled-more b (w .rhi-filled);
     slo-filled = filled-more c (w .slo-filled);
     shi-filled = filled-more d (w .shi-filled);
+    sizes = sizes-more edgeLimit slo shi i c d (there (w .slo-filled)) (there (w .shi-filled)) (span-sizes edgeLimit u) (w .sizes);
   }
     where
       same : (k : ℕ) → k < i → edgesOf (set rlo i a) (set rhi i b) (set slo i c) (set shi i d) k ≡ edgesOf rlo rhi slo shi k
@@ -174,6 +180,7 @@ module _ {s : List ℕ} {from n i p : ℕ} {rlo rhi slo shi : List ℤ} (w : Edg
         rhi-filled = rw (e₁, ← j) (w .rhi-filled);
         slo-filled = rw (e₂, ← j) (w .slo-filled);
         shi-filled = rw (e₃, ← j) (w .shi-filled);
+        sizes = λ k l. rw (e₂, e₃) (w .sizes k (omega arith));
       }
 
 -- ---- R in S, and bands wide enough, as tests by dimension

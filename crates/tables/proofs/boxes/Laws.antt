@@ -12,11 +12,9 @@ use lib.Pow.{pow-mono}
 use lib.Dec.{eqb}
 use borrow.Author.Tests.{ne-eqb}
 use lib.ListN.{length, getD, set, length-append}
-use lib.IntN.{ℤ, pos, natAbs, _+ℤ_, _*ℤ_}
-use lib.Signed.{_≤ℤ_, _<ℤ_, ltZ}
-use Rattle.laws.specs.Integers.{zarith, ltZ-true, add, mul, abs, apart}
-use Rattle.laws.specs.Division.{floorZ}
-use Rattle.laws.specs.DivisionLaws.{floor-low, floor-high}
+use lib.IntN.{ℤ, pos, natAbs, _+ℤ_}
+use lib.Signed.{_≤ℤ_, ltZ}
+use Rattle.laws.specs.Integers.{zarith, add, abs, apart}
 use Rattle.laws.specs.Lists.{at, tab}
 use Rattle.laws.specs.Tabs.{tab-step, tab-done, tab-snoc, tab-same, at-below, at-stored}
 use Rattle.meaning.specs.Boxes.{Side, side, sideAt, has, fits, covers, lies, long, middle, inFront, pieces, anyLong, children}

@@ -25,7 +25,7 @@ use Rattle.meaning.specs.Defined.{orElse, mapSome, firstMode, exactly, shortest
 use Rattle.promises.specs.Sound.{Sound}
 use Rattle.promises.specs.Boxes.{within-trans}
 use Rattle.tables.specs.Boxes.{Small}
-use Rattle.tables.specs.Limits.{lentSide, covered, landing, RowsSound, Ready}
+use Rattle.tables.specs.Limits.{lentSide, landing, RowsSound, Ready}
 use Rattle.tables.specs.Search.{digits, soughtOf, picked, oneOf, behindMode}
 use Rattle.tables.proofs.frames.Laws.{step-sound, band-small}
 use Rattle.tables.proofs.images.Laws.{small-image}

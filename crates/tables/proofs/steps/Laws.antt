@@ -1,20 +1,16 @@
 -- Laws of the search's steps: the sums of a row from its extremes; that sums lie in the limits exactly where the image's side lies in the side
 -- they are of; and from there, for a plant and its limits, that what is tested is the image in R or S, and what is made is the image.
 -- Assumes nothing.
-use Prim.Native.Nat.{ℕ, suc, _+_, _-_, _≤_, _<_}
+use Prim.Native.Nat.{ℕ, _+_, _≤_, _<_}
 use mathlib.Core.Path.{_≡_, refl, sym, ap, _∙_}
-use mathlib.Core.Bool.{Bool, true, false, _&&_}
-use mathlib.Core.List.{List, [], _∷_}
-use mathlib.Core.Option.{Option, none, some}
+use mathlib.Core.Bool.{Bool, true, false}
+use mathlib.Core.List.{List}
 use native.Mathlib.Omega.{arith}
-use native.Mathlib.Nat.{zero-add, sub-zero}
 use native.Mathlib.Decide.{ℕ-discrete}
-use lib.Dec.{ltb}
 use lib.ListN.{length, set}
 use lib.Seq.{getD-set-other}
 use lib.IntN.{ℤ, pos, natAbs, _+ℤ_, _-ℤ_, _*ℤ_}
 use lib.Signed.{leZ, _≤ℤ_, _<ℤ_}
-use Rattle.laws.specs.Guards.{guard}
 use Rattle.laws.specs.Integers.{zarith, add, sub, leZ-true, leZ-false}
 use Rattle.laws.specs.Division.{floorZ, ceilZ}
 use Rattle.laws.specs.DivisionLaws.{floor-greatest, ceil-least}
@@ -25,8 +21,7 @@ use Rattle.meaning.specs.declared.Plant.{Plant}
 use Rattle.meaning.specs.Boxes.{Side, side, sideAt, covers, within}
 use Rattle.meaning.specs.Images.{leastOf, greatestOf, extreme, image}
 use Rattle.meaning.specs.Plants.{rootOf, safeOf, rowStart, stepOf}
-use Rattle.meaning.specs.Defined.{firstMode}
-use Rattle.tables.specs.Images.{Extremes, entriesOf}
+use Rattle.tables.specs.Images.{Extremes}
 use Rattle.tables.specs.Limits.{limitSide, sumSide, divided, lentSide, covered, coveredAt, dividedAt, Within, Ready}
 use Rattle.tables.proofs.frames.Laws.{divisor}
 use Rattle.tables.proofs.boxes.Laws.{lies-tab}

@@ -6,7 +6,7 @@ use Rattle.meaning.specs.declared.Number.{Number}
 use Rattle.meaning.specs.Numbers.{numberAt}
 use Rattle.meaning.specs.Files.{refused}
 use Rattle.files.specs.Fields.{countedAt}
-use Rattle.files.proofs.headers.Laws.{form-broken, form-wrong, n-fails, m-fails, q-fails, k-fails, d-fails, too-deep, headed-as, small-product}
+use Rattle.files.specs.HeaderLaws.{form-broken, form-wrong, n-fails, m-fails, q-fails, k-fails, d-fails, too-deep, headed-as, small-product}
 use borrow.Author.Needs.{needs}
 use Rattle.files.proofs.headers.read_header.Statement.{statement}
 use Rattle.files.proofs.headers.read_header.Tie as tie

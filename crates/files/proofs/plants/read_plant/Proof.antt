@@ -1,53 +1,58 @@
--- `plants::read_plant`: a header, and what stands behind it. Assumes nothing.
-use mathlib.Core.Path.{sym, _∙_, subst}
+-- `plants::read_plant`: a beginning, and what stands behind it. Assumes nothing.
+use mathlib.Core.Path.{sym, ap, _∙_, subst}
 use denote.Ref.{now}
-use Rattle.files.specs.Headers.{HeaderTold}
-use Rattle.files.proofs.plants.Laws.{header-refused, header-read}
+use Rattle.meaning.specs.declared.Walk.{Walk}
+use Rattle.meaning.specs.Files.{bad}
+use Rattle.meaning.specs.Plants.{readOf}
+use Rattle.files.specs.Beginnings.{BegunAs}
+use Rattle.files.specs.Plants.{refusalOf}
+use Rattle.files.proofs.plants.Laws.{beginning-refused, beginning-read}
 use borrow.Author.Needs.{needs}
 use Rattle.files.proofs.plants.read_plant.Statement.{statement}
 use Rattle.files.proofs.plants.read_plant.Tie as tie
 
-read-header-requires : tie.Need-read-header-requires
-read-header-requires c κs = search needs
+read-beginning-requires : tie.Need-read-beginning-requires
+read-beginning-requires c κs = search needs
 
-enum-known-e : tie.Need-enum-known-e
-enum-known-e c = search needs
+enum-known-past : tie.Need-enum-known-past
+enum-known-past c = search needs
 
-refused-requires : tie.Need-refused-requires
-refused-requires c κs = search needs
+enum-told : tie.Need-enum-told
+enum-told c = search needs
 
-enum-known-h : tie.Need-enum-known-h
-enum-known-h c = search needs
-
-read-body-requires : tie.Need-read-body-requires
-read-body-requires c κs =
-    let z = c .before .before .before .before .before .args in
-    let g = c .before .h .given in
-    let t = subst (HeaderTold 16 (now (z .s))) (g .1) (c .before .before .before .read-header .ensures) in
-    (t .n-high, (t .m-high, t .q-high))
+refused-by-requires : tie.Need-refused-by-requires
+refused-by-requires c κs = search needs
 
 returns : tie.Need-returns
 returns c =
+    let z = c .before .before .before .before .before .args in
+    let r = c .before .before .before .read-beginning in
+    let g = c .before .enum-told .given in
+    let t = subst (BegunAs 16 (now (z .s)) (r .result)) (g .1) (r .ensures .1) in
+    c .refused-by .ensures ∙ ap (λ (k : Walk). readOf (bad (refusalOf k))) (g .1) ∙ sym (beginning-refused (now (z .s)) (g .0 .0) (t .1))
+
+read-body-requires : tie.Need-read-body-requires
+read-body-requires c κs =
     let z = c .before .before .before .before .before .before .args in
-    let g = c .before .before .e .given in
-    let t = subst (HeaderTold 16 (now (z .s))) (g .1) (c .before .before .before .before .read-header .ensures) in
-    c .refused .ensures ∙ sym (header-refused (now (z .s)) (g .0 .0) t)
+    let r = c .before .before .before .before .read-beginning in
+    subst (BegunAs 16 (now (z .s)) (r .result)) (c .before .before .past .given .1) (r .ensures .1)
 
 returns-2 : tie.Need-returns-2
 returns-2 c =
-    let z = c .before .before .before .before .before .before .args in
-    let g = c .before .before .h .given in
-    let t = subst (HeaderTold 16 (now (z .s))) (g .1) (c .before .before .before .before .read-header .ensures) in
-    c .read-body .ensures ∙ sym (header-read (now (z .s)) (g .0 .0) (g .0 .1 .0) t)
+    let z = c .before .before .before .before .before .before .before .args in
+    let r = c .before .before .before .before .before .read-beginning in
+    let g = c .before .before .before .past .given in
+    let t = subst (BegunAs 16 (now (z .s)) (r .result)) (g .1) (r .ensures .1) in
+    c .read-body .ensures ∙ sym (beginning-read (now (z .s)) (r .result .beginning) (g .0 .0) (t .0))
 
 pub read-plant-spec : {M : Type 1} → statement M
 read-plant-spec =
     tie.close
     (tie.spec
-    read-header-requires
-    enum-known-e
-    refused-requires
-    enum-known-h
-    read-body-requires
+    read-beginning-requires
+    enum-known-past
+    enum-told
+    refused-by-requires
     returns
+    read-body-requires
     returns-2)

@@ -1,6 +1,6 @@
 -- `limits::around`: the sides that are done are the limits. Assumes nothing.
 use Prim.Native.Nat.{ℕ, _-_, _≤_, _<_}
-use mathlib.Core.Path.{_≡_, refl, sym, _∙_}
+use mathlib.Core.Path.{_≡_, refl}
 use native.Mathlib.Omega.{arith}
 use lib.ListN.{length, length-set}
 use lib.IntN.{pos}
@@ -9,7 +9,7 @@ use mir.Syntax.{w64}
 use mir.Val.{toZ}
 use Rattle.laws.specs.Lists.{at, tab}
 use Rattle.laws.specs.Expressions.{Ex, var, held, lit, _⊕_, _⊝_, _⊗_, need, exact}
-use Rattle.meaning.specs.Boxes.{Side, sideAt}
+use Rattle.meaning.specs.Boxes.{sideAt}
 use Rattle.meaning.specs.Plants.{edgeLimit, bandLimit}
 use Rattle.tables.specs.Boxes.{Bounded}
 use Rattle.tables.specs.Limits.{limitsAt}

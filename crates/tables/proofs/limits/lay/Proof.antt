@@ -4,8 +4,8 @@ use mathlib.Core.Path.{refl}
 use native.Mathlib.Omega.{arith}
 use borrow.Author.Needs.{needs}
 use Rattle.laws.specs.Expressions.{var, exact}
-use Rattle.meaning.specs.Boxes.{Side, sideAt}
-use Rattle.meaning.specs.Plants.{edgeLimit, bandLimit}
+use Rattle.meaning.specs.Boxes.{sideAt}
+use Rattle.meaning.specs.Plants.{bandLimit}
 use Rattle.tables.specs.declared.boxes.Bx.{Bx}
 use Rattle.tables.specs.Boxes.{Bounded, boxOf, Small}
 use Rattle.tables.specs.Limits.{limitsAt}

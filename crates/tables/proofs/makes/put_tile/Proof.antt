@@ -1,5 +1,4 @@
 -- `makes::put_tile`: what is left to write are the modes that are left. Assumes nothing.
-use Prim.Native.Nat.{_≤_}
 use mathlib.Core.Path.{_∙_}
 use native.Mathlib.Omega.{arith}
 use Rattle.laws.specs.Writing.{Under, under-none, under-more, under-done, put-length}

@@ -15,10 +15,10 @@ use Rattle.meaning.specs.Boxes.{Side, sidesOf, within}
 use Rattle.meaning.specs.Images.{image}
 use Rattle.meaning.specs.Plants.{edgeLimit, safeOf, stepOf}
 use Rattle.meaning.specs.Tables.{rulesOf}
-use Rattle.meaning.specs.Defined.{firstMode, exactly}
+use Rattle.meaning.specs.Defined.{firstMode}
 use Rattle.tables.specs.Boxes.{Small}
 use Rattle.tables.specs.Limits.{RowsSound, Unlent, plantLent, Ready}
-use Rattle.tables.specs.Search.{digits, soughtOf, behindMode}
+use Rattle.tables.specs.Search.{digits, behindMode}
 use Rattle.tables.proofs.frames.Laws.{rooms, divisor, divisor-small}
 use Rattle.tables.proofs.steps.Laws.{covered-safe, made-image}
 use Rattle.tables.proofs.search.Laws.{digit-more, digits-small, none-sought, modes-done, modes-fail, modes-found, rows-sound, lent-band, last-is, last-none, behind-leaves, behind-stays, behind-small, modes-rest}

@@ -1,8 +1,7 @@
 -- `steps::divide`: the sides that are done are divided, the others still sums. Assumes nothing.
 use Prim.Native.Nat.{ℕ, _+_, _-_, _≤_, _<_}
-use mathlib.Core.Path.{_≡_, refl, sym, ap, _∙_}
+use mathlib.Core.Path.{_≡_, refl, ap, _∙_}
 use native.Mathlib.Omega.{arith}
-use lib.IntN.{ℤ}
 use lib.ListN.{length, length-set}
 use denote.Ref.{now}
 use mir.Facts.{toZ-ofZ}

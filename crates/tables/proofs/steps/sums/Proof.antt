@@ -1,6 +1,5 @@
 -- `steps::sums`: the extremes of a row, and its offset added to each. Assumes nothing.
 use Prim.Native.Nat.{_+_}
-use mathlib.Core.Path.{_≡_, refl}
 use borrow.Author.Needs.{needs}
 use denote.Ref.{now}
 use Rattle.laws.specs.Lists.{at}

@@ -1,0 +1,3 @@
+pub mod Laws
+pub mod Fitting
+pub mod Drafts

@@ -1,0 +1,128 @@
+-- A sheet's file behind its beginning: refused by its first part that is; else its values are the sheet's, they give the sheet back, and it is judged as a
+-- whole. Relies on promises' page Sheets.
+use Prim.Native.Nat.{ℕ}
+use mathlib.Core.Path.{_≡_, refl, sym, ap, _∙_}
+use mathlib.Core.List.{List, [], _∷_, _++_, append-nil, append-assoc}
+use lib.ListN.{length}
+use lib.IntN.{ℤ}
+use lib.Ieee.{Float}
+use borrow.Author.Tests.{ne-eqb, eq-eqb}
+use Rattle.laws.specs.Lists.{tabs}
+use Rattle.meaning.specs.declared.Refusal.{Refusal}
+use Rattle.meaning.specs.declared.Verdict.{Verdict}
+use Rattle.meaning.specs.declared.Room.{Room}
+use Rattle.meaning.specs.declared.Sheet.{Sheet}
+use Rattle.meaning.specs.declared.SheetRead.{SheetRead}
+use Rattle.meaning.specs.Refusals.{unfit}
+use Rattle.meaning.specs.Files.{Form, end, Read, read, refused, ended, valuesAt, good, bad}
+use Rattle.meaning.specs.Boxes.{sidesOf}
+use Rattle.meaning.specs.Plants.{times, related}
+use Rattle.meaning.specs.Sheets.{bitsOf, floating, anyFloat, above, roomForm, sheetForm, sheetOf, sheetValues, sheetReadOf}
+use Rattle.promises.specs.Sheets.{HeldSheet, TidySheet, sheet-back}
+use Rattle.files.specs.declared.beginnings.Beginning.{Beginning}
+use Rattle.files.specs.Parts.{behind, behind-read, behind-refused, Fails, holds-then, holds-fails, fails-then}
+use Rattle.files.specs.Beginnings.{beginningForm, headNumbers, headOf, edgesIn, bandsIn, beginningNumbers, byVerdict, relation, related-by, Begun}
+use Rattle.sheets.specs.Floats.{Floated}
+use Rattle.sheets.specs.Rooms.{valuesOfRoom, RoomsHeld}
+use Rattle.sheets.specs.Sheets.{unfittedOf, unfitted, timePart, TimeRead, roomsForm, valuesBehind, bodyRead, sheetFrom, TakenSized}
+
+-- ---- sample time and outside temperature
+
+module _ (s : List ℕ) (start : ℕ) where
+  pub time-cut : (e : Refusal) → Fails (floating above) s start e → Fails timePart s start e
+  time-cut e t = fails-then {g = floating anyFloat} t
+
+  module _ (time : Float) (mid : ℕ) (t : Floated above s start time mid) where
+    pub outside-cut : (e : Refusal) → Fails (floating anyFloat) s mid e → Fails timePart s start e
+    outside-cut e u = holds-fails (t .part) u
+
+    pub time-read : (outside : Float) (next : ℕ) → Floated anyFloat s mid outside next → TimeRead s start time outside next
+    time-read outside next u = record { part = holds-then (t .part) (u .part); time-held = t .held; outside-held = u .held }
+
+-- ---- what stands behind a beginning
+
+module _ (s : List ℕ) (b : Beginning) (from : ℕ) where
+  by-values : (r : Refusal) → valuesAt (roomsForm (b .n) (b .m)) s from ≡ refused r → bodyRead s b from ≡ sheetReadOf (bad r)
+  by-values r e = ap (λ (x : Read (List ℤ)). sheetReadOf (unfittedOf (ended s x))) (ap (behind (beginningNumbers b)) e ∙ behind-refused (beginningNumbers b) r)
+
+  pub time-refused : (r : Refusal) → Fails timePart s from r → bodyRead s b from ≡ sheetReadOf (bad r)
+  time-refused r t = by-values r (t .fails (times (b .n) (roomForm (b .n)) end))
+
+  module _ (time outside : Float) (mid : ℕ) (u : TimeRead s from time outside mid) where
+    pub rooms-refused : (r : Refusal) → Fails (times (b .n) (roomForm (b .n))) s mid r → bodyRead s b from ≡ sheetReadOf (bad r)
+    rooms-refused r t = by-values r (holds-fails (u .part) t .fails end)
+
+    module _ (rooms : List Room) (next : ℕ) (v : RoomsHeld s mid (b .n) rooms next) where
+      h : Sheet
+      h = sheetFrom b time outside rooms
+
+      rest : List ℤ
+      rest = bitsOf time ∷ bitsOf outside ∷ tabs (valuesOfRoom (b .n) rooms) (b .n) 0
+
+      values : valuesBehind s b from ≡ read (beginningNumbers b ++ rest) next
+      unfolding rest valuesAt
+      values =
+          ap (behind (beginningNumbers b)) (holds-then (u .part) (v .part) .holds end ∙ behind-read rest [] next ∙ rw append-nil refl)
+          ∙ behind-read (beginningNumbers b) rest next
+
+      pub left-over : (next ≡ length s → ⊥) → bodyRead s b from ≡ sheetReadOf (bad (unfit next))
+      left-over g = ap (λ (x : Read (List ℤ)). sheetReadOf (unfittedOf (ended s x))) values ∙ simp (ne-eqb _ _ g)
+
+      module _ (t : Begun 1000 s b from) (whole : next ≡ length s) where
+        tidy : TidySheet h
+        unfolding h
+        tidy = record {
+          few = t .n-high;
+          rlo-filled = t .rlo-filled;
+          rhi-filled = t .rhi-filled;
+          slo-filled = t .slo-filled;
+          shi-filled = t .shi-filled;
+          wlo-filled = t .wlo-filled;
+          whi-filled = t .whi-filled;
+          rooms-filled = v .filled;
+          rooms = v .tidy;
+        }
+
+        held : HeldSheet h
+        unfolding h
+        held = record { time = u .time-held; outside = u .outside-held; rooms = v .held }
+
+        -- they are the sheet's, and give it back
+        given-back : sheetOf (beginningNumbers b ++ rest) ≡ h
+        unfolding h rest sheetValues beginningNumbers
+        given-back = ap (λ (l : List ℤ). sheetOf (headNumbers (headOf b) ++ l)) (append-assoc (edgesIn b) (bandsIn b) rest) ∙ sheet-back h tidy held
+
+        judged : bodyRead s b from ≡ sheetReadOf (byVerdict (relation b) λ _. good (sheetFrom b time outside rooms))
+        unfolding h
+        judged =
+            ap (λ (x : Read (List ℤ)). sheetReadOf (unfittedOf (ended s x))) values ∙ simp (eq-eqb _ _ whole) refl
+            ∙ ap (λ (x : Sheet). sheetReadOf (related (x .q) (sidesOf (x .n) (x .rlo) (x .rhi)) (sidesOf (x .n) (x .slo) (x .shi)) (sidesOf (x .n) (x .wlo) (x .whi)) λ _. good x)) given-back
+            ∙ ap sheetReadOf (related-by b (λ _. good h))
+
+        pub by-verdict : (x y : Verdict) → x ≡ relation b → x ≡ y → bodyRead s b from ≡ sheetReadOf (byVerdict y λ _. good (sheetFrom b time outside rooms))
+        by-verdict x y e g = judged ∙ ap (λ (z : Verdict). sheetReadOf (byVerdict z λ _. good (sheetFrom b time outside rooms))) (sym e ∙ g)
+
+-- ---- the beginning in front
+
+pub beginning-refused : (s : List ℕ) (r : Refusal) → ((rest : ℕ → ℕ → Form) → valuesAt (beginningForm 1000 rest) s 0 ≡ refused r) → unfitted s ≡ sheetReadOf (bad r)
+unfolding unfitted sheetForm
+beginning-refused s r t = ap (λ (x : Read (List ℤ)). sheetReadOf (unfittedOf (ended s x))) (t roomsForm)
+
+pub beginning-read : (s : List ℕ) (b : Beginning) (next : ℕ) → Begun 1000 s b next → unfitted s ≡ bodyRead s b next
+unfolding unfitted sheetForm
+beginning-read s b next t = ap (λ (x : Read (List ℤ)). sheetReadOf (unfittedOf (ended s x))) (t .holds roomsForm)
+
+-- ---- how large the numbers are
+
+pub refused-sized : (r : SheetRead) (e : Refusal) → r ≡ sheetReadOf (bad e) → TakenSized r
+refused-sized r e q = rw q tt
+
+pub taken-sized : (r : SheetRead) (s : List ℕ) (b : Beginning) (from : ℕ) (time outside : Float) (rooms : List Room) → r ≡ sheetReadOf (good (sheetFrom b time outside rooms)) → Begun 1000 s b from → TakenSized r
+taken-sized r s b from time outside rooms q t = rw q (record {
+  some = t .n-low;
+  few = t .n-high;
+  degrees = (t .m-low, t .m-high);
+  counts = (t .q-low, t .q-high);
+  edges = t .edge-sizes;
+  bands = t .band-sizes;
+})

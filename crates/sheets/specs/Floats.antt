@@ -1,0 +1,34 @@
+-- A float of a sheet as the code reads it: its pattern, what is asked of it, and the part of a form that it is. Assumes nothing.
+use Prim.Native.Nat.{ℕ}
+use mathlib.Core.Bool.{Bool}
+use mathlib.Core.List.{List, [], _∷_}
+use lib.IntN.{pos}
+use lib.Ieee.{Float, binary64, toBits}
+use Rattle.meaning.specs.Files.{Taken, taken, none, lowFirst}
+use Rattle.meaning.specs.Sheets.{bitsOf, floating, anyFloat, notBelow, above}
+use Rattle.promises.specs.SheetRooms.{Held}
+use Rattle.files.specs.Parts.{Holds, Fails}
+use Rattle.sheets.specs.declared.floats.Pattern.{Pattern}
+use Rattle.sheets.specs.declared.floats.Asked.{Asked}
+use Rattle.sheets.specs.declared.floats.FloatRead.{FloatRead}
+
+abbrev pub patternTaken : Pattern → Taken
+patternTaken (Pattern.Bits v next) = taken (pos v) next
+patternTaken Pattern.Broken = none
+
+abbrev pub okOf : Asked → Float → Bool
+okOf Asked.Any = anyFloat
+okOf Asked.NotBelow = notBelow
+okOf Asked.Above = above
+
+-- a float that was taken; its pattern gives it back, since binary64 holds it
+pub record Floated (ok : Float → Bool) (s : List ℕ) (from : ℕ) (x : Float) (next : ℕ) : Type 0 where
+  pub part : Holds (floating ok) s from (bitsOf x ∷ []) next
+  pub held : Held x
+
+abbrev pub FloatTold : (Float → Bool) → List ℕ → ℕ → FloatRead → Type 0
+FloatTold ok s from (FloatRead.Float x next) = Floated ok s from x next
+FloatTold ok s from (FloatRead.Refused e) = Fails (floating ok) s from e
+
+abbrev pub floatBytes : Float → List ℕ
+floatBytes x = lowFirst 8 (toBits binary64 x)

@@ -1,0 +1,8 @@
+pub mod Filling
+pub mod Floats
+pub mod Rooms
+pub mod Wholes
+pub mod Sizes
+pub mod Bands
+pub mod Made
+pub mod Sheets

@@ -1,0 +1,139 @@
+-- A sheet's file as the code reads it: all but 14, which the reader tells last; the parts behind the beginning, and the bytes as they are drafted.
+-- Assumes nothing.
+use Prim.Native.Nat.{ℕ}
+use mathlib.Core.Path.{_≡_, refl}
+use mathlib.Core.Bool.{Bool, true, false, cond}
+use mathlib.Core.List.{List, [], _∷_, _++_, map}
+use lib.Dec.{ltb}
+use lib.IntN.{ℤ}
+use lib.Ieee.{Float}
+use Rattle.laws.specs.Guards.{guard}
+use Rattle.laws.specs.Lists.{tabs, all, firstFalse}
+use Rattle.meaning.specs.declared.Verdict.{Verdict}
+use Rattle.meaning.specs.declared.Room.{Room}
+use Rattle.meaning.specs.declared.Sheet.{Sheet}
+use Rattle.meaning.specs.declared.SheetRead.{SheetRead}
+use Rattle.meaning.specs.Refusals.{notInSafe, narrow}
+use Rattle.meaning.specs.Files.{Form, end, Read, read, refused, ended, valuesAt, valuesOf, Judged, good, bad}
+use Rattle.meaning.specs.Boxes.{sidesOf, lies}
+use Rattle.meaning.specs.Plants.{times, wide, related}
+use Rattle.meaning.specs.Sheets.{bitsOf, floating, anyFloat, above, roomForm, sheetForm, sheetOf, fitting, sheetRelated, sheetReadOf}
+use Rattle.promises.specs.SheetRooms.{Held}
+use Rattle.files.specs.declared.beginnings.Beginning.{Beginning}
+use Rattle.files.specs.Parts.{behind, Holds, Fails}
+use Rattle.files.specs.Beginnings.{beginningNumbers, beginningBytes}
+use Rattle.sheets.specs.declared.sheets.TimeOutside.{TimeOutside}
+use Rattle.sheets.specs.Floats.{floatBytes}
+use Rattle.sheets.specs.Rooms.{bytesOfRoom}
+use Rattle.sheets.specs.Sizes.{Sized}
+
+-- ---- judged up to and with 5
+
+abbrev pub unfittedOf : Read (List ℤ) → Judged Sheet
+unfittedOf (refused r) = bad r
+unfittedOf (read vs next) =
+    let h = sheetOf vs in
+    related (h .q) (sidesOf (h .n) (h .rlo) (h .rhi)) (sidesOf (h .n) (h .slo) (h .shi)) (sidesOf (h .n) (h .wlo) (h .whi)) λ _. good h
+
+unfoldable pub unfitted : List ℕ → SheetRead
+unfitted s = sheetReadOf (unfittedOf (valuesOf sheetForm s))
+
+-- 14 behind it
+abbrev pub thenFitting : Judged Sheet → Judged Sheet
+thenFitting (bad r) = bad r
+thenFitting (good h) = fitting h λ _. good h
+
+pub fitted : (x : Read (List ℤ)) → sheetRelated x ≡ thenFitting (unfittedOf x)
+fitted (refused r) = refl
+fitted (read vs next) = go (all inSafe) (all allWide)
+  where
+    h : Sheet
+    h = sheetOf vs
+
+    inSafe : List Bool
+    inSafe = lies (sidesOf (h .n) (h .rlo) (h .rhi)) (sidesOf (h .n) (h .slo) (h .shi))
+
+    allWide : List Bool
+    allWide = map (wide (h .q)) (sidesOf (h .n) (h .wlo) (h .whi))
+
+    go : (x y : Bool)
+        → guard x (bad (notInSafe (firstFalse inSafe))) (λ _. guard y (bad (narrow (firstFalse allWide))) (λ _. fitting h λ _. good h))
+        ≡ thenFitting (guard x (bad (notInSafe (firstFalse inSafe))) (λ _. guard y (bad (narrow (firstFalse allWide))) (λ _. good h)))
+    go true true = refl
+    go true false = refl
+    go false y = refl
+
+-- ---- the parts behind the beginning: sample time and outside temperature, then the rooms
+
+abbrev pub timePart : Form → Form
+timePart rest = floating above (floating anyFloat rest)
+
+pub record TimeRead (s : List ℕ) (start : ℕ) (time outside : Float) (next : ℕ) : Type 0 where
+  pub part : Holds timePart s start (bitsOf time ∷ bitsOf outside ∷ []) next
+  pub time-held : Held time
+  pub outside-held : Held outside
+
+abbrev pub TimeTold : List ℕ → ℕ → TimeOutside → Type 0
+TimeTold s start (TimeOutside.Floats time outside next) = TimeRead s start time outside next
+TimeTold s start (TimeOutside.Refused e) = Fails timePart s start e
+
+abbrev pub roomsForm : ℕ → ℕ → Form
+roomsForm n r = timePart (times n (roomForm n) end)
+
+-- the whole file, its beginning having been read
+abbrev pub valuesBehind : List ℕ → Beginning → ℕ → Read (List ℤ)
+valuesBehind s b at = behind (beginningNumbers b) (valuesAt (roomsForm (b .n) (b .m)) s at)
+
+abbrev pub bodyRead : List ℕ → Beginning → ℕ → SheetRead
+bodyRead s b at = sheetReadOf (unfittedOf (ended s (valuesBehind s b at)))
+
+-- a beginning and what stands behind it as a sheet, and the beginning of a sheet
+abbrev pub sheetFrom : Beginning → Float → Float → List Room → Sheet
+sheetFrom b time outside rooms = record {
+  n = b .n;
+  r = b .m;
+  q = b .q;
+  k = b .k;
+  d = b .d;
+  rlo = b .rlo;
+  rhi = b .rhi;
+  slo = b .slo;
+  shi = b .shi;
+  wlo = b .wlo;
+  whi = b .whi;
+  time = time;
+  outside = outside;
+  rooms = rooms;
+}
+
+abbrev pub sheetBeginning : Sheet → Beginning
+sheetBeginning h = record {
+  n = h .n;
+  m = h .r;
+  q = h .q;
+  k = h .k;
+  d = h .d;
+  rlo = h .rlo;
+  rhi = h .rhi;
+  slo = h .slo;
+  shi = h .shi;
+  wlo = h .wlo;
+  whi = h .whi;
+}
+
+-- ---- the numbers of a sheet that was taken are in range
+
+abbrev pub SizedAs : Sheet → Verdict → Type 0
+SizedAs h Verdict.Accepted = Sized h
+SizedAs h (Verdict.Refused e) = Unit {0}
+
+abbrev pub TakenSized : SheetRead → Type 0
+TakenSized r = SizedAs (r .sheet) (r .verdict)
+
+-- ---- drafted: an n over 4 is refused in the header, before anything behind it is read
+
+abbrev pub restBytes : Sheet → List ℕ
+restBytes h = floatBytes (h .time) ++ (floatBytes (h .outside) ++ tabs (bytesOfRoom (h .n) (h .rooms)) (h .n) 0)
+
+unfoldable pub draftBytes : Sheet → List ℕ
+draftBytes h = beginningBytes (sheetBeginning h) ++ cond (ltb 4 (h .n)) [] (restBytes h)

@@ -1,0 +1,108 @@
+// The plant made of a sheet: its numbers in plant order, and the place of the first that the plant cannot hold. Relies on bands, equations
+// and wholes. Leaves out the files (the sheet's and the plant's).
+use crate::bands;
+use crate::equations;
+use crate::wholes;
+use meaning::Plant;
+use meaning::Sheet;
+use meaning::Whole;
+ghost use mathlib.Core.Path.{_≡_};
+ghost use Prim.Native.Nat.{_≤_};
+ghost use Rattle.meaning.specs.Sheets.{madeModes};
+ghost use Rattle.sheets.specs.Sizes.{Sized};
+ghost use Rattle.sheets.specs.Made.{entryAt, entriesOf, madeOf};
+
+// The p-th coefficient of the plant: row by row, mode by mode, n entries of A and b each.
+fn entry(h: Sheet, p: usize) -> Whole
+    requires { ⌜ Sized h ⌝ }
+    ensures { λ r. ⌜ r ≡ entryAt h p ⌝ }
+{
+    let j = p % (h.n + 1);
+    let row = p / (h.n + 1);
+    let i = row % h.n;
+    if j < h.n {
+        return wholes::whole(20_000, h.q, equations::coefficient(h, i, j));
+    }
+    wholes::whole(
+        10_000_000_000,
+        h.q * h.r,
+        equations::offset(h, row / h.n, i),
+    )
+}
+
+// The coefficients: which is the first that is out (their count where none is), and what the plant holds of them, zeros behind them and
+// where one is out.
+struct Entries {
+    first: usize,
+    coef: [i64; 320],
+}
+
+fn coefficients(h: Sheet, count: usize) -> Entries
+    requires { ⌜ Sized h ⌝ ∗ ⌜ count ≤ 320 ⌝ }
+    ensures { λ r. ⌜ r ≡ entriesOf h count ⌝ }
+{
+    let mut coef = [0i64; 320];
+    let mut first: usize = 0;
+    let mut p: usize = 0;
+    while p < count {
+        let w = entry(h, p);
+        coef[p] = wholes::value(w);
+        first = wholes::joined_one(first, p, w);
+        p += 1;
+    }
+    Entries { first, coef }
+}
+
+// N is 2 to the number of rooms that have an emitter.
+fn modes(h: Sheet) -> usize
+    requires { ⌜ Sized h ⌝ }
+    ensures { λ r. ⌜ r ≡ madeModes h ⌝ }
+{
+    1 << equations::emitters(h, h.n)
+}
+
+// Whether all numbers of the plant fit, which of the plant file's numbers is the first that does not, its form being 0 (their count where all
+// fit), and the plant.
+pub struct Made {
+    pub fits: bool,
+    pub place: usize,
+    pub plant: Plant,
+}
+
+pub fn make(h: Sheet) -> Made
+    requires { ⌜ Sized h ⌝ }
+    ensures { λ r. ⌜ r ≡ madeOf h ⌝ }
+{
+    let n = h.n;
+    let modes = modes(h);
+    let count = modes * n * (n + 1);
+    let b = bands::widened(h);
+    let c = coefficients(h, count);
+    let first = wholes::joined(b.first, 2 * n, c.first);
+    let rlo = h.rlo;
+    let rhi = h.rhi;
+    let slo = h.slo;
+    let shi = h.shi;
+    let wlo = b.wlo;
+    let whi = b.whi;
+    let coef = c.coef;
+    let plant = Plant {
+        n,
+        modes,
+        q: h.q,
+        k: h.k,
+        d: h.d,
+        rlo,
+        rhi,
+        slo,
+        shi,
+        wlo,
+        whi,
+        coef,
+    };
+    Made {
+        fits: first == 2 * n + count,
+        place: 6 + 4 * n + first,
+        plant,
+    }
+}

@@ -1,0 +1,270 @@
+// Sheet files, read and written, and made into plant files. Relies on files' beginnings and on floats and rooms for the parts of a file, on made for the
+// plant. Leaves out what a plant does: that is crates/tables.
+use crate::floats;
+use crate::floats::Asked;
+use crate::floats::FloatRead;
+use crate::made;
+use crate::refusals;
+use crate::rooms;
+use files::beginnings;
+use files::beginnings::Beginning;
+use files::buffers;
+use files::plants;
+use meaning::Refusal;
+use meaning::Room;
+use meaning::Sheet;
+use meaning::SheetRead;
+use meaning::Verdict;
+use meaning::Walk;
+use meaning::Written;
+ghost use mathlib.Core.Path.{_≡_};
+ghost use Rattle.laws.specs.Writing.{Put};
+ghost use Rattle.meaning.specs.Files.{good, bad};
+ghost use Rattle.meaning.specs.Sheets.{sheetReadOf, sheetRead, sheetLeft, madeLeft};
+ghost use Rattle.files.specs.Plants.{refusalOf};
+ghost use Rattle.files.specs.Beginnings.{relation, Begun};
+ghost use Rattle.sheets.specs.Sheets.{TimeTold, unfitted, thenFitting, bodyRead, sheetFrom, TakenSized, draftBytes};
+ghost use Rattle.sheets.specs.Sizes.{Sized};
+
+// A refused sheet is all zeros.
+fn refused(e: Refusal) -> SheetRead
+    ensures { λ r. ⌜ r ≡ sheetReadOf (bad e) ⌝ }
+{
+    let none = rooms::no_room();
+    let rooms = [none; 4];
+    SheetRead {
+        verdict: Verdict::Refused(e),
+        sheet: Sheet {
+            n: 0,
+            r: 0,
+            q: 0,
+            k: 0,
+            d: 0,
+            rlo: [0i64; 4],
+            rhi: [0i64; 4],
+            slo: [0i64; 4],
+            shi: [0i64; 4],
+            wlo: [0i64; 4],
+            whi: [0i64; 4],
+            time: 0.0,
+            outside: 0.0,
+            rooms,
+        },
+    }
+}
+
+// The same, of a part that was refused.
+fn refused_by(w: Walk) -> SheetRead
+    ensures { λ r. ⌜ r ≡ sheetReadOf (bad (refusalOf w)) ⌝ }
+{
+    match w {
+        Walk::Refused(e) => refused(e),
+        Walk::Next(at) => refused(files::refusals::unfit(at)),
+    }
+}
+
+// Sample time, outside temperature, and the place behind them.
+enum TimeOutside {
+    Floats(f64, f64, usize),
+    Refused(Refusal),
+}
+
+fn read_time(s: &[u8], at: usize) -> TimeOutside
+    ensures { λ r. ⌜ TimeTold (now (s .entry)) at r ⌝ }
+{
+    match floats::read_float(s, at, Asked::Above) {
+        FloatRead::Refused(e) => TimeOutside::Refused(e),
+        FloatRead::Float(time, mid) => match floats::read_float(s, mid, Asked::Any) {
+            FloatRead::Refused(e) => TimeOutside::Refused(e),
+            FloatRead::Float(outside, next) => TimeOutside::Floats(time, outside, next),
+        },
+    }
+}
+
+// A beginning and what stands behind it, put together.
+fn accepted(b: Beginning, time: f64, outside: f64, rooms: [Room; 4]) -> SheetRead
+    ensures { λ r. ⌜ r ≡ sheetReadOf (good (sheetFrom b time outside rooms)) ⌝ }
+{
+    let rlo = b.rlo;
+    let rhi = b.rhi;
+    let slo = b.slo;
+    let shi = b.shi;
+    let wlo = b.wlo;
+    let whi = b.whi;
+    SheetRead {
+        verdict: Verdict::Accepted,
+        sheet: Sheet {
+            n: b.n,
+            r: b.m,
+            q: b.q,
+            k: b.k,
+            d: b.d,
+            rlo,
+            rhi,
+            slo,
+            shi,
+            wlo,
+            whi,
+            time,
+            outside,
+            rooms,
+        },
+    }
+}
+
+// What stands behind a beginning: two floats and the rooms, then what is asked of the whole.
+fn read_body(s: &[u8], b: Beginning, related: Verdict, at: usize) -> SheetRead
+    requires { ⌜ Begun 1000 (now s) b at ⌝ ∗ ⌜ related ≡ relation b ⌝ }
+    ensures value { λ r. ⌜ r ≡ bodyRead (now (s .entry)) b at ⌝ }
+    ensures sized { λ r. ⌜ TakenSized r ⌝ }
+{
+    match read_time(s, at) {
+        TimeOutside::Refused(e) => refused(e),
+        TimeOutside::Floats(time, outside, mid) => {
+            let n = b.n;
+            let read = rooms::read_rooms(s, mid, n);
+            let past = read.answer;
+            let Walk::Next(next) = past else {
+                return refused_by(past);
+            };
+            if next != s.len() {
+                return refused(files::refusals::unfit(next));
+            }
+            match related {
+                Verdict::Refused(e) => refused(e),
+                Verdict::Accepted => {
+                    let rooms = read.rooms;
+                    accepted(b, time, outside, rooms)
+                }
+            }
+        }
+    }
+}
+
+// A sheet's file, judged in order up to and with 5. The numbers of one that is taken are in range, which what is made of them relies on.
+fn read_values(s: &[u8]) -> SheetRead
+    ensures value { λ r. ⌜ r ≡ unfitted (now (s .entry)) ⌝ }
+    ensures sized { λ r. ⌜ TakenSized r ⌝ }
+{
+    let read = beginnings::read_beginning(s, 1_000);
+    let past = read.answer;
+    let Walk::Next(at) = past else {
+        return refused_by(past);
+    };
+    let b = read.beginning;
+    let related = read.related;
+    read_body(s, b, related, at)
+}
+
+// 14, told of the plant that a sheet makes.
+fn fitted(h: Sheet) -> SheetRead
+    requires { ⌜ Sized h ⌝ }
+    ensures { λ r. ⌜ r ≡ sheetReadOf (thenFitting (good h)) ⌝ }
+{
+    let made = made::make(h);
+    if made.fits {
+        return SheetRead {
+            verdict: Verdict::Accepted,
+            sheet: h,
+        };
+    }
+    refused(refusals::bad_result(made.place))
+}
+
+// A sheet's file, judged in order: number, place and step of the first fault, or the sheet.
+pub fn read_sheet(s: &[u8]) -> SheetRead
+    ensures { λ r. ⌜ r ≡ sheetRead (now (s .entry)) ⌝ }
+{
+    let read = read_values(s);
+    let verdict = read.verdict;
+    match verdict {
+        Verdict::Refused(e) => refused(e),
+        Verdict::Accepted => {
+            let h = read.sheet;
+            fitted(h)
+        }
+    }
+}
+
+// The file that the values would be, as far as there is room; the place behind it. Where n is out of range the header says it all.
+fn put_sheet(h: Sheet, buf: &mut [u8]) -> usize
+    ensures { λ r. ⌜ Put (now (buf .entry)) 0 (draftBytes h) r (now (buf .exit)) ⌝ }
+{
+    let n = h.n;
+    let rlo = h.rlo;
+    let rhi = h.rhi;
+    let slo = h.slo;
+    let shi = h.shi;
+    let wlo = h.wlo;
+    let whi = h.whi;
+    let b = Beginning {
+        n,
+        m: h.r,
+        q: h.q,
+        k: h.k,
+        d: h.d,
+        rlo,
+        rhi,
+        slo,
+        shi,
+        wlo,
+        whi,
+    };
+    let past = beginnings::put_beginning(buf, b);
+    if 4 < n {
+        return past;
+    }
+    let past_time = floats::put_float(buf, past, h.time);
+    let past_outside = floats::put_float(buf, past_time, h.outside);
+    let rooms = h.rooms;
+    rooms::put_rooms(buf, past_outside, n, rooms)
+}
+
+// A sheet as values, judged as the file it would be, then 10. Finished, only the file's bytes are changed; refused, the buffer is all zeros.
+pub fn write_sheet(h: Sheet, buf: &mut [u8]) -> Written
+    ensures answer { λ r. ⌜ r ≡ sheetLeft h (now (buf .entry)) .answer ⌝ }
+    ensures bytes { λ r. ⌜ now (buf .exit) ≡ sheetLeft h (now (buf .entry)) .buffer ⌝ }
+{
+    let mut draft = [0u8; 512];
+    let drafted = put_sheet(h, &mut draft);
+    let read = read_sheet(&draft[..drafted]);
+    let verdict = read.verdict;
+    match verdict {
+        Verdict::Refused(e) => {
+            buffers::clear(buf);
+            Written::Refused(e)
+        }
+        Verdict::Accepted => {
+            let length = put_sheet(h, buf);
+            if buf.len() < length {
+                buffers::clear(buf);
+                return Written::Refused(files::refusals::short());
+            }
+            Written::Length(length)
+        }
+    }
+}
+
+// The plant file of a sheet's file, judged as the sheet, then 10. Finished, only the file's bytes are changed; refused, the buffer is all zeros.
+pub fn make_plant(sheet: &[u8], buf: &mut [u8]) -> Written
+    ensures answer { λ r. ⌜ r ≡ madeLeft (now (sheet .entry)) (now (buf .entry)) .answer ⌝ }
+    ensures bytes { λ r. ⌜ now (buf .exit) ≡ madeLeft (now (sheet .entry)) (now (buf .entry)) .buffer ⌝ }
+{
+    let read = read_values(sheet);
+    let verdict = read.verdict;
+    match verdict {
+        Verdict::Refused(e) => {
+            buffers::clear(buf);
+            Written::Refused(e)
+        }
+        Verdict::Accepted => {
+            let made = made::make(read.sheet);
+            if made.fits {
+                let plant = made.plant;
+                return plants::write_plant(plant, buf);
+            }
+            buffers::clear(buf);
+            Written::Refused(refusals::bad_result(made.place))
+        }
+    }
+}

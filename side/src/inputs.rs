@@ -1,0 +1,347 @@
+//! The inputs of every test here: seeded plants, sheets and tables, each number
+//! of a file spoiled with the refusal that document 01 tells of it, and files
+//! cut and damaged. HOACHULIM_SEED gives another seed, HOACHULIM_ROUNDS a
+//! factor for longer runs.
+
+use crate::common::{encode, field_bytes, file, with, Field, Random, Raw, F, S, U};
+use crate::Told;
+use second::boxes::Box;
+use second::plant::Plant;
+use second::tile::tile_rule;
+
+fn from_environment(name: &str, otherwise: u64) -> u64 {
+    std::env::var(name).map_or(otherwise, |value| value.parse().expect("a whole number"))
+}
+
+/// The seeded generator, another for each test.
+pub fn random(test: u64) -> Random {
+    Random(from_environment("HOACHULIM_SEED", 20_261_115).wrapping_add(test << 32))
+}
+
+/// So many rounds, times the factor.
+pub fn rounds(usual: usize) -> usize {
+    usual * from_environment("HOACHULIM_ROUNDS", 1) as usize
+}
+
+pub const EDGE: i64 = 1_000_000;
+pub const BAND: i64 = 1_000_000_000;
+pub const A: i64 = 20_000;
+pub const B: i64 = 10_000_000_000;
+
+impl Random {
+    pub fn chance(&mut self, one_in: i64) -> bool {
+        self.within(1, one_in) == 1
+    }
+
+    pub fn one<T: Copy>(&mut self, of: &[T]) -> T {
+        of[self.within(0, of.len() as i64 - 1) as usize]
+    }
+
+    /// In lo ..= hi, or now and then one of the ends of the whole range.
+    fn extreme(&mut self, wild: bool, lo: i64, hi: i64, limit: i64) -> i64 {
+        if wild && self.chance(3) { self.one(&[-limit, limit, limit - 1]) } else { self.within(lo, hi) }
+    }
+}
+
+/// R, S and the bands of n rooms, sound; wild ones reach the ends of the ranges.
+fn edges(random: &mut Random, wild: bool, n: i64, q: i64) -> Vec<Field> {
+    let mut fields = Vec::new();
+    for _ in 0..n {
+        let lo = random.extreme(wild, -40, 40, EDGE).min(EDGE - 40);
+        let hi = lo + random.within(0, 40);
+        let s_lo = if wild && random.chance(3) { -EDGE } else { (lo - random.within(0, 30)).max(-EDGE) };
+        let s_hi = if wild && random.chance(3) { EDGE } else { (hi + random.within(0, 30)).min(EDGE) };
+        fields.extend([lo, hi, s_lo, s_hi].map(S));
+    }
+    for _ in 0..n {
+        let lo = random.extreme(wild, -20, 20, BAND).min(BAND - q - 12);
+        let hi = if wild && random.chance(3) { BAND } else { lo + q - 1 + random.within(0, 12) };
+        fields.extend([lo, hi].map(S));
+    }
+    fields
+}
+
+/// A sound plant of 1 to 4 rooms. Half of them are steered: each mode draws towards a point in or about R, so that many have a table.
+pub fn plant_fields(random: &mut Random) -> Vec<Field> {
+    let (wild, steered) = (random.chance(8), random.chance(2));
+    let (n, q) = (random.within(1, 4), if wild { random.one(&[1, 2, 10_000]) } else { random.within(1, 20) });
+    let modes = if random.chance(20) { 16 } else { random.within(1, 4) };
+    let k = random.within(1, if modes == 16 { 2 } else { 7 - modes });
+    let deep = random.chance(4);
+    let d = random.within(0, if deep { 6.min(12 / n) } else { 2 });
+    let mut fields = vec![U(1), U(n as u64), U(modes as u64), U(q as u64), U(k as u64), U(d as u64)];
+    fields.extend(edges(random, wild, n, q));
+    for _ in 0..modes {
+        let r = fields[6..6 + 4 * n as usize].chunks(4).map(|room| (signed(&room[0]), signed(&room[1])));
+        let towards: Vec<i64> = r.map(|(lo, hi)| random.within(lo - 3, hi + 3)).collect();
+        for i in 0..n {
+            let mut row: Vec<i64> = (0..n).map(|_| random.extreme(wild, -2, 2, A)).collect();
+            let mut b = random.extreme(wild, -40, 40, B);
+            if steered {
+                row[i as usize] = random.within(0, q);
+                b = (q * towards[i as usize] - row.iter().zip(&towards).map(|(a, x)| a * x).sum::<i64>()).clamp(-B, B);
+            }
+            fields.extend(row.into_iter().chain([b]).map(S));
+        }
+    }
+    fields
+}
+
+/// A float whose product with `factor` lies within a few ulps of a half, often of the one behind the limit.
+fn near_half(random: &mut Random, factor: i64, limit: i64) -> f64 {
+    let any = random.within(0, limit);
+    let whole = random.one(&[0, 1, limit - 1, limit, any, any]);
+    let near = (whole as f64 + 0.5) / factor as f64;
+    f64::from_bits((near.to_bits() as i64 + random.within(-3, 3)) as u64)
+}
+
+/// A loss, an exchange or a p, never below 0: small ones, those that make time·amount a near half, and strange ones.
+fn amount(random: &mut Random, q: i64, time: f64) -> f64 {
+    match random.within(0, 19) {
+        0 | 1 => finite(near_half(random, q, A) / time),
+        2 => 1.0,
+        3 => random.one(&[-0.0, 5e-324, 1e-310, f64::MIN_POSITIVE, 1e-200, 1e200, f64::MAX]),
+        4 | 5 => 0.0,
+        _ => random.within(0, 1_000) as f64 / 3_000.0,
+    }
+}
+
+/// A temperature or a rate: usual ones, those that make offset + scale·degrees a near half, and strange ones.
+fn degrees(random: &mut Random, factor: i64, offset: f64, scale: f64) -> f64 {
+    let sign = random.one(&[1.0, -1.0]);
+    match random.within(0, 9) {
+        0..=2 => finite((sign * near_half(random, factor, B) - offset) / scale),
+        3 => sign * random.one(&[0.0, 5e-324, 1e-310, 1e200, f64::MAX]),
+        4 => sign * 0.0,
+        _ => sign * random.within(0, 600) as f64 / 10.0,
+    }
+}
+
+fn finite(float: f64) -> f64 {
+    if float.is_finite() { float } else { 0.0 }
+}
+
+/// A room's loss and exchanges; often the diagonal, 1 − time·(loss + exchanges), is a near half.
+fn room(random: &mut Random, n: i64, q: i64, time: f64) -> Vec<f64> {
+    let mut amounts: Vec<f64> = (0..n).map(|_| amount(random, q, time)).collect();
+    if random.chance(4) {
+        let sign = random.one(&[1.0, -1.0]);
+        let exchanges: f64 = amounts[1..].iter().sum();
+        amounts[0] = finite((1.0 + sign * near_half(random, q, A)) / time - exchanges).abs();
+    }
+    amounts
+}
+
+/// A sheet of 1 to 4 rooms whose numbers and floats are all in order; its plant may be out of range.
+pub fn sheet_fields(random: &mut Random) -> Vec<Field> {
+    let wild = random.chance(8);
+    let n = random.within(1, 4);
+    let (r, q) = (random.one(&[1, 3, 10, 100, 1_000]), random.one(&[1, 2, 3, 7, 1_024, 9_999, 10_000]));
+    let depth = random.within(0, 3) as u64;
+    let mut fields = vec![U(1), U(n as u64), U(r as u64), U(q as u64), U(random.within(1, 6) as u64), U(depth)];
+    fields.extend(edges(random, wild, n, q));
+    if random.chance(4) {
+        // an end of a band that its widening leaves just inside or just outside the range
+        let at = (6 + 4 * n + 2 * random.within(0, n - 1)) as usize;
+        let last = (BAND - (n * largest_edge(&fields) + 2) / 2 + random.within(-1, 2)).min(BAND);
+        let pair = random.one(&[[-last, 0], [-q, last]]);
+        fields[at..at + 2].clone_from_slice(&pair.map(S));
+    }
+    let time = if wild { random.one(&[5e-324, 1e100]) } else { random.one(&[1.0, 1.0, 0.5, 5.0, 0.1, 0.7, 3.3]) };
+    let rooms: Vec<Vec<f64>> = (0..n).map(|_| room(random, n, q, time)).collect();
+    let outside = degrees(random, q * r, 0.0, time * rooms[0][0]);
+    fields.extend([F(time), F(outside)]);
+    for amounts in rooms {
+        let offset = time * (amounts[0] * outside);
+        fields.extend(amounts.into_iter().map(F));
+        match random.within(0, 2) {
+            0 => fields.push(U(0)),
+            1 => {
+                let p = amount(random, q, time);
+                fields.extend([U(1), F(p), F(degrees(random, q * r, offset, time * p))]);
+            }
+            _ => fields.extend([U(2), F(degrees(random, q * r, offset, time))]),
+        }
+    }
+    fields
+}
+
+fn rooms(fields: &[Field]) -> usize {
+    let U(n) = fields[1] else { panic!("no n") };
+    n as usize
+}
+
+fn signed(field: &Field) -> i64 {
+    let S(value) = field else { panic!("{field:?} is no signed number") };
+    *value
+}
+
+/// M, the largest absolute edge of S.
+fn largest_edge(fields: &[Field]) -> i64 {
+    let of_s = fields[6..6 + 4 * rooms(fields)].chunks(4).flat_map(|room| &room[2..]);
+    of_s.map(|edge| signed(edge).abs()).max().unwrap_or(0)
+}
+
+/// The least and the greatest that may stand at a number of a plant or a sheet; None for a float.
+fn range(fields: &[Field], at: usize) -> Option<(i64, i64)> {
+    let n = rooms(fields);
+    let sheet = fields.iter().any(|field| matches!(field, F(_)));
+    let of_pair = |limit: i64| (if at % 2 == 0 { -limit } else { signed(&fields[at - 1]) }, limit);
+    Some(match at {
+        _ if matches!(fields[at], F(_)) => return None,
+        0 => (1, 1),
+        1 => (1, 4),
+        2 => (1, if sheet { 1_000 } else { 16 }),
+        3 => (1, 10_000),
+        4 => (1, 6),
+        5 => (0, 6.min(12 / n as i64)),
+        _ if at < 6 + 4 * n => of_pair(EDGE),
+        _ if at < 6 + 6 * n => of_pair(BAND),
+        _ if sheet => (0, 2),
+        _ if (at - 6 - 6 * n) % (n + 1) == n => (-B, B),
+        _ => (-A, A),
+    })
+}
+
+/// Whether a sheet's float may be below 0: outside and water temperature, and a rate.
+fn any_sign(fields: &[Field], at: usize) -> bool {
+    let first_room = 8 + 6 * rooms(fields);
+    at + 1 == first_room || at > first_room && (matches!(fields[at - 1], U(2)) || matches!(fields[at - 2], U(1)))
+}
+
+/// What must not stand at a number of a file, with the number that tells of it.
+fn wrong(fields: &[Field], at: usize) -> Vec<(Field, u8)> {
+    let Some((least, greatest)) = range(fields, at) else {
+        let mut floats = vec![f64::NAN, f64::INFINITY, -f64::INFINITY, f64::from_bits(0xFFF0_0000_0000_0001)];
+        if !any_sign(fields, at) {
+            floats.extend([-1.0, -5e-324, -f64::MAX]);
+        }
+        if at == 6 + 6 * rooms(fields) {
+            floats.extend([0.0, -0.0]);
+        }
+        return floats.into_iter().map(|float| (F(float), 13)).collect();
+    };
+    let mut longer = field_bytes(&fields[at]);
+    *longer.last_mut().unwrap() |= 0x80;
+    longer.push(0);
+    let mut fields_at = vec![(Raw(longer), 1), (Raw(vec![0x80, 0x80, 0x80, 0x80, 0x80, 1]), 1), (Raw(vec![0xFF; 5]), 1)];
+    let unfit = if at == 0 { 2 } else { 3 };
+    for value in [least - 1, greatest + 1, (1 << 32) + greatest, (1 << 34) - 1] {
+        match fields[at] {
+            U(_) if value < 0 => {}
+            U(_) => fields_at.push((U(value as u64), unfit)),
+            _ => fields_at.push((S(value), unfit)),
+        }
+    }
+    fields_at
+}
+
+/// A plant or a sheet in order, with each of its numbers made wrong in every way and each dimension's 4 and 5, and what is told of each.
+pub fn spoiled(fields: &[Field]) -> Vec<(Vec<u8>, Told)> {
+    let (bytes, places) = encode(fields);
+    let mut all = Vec::new();
+    for (at, place) in places[..fields.len()].iter().enumerate() {
+        for (field, number) in wrong(fields, at) {
+            all.push((file(&with(fields, at, field)), (number, *place, 0)));
+        }
+    }
+    for behind in [0, 1, 0x80] {
+        all.push(([&bytes[..], &[behind]].concat(), (3, bytes.len() as u64, 0)));
+    }
+    let (n, U(q)) = (rooms(fields), &fields[3]) else { panic!("no q") };
+    for i in 0..n {
+        let (r, w) = (6 + 4 * i, 6 + 4 * n + 2 * i);
+        if signed(&fields[r + 2]) > -EDGE {
+            all.push((file(&with(fields, r, S(signed(&fields[r + 2]) - 1))), (4, i as u64, 0)));
+        }
+        if signed(&fields[r + 3]) < EDGE {
+            all.push((file(&with(fields, r + 1, S(signed(&fields[r + 3]) + 1))), (4, i as u64, 0)));
+        }
+        if *q > 1 {
+            all.push((file(&with(fields, w + 1, S(signed(&fields[w]) + *q as i64 - 2))), (5, i as u64, 0)));
+        }
+    }
+    all
+}
+
+/// Every cut, every byte changed in a few ways, and bytes behind; of a long file some three hundred places.
+pub fn damaged(random: &mut Random, bytes: &[u8], mut one: impl FnMut(&[u8])) {
+    for at in (0..bytes.len()).step_by(bytes.len() / 300 + 1) {
+        one(&bytes[..at]);
+        for change in [1, 2, 6, 0x7F, 0x80, 0xFF, random.within(1, 255) as u8] {
+            let mut other = bytes.to_vec();
+            other[at] ^= change;
+            one(&other);
+        }
+    }
+    for behind in [0, 1, 0x80] {
+        one(&[bytes, &[behind]].concat());
+    }
+}
+
+/// The defined table, where the plant has one.
+pub fn made_table(plant: &[u8]) -> Option<Vec<u8>> {
+    let mut table = vec![0; second::LARGEST_TABLE];
+    let length = second::maker::make(plant, &mut table).ok()?;
+    table.truncate(length);
+    Some(table)
+}
+
+/// Bytes that are often splits, short tiles and modes.
+pub fn any_tree(random: &mut Random, n: u8) -> Vec<u8> {
+    let mut table = vec![1, n];
+    table.extend((0..random.within(1, 60)).map(|_| random.within(0, 3) as u8));
+    table
+}
+
+/// A table that keeps every rule, with whatever patterns and splits chance tries first; None where it does not come upon one.
+pub fn other_table(random: &mut Random, plant: &Plant) -> Option<Vec<u8>> {
+    let mut table = vec![1, plant.n as u8];
+    grown(random, plant, &plant.r(), plant.d, &mut table).then_some(table)
+}
+
+fn grown(random: &mut Random, plant: &Plant, here: &Box, depth_left: u64, table: &mut Vec<u8>) -> bool {
+    let split = if depth_left > 0 { here.split() } else { None };
+    if split.is_none() || !random.chance(3) {
+        for _ in 0..40 {
+            let length = random.within(1, plant.k as i64);
+            let pattern: Vec<u8> = (0..length).map(|_| random.within(0, plant.modes as i64 - 1) as u8).collect();
+            if tile_rule(plant, here, &pattern, 0).is_ok() {
+                table.push(length as u8);
+                table.extend(pattern);
+                return true;
+            }
+        }
+    }
+    let Some(mut children) = split else { return false };
+    table.push(0);
+    children.all(|child| grown(random, plant, &child, depth_left - 1, table))
+}
+
+/// A reading at, beside or between the edges of R and S, now and then as far off as can be.
+pub fn any_reading(random: &mut Random, plant: &Plant) -> [i64; 4] {
+    let e = &plant.edges;
+    let far = random.chance(10);
+    std::array::from_fn(|i| {
+        let side = random.one(&[(e.r_lo[i], e.r_hi[i]), (e.r_lo[i], e.r_hi[i]), (e.s_lo[i], e.s_hi[i])]);
+        match random.within(0, 9) {
+            0 if far => random.one(&[i64::MIN, i64::MAX, 1 << 32, -1 << 32]),
+            0 => side.0 - random.within(0, 1),
+            1 => side.1 + random.within(0, 1),
+            2 => side.0,
+            3 => side.1,
+            _ => random.within(side.0, side.1),
+        }
+    })
+}
+
+/// Idle, a state that may be, or one that cannot: place and left.
+pub fn any_state(random: &mut Random, table: &[u8]) -> (u64, u64) {
+    let left = random.within(0, 7) as u64;
+    match random.within(0, 9) {
+        0 => (u64::MAX - random.within(0, 7) as u64, left),
+        1 => (2, random.one(&[u64::MAX, 1 << 32, left])),
+        2..=5 => (random.within(0, table.len() as i64 + 1) as u64, left),
+        _ => (0, 0),
+    }
+}

@@ -1,0 +1,97 @@
+//! The comparing functions, one for each exported function: the library's
+//! answer and every lent byte against the second program's. What was compared
+//! is counted, by function and by number.
+
+use crate::common::{marked, told};
+use crate::Told;
+use second::control::State;
+use second::refusal::Refusal;
+
+/// How often each number came, 0 for done.
+pub type Numbers = [usize; 15];
+
+#[derive(Default, Debug)]
+pub struct Seen {
+    pub plant: Numbers,
+    pub sheet: Numbers,
+    pub make: Numbers,
+    pub check: Numbers,
+    pub control: Numbers,
+}
+
+/// Bytes behind a lent buffer, which no write may change.
+const BEHIND: usize = 16;
+
+/// Both writers on marked buffers of one length.
+fn written(
+    input: &[u8],
+    length: usize,
+    ours: fn(&[u8], &mut [u8]) -> Told,
+    theirs: fn(&[u8], &mut [u8]) -> Result<usize, Refusal>,
+) -> Told {
+    let (mut left, mut wanted) = (marked(length + BEHIND), marked(length + BEHIND));
+    let answer = ours(input, &mut left[..length]);
+    let expected = match theirs(input, &mut wanted[..length]) {
+        Ok(written) => (0, written as u64, 0),
+        refused => told(refused),
+    };
+    assert_eq!(answer, expected, "{input:?}, a buffer of {length}");
+    assert!(left == wanted, "{input:?}, a buffer of {length}: other bytes");
+    answer
+}
+
+impl Seen {
+    pub fn plant(&mut self, plant: &[u8]) -> Told {
+        let answer = crate::plant(plant);
+        assert_eq!(answer, told(second::plant::read_plant(plant)), "plant {plant:?}");
+        self.plant[usize::from(answer.0)] += 1;
+        answer
+    }
+
+    pub fn sheet(&mut self, sheet: &[u8], length: usize) -> Told {
+        let answer = written(sheet, length, crate::sheet, second::sheet::sheet_to_plant);
+        self.sheet[usize::from(answer.0)] += 1;
+        answer
+    }
+
+    pub fn make(&mut self, plant: &[u8], length: usize) -> Told {
+        let answer = written(plant, length, crate::make, second::maker::make);
+        self.make[usize::from(answer.0)] += 1;
+        answer
+    }
+
+    pub fn check(&mut self, plant: &[u8], table: &[u8]) -> Told {
+        let answer = crate::check(plant, table);
+        assert_eq!(answer, told(second::checker::check(plant, table)), "check {plant:?} {table:?}");
+        self.check[usize::from(answer.0)] += 1;
+        answer
+    }
+
+    /// The second program's answer is taken as the face shows it.
+    pub fn control(&mut self, plant: &[u8], table: &[u8], place: u64, left: u64, x: [i64; 4]) -> (u8, [u64; 4]) {
+        let answer = crate::control(plant, table, place, left, x);
+        let shown = match second::control::control(plant, table, State { place, left }, x) {
+            Ok((mode, state)) => (mode, [0, 0, state.place, state.left]),
+            Err(refusal) => (255, [refusal.number.into(), refusal.place, 0, 0]),
+        };
+        assert_eq!(answer, shown, "control {plant:?} {table:?} {place} {left} {x:?}");
+        self.control[answer.1[0] as usize] += 1;
+        answer
+    }
+
+    /// Each function with how often each number came.
+    pub fn functions(&self) -> [(&'static str, &Numbers); 5] {
+        [
+            ("plant", &self.plant),
+            ("sheet", &self.sheet),
+            ("make", &self.make),
+            ("check", &self.check),
+            ("control", &self.control),
+        ]
+    }
+
+    /// How many comparisons were made.
+    pub fn total(&self) -> usize {
+        self.functions().iter().map(|(_, numbers)| numbers.iter().sum::<usize>()).sum()
+    }
+}

@@ -1,0 +1,112 @@
+//! Demand 3, run: an accepted table drives a plant whose next reading is the
+//! lowest, the highest, one by turns or any that equation and band allow. No
+//! call is refused, every reading lies in S, and from each reading at which a
+//! tile is chosen the plant is back in R, the controller idle, within as many
+//! samples as the table's longest pattern.
+
+use second::plant::{read_plant, Plant};
+use side::common::{file, p_fields, p_prime, Random};
+use side::inputs::{other_table, plant_fields, random, rounds};
+use side::{check, control, largest_table_plant, make};
+
+#[derive(Clone, Copy)]
+enum Next {
+    Lowest,
+    Highest,
+    ByTurns,
+    Any,
+}
+
+/// A reading that may follow, by q·y − (A·x + b) in w lo .. w hi.
+fn following(random: &mut Random, next: Next, sample: usize, plant: &Plant, mode: u8, x: &[i64; 4]) -> [i64; 4] {
+    let (n, q) = (plant.n as usize, plant.q as i64);
+    let mut y = [0; 4];
+    for i in 0..n {
+        let row = plant.row(mode.into(), i);
+        let sum = row[n] + (0..n).map(|j| row[j] * x[j]).sum::<i64>();
+        let (least, greatest) = (sum + plant.edges.w_lo[i], sum + plant.edges.w_hi[i]);
+        let lo = least.div_euclid(q) + i64::from(least.rem_euclid(q) > 0);
+        let hi = greatest.div_euclid(q);
+        y[i] = match next {
+            Next::Lowest => lo,
+            Next::Highest => hi,
+            Next::ByTurns if (sample + i) % 2 == 0 => lo,
+            Next::ByTurns => hi,
+            Next::Any => random.within(lo, hi),
+        };
+    }
+    y
+}
+
+/// A node and its modes are one byte each, so tiles and splits stand in a row.
+fn longest_pattern(table: &[u8]) -> usize {
+    let (mut at, mut longest) = (2, 0);
+    while at < table.len() {
+        longest = longest.max(table[at].into());
+        at += 1 + usize::from(table[at]);
+    }
+    longest
+}
+
+/// One run from a reading in R.
+fn run(random: &mut Random, next: Next, samples: usize, bytes: &[u8], table: &[u8], mut x: [i64; 4]) {
+    let plant = read_plant(bytes).unwrap();
+    let longest = longest_pattern(table);
+    let (mut place, mut left, mut since_idle) = (0, 0, 0);
+    for sample in 0..samples {
+        assert!(plant.s().contains(&x), "{x:?} outside S: {bytes:?} {table:?}");
+        if (place, left) == (0, 0) {
+            assert!(plant.r().contains(&x), "{x:?} outside R: {bytes:?} {table:?}");
+            since_idle = 0;
+        }
+        let (mode, out) = control(bytes, table, place, left, x);
+        assert!(mode != 255 && out[..2] == [0, 0], "refused {out:?} at {x:?}: {bytes:?} {table:?}");
+        since_idle += 1;
+        assert!(since_idle <= longest, "{since_idle} samples: {bytes:?} {table:?}");
+        (place, left) = (out[2], out[3]);
+        x = following(random, next, sample, &plant, mode, &x);
+    }
+}
+
+/// Runs of every kind from the corners of R and from any reading in it; how many samples.
+fn runs(random: &mut Random, bytes: &[u8], table: &[u8]) -> usize {
+    assert_eq!(check(bytes, table), (0, 0, 0), "{bytes:?} {table:?}");
+    let plant = read_plant(bytes).unwrap();
+    let (lo, hi) = (plant.edges.r_lo, plant.edges.r_hi);
+    for next in [Next::Lowest, Next::Highest, Next::ByTurns, Next::Any] {
+        let any = std::array::from_fn(|i| random.within(lo[i], hi[i]));
+        for first in [lo, hi, any] {
+            run(random, next, 50, bytes, table, first);
+        }
+    }
+    4 * 3 * 50
+}
+
+/// The table that the library makes.
+fn made(bytes: &[u8]) -> Option<Vec<u8>> {
+    let mut table = vec![0; second::LARGEST_TABLE];
+    let (number, length, _) = make(bytes, &mut table);
+    table.truncate(length as usize);
+    (number == 0).then_some(table)
+}
+
+#[test]
+fn accepted_tables_keep_their_promise() {
+    let mut random = random(8);
+    let mut plants = vec![file(&p_fields()), p_prime(), include_bytes!("../../samples/house.plant").to_vec(), largest_table_plant()];
+    plants.extend((0..rounds(2_000)).map(|_| file(&plant_fields(&mut random))));
+    let (mut samples, mut tables, mut others, mut longer) = (0, 0, 0, 0);
+    for bytes in plants {
+        let made = made(&bytes);
+        let other = other_table(&mut random, &read_plant(&bytes).unwrap()).filter(|other| Some(other) != made.as_ref());
+        others += usize::from(other.is_some());
+        let lengths = [&made, &other].map(|table| table.as_ref().map_or(0, |table| longest_pattern(table)));
+        longer += usize::from(lengths[0] < lengths[1]);
+        for table in [made, other].into_iter().flatten() {
+            tables += 1;
+            samples += runs(&mut random, &bytes, &table);
+        }
+    }
+    println!("{samples} samples by {tables} tables, {others} of them not the made one, {longer} with a longer pattern");
+    assert!(samples >= 100_000 && others > 30 && longer > 10, "{samples} {others} {longer}");
+}
