@@ -3,7 +3,7 @@
 //! says that the proved library is the faster.
 
 use second::control::State;
-use side::{check, common, control, four_rooms_without_a_table, largest_table_plant, make, plant};
+use side::{check, common, control, four_rooms_without_a_table, largest_table_plant, make, plant, sheet};
 use std::hint::black_box;
 use std::time::Instant;
 
@@ -83,6 +83,21 @@ fn main() {
         || {
             let running = State { place: 30_034, left: 5 };
             black_box(second::control::control(black_box(&bytes), black_box(&table), running, last)).unwrap();
+        },
+    );
+    let house = &include_bytes!("../../../samples/house.sheet")[..];
+    let (mut ours, mut theirs) = (vec![0; second::LARGEST_PLANT], vec![0; second::LARGEST_PLANT]);
+    assert_eq!(sheet(house, &mut ours).0, 0);
+    assert!(second::sheet::sheet_to_plant(house, &mut theirs).is_ok());
+    assert_eq!(ours, theirs);
+    compare(
+        "sheet, the sample house's plant",
+        1000,
+        || {
+            black_box(sheet(black_box(house), black_box(&mut ours)));
+        },
+        || {
+            black_box(second::sheet::sheet_to_plant(black_box(house), black_box(&mut theirs))).unwrap();
         },
     );
     compare(

@@ -1,0 +1,167 @@
+// The listing (document 01, "The listing program"): the table of a plant, a line for each tile in file order. Relies on crate tables for the table,
+// on boxes for the tiles' boxes. Leaves out whether a table is right: it lists what the maker made.
+// The tree is walked twice: the header tells how many tiles there are before the first is told.
+use crate::boxes;
+use crate::boxes::Bx;
+use desk::tellings;
+use figures::texts;
+use files::numbers;
+use files::plants;
+use meaning::Number;
+use meaning::Plant;
+use meaning::Written;
+use tables::makes;
+
+// How far a walk has come: the place in the table, the tiles passed, their longest pattern.
+struct Tally {
+    place: usize,
+    tiles: usize,
+    longest: usize,
+}
+
+// A blank and a number.
+fn put_number(line: &mut [u8], at: usize, v: usize) -> usize {
+    let past_blank = texts::put_byte(line, at, b' ');
+    texts::put_decimal(line, past_blank, v)
+}
+
+// Lo and hi of a side, each with a blank behind it.
+fn put_side(line: &mut [u8], at: usize, lo: i64, hi: i64) -> usize {
+    let past_lo = texts::put_signed(line, at, lo);
+    let past_blank = texts::put_byte(line, past_lo, b' ');
+    let past_hi = texts::put_signed(line, past_blank, hi);
+    texts::put_byte(line, past_hi, b' ')
+}
+
+// The sides of a box, one behind another from the line's start on.
+fn put_sides(line: &mut [u8], n: usize, b: Bx) -> usize {
+    let most = boxes::sides(n);
+    let mut at: usize = 0;
+    let mut j: usize = 0;
+    while j < most {
+        let lo = b.lo[j];
+        let hi = b.hi[j];
+        at = put_side(line, at, lo, hi);
+        j += 1;
+    }
+    at
+}
+
+// The place behind k modes, and the line with each of them behind a blank.
+struct Modes {
+    place: usize,
+    at: usize,
+}
+
+fn put_modes(line: &mut [u8], from: usize, table: &[u8], place: usize, k: usize) -> Modes {
+    let mut at = from;
+    let mut next = place;
+    let mut left = k;
+    while 0 < left {
+        let Number::Value(u, m) = numbers::number(table, next) else {
+            return Modes { place: next, at };
+        };
+        at = put_number(line, at, u);
+        next = m;
+        left -= 1;
+    }
+    Modes { place: next, at }
+}
+
+// The larger of two.
+fn larger(a: usize, b: usize) -> usize {
+    if a < b { b } else { a }
+}
+
+// The line of a tile of k modes at `place`, where it is shown; the place behind the tile.
+fn tile_line(shown: bool, n: usize, table: &[u8], place: usize, k: usize, b: Bx) -> usize {
+    let mut room = [0u8; 128];
+    let line: &mut [u8] = &mut room;
+    let past_sides = put_sides(line, n, b);
+    let past_colon = texts::put_byte(line, past_sides, b':');
+    let modes = put_modes(line, past_colon, table, place, k);
+    let end = texts::put_byte(line, modes.at, b'\n');
+    if shown {
+        tellings::show(line, end);
+    }
+    modes.place
+}
+
+// A tile of k modes at `place`.
+fn tile(shown: bool, n: usize, table: &[u8], place: usize, k: usize, b: Bx, t: Tally) -> Tally {
+    Tally {
+        place: tile_line(shown, n, table, place, k, b),
+        tiles: std::num::wrapping_add_usize(t.tiles, 1),
+        longest: larger(t.longest, k),
+    }
+}
+
+// The tree at the tally's place, over box b with depth d left.
+fn tree(shown: bool, n: usize, table: &[u8], d: usize, b: Bx, t: Tally) -> Tally {
+    let Number::Value(k, next) = numbers::number(table, t.place) else {
+        return t;
+    };
+    if 0 < k {
+        return tile(shown, n, table, next, k, b, t);
+    }
+    if d == 0 {
+        return t;
+    }
+    let count = boxes::count(n, b);
+    let mut past = Tally {
+        place: next,
+        tiles: t.tiles,
+        longest: t.longest,
+    };
+    let mut c: usize = 0;
+    while c < count {
+        let kid = boxes::child(n, b, c);
+        past = tree(shown, n, table, d - 1, kid, past);
+        c += 1;
+    }
+    past
+}
+
+// The header: n, tiles, longest pattern.
+fn show_header(n: usize, t: Tally) {
+    let mut room = [0u8; 80];
+    let line: &mut [u8] = &mut room;
+    let past_word = texts::put(line, 0, b"table");
+    let past_n = put_number(line, past_word, n);
+    let past_tiles = put_number(line, past_n, t.tiles);
+    let past_longest = put_number(line, past_tiles, t.longest);
+    let end = texts::put_byte(line, past_longest, b'\n');
+    tellings::show(line, end);
+}
+
+// The first `length` bytes of a table's buffer, made for that plant: the tree stands behind form and n, a byte each.
+fn show_table(p: Plant, buf: &[u8], length: usize) {
+    if buf.len() < length {
+        return;
+    }
+    let table = &buf[..length];
+    let lo = p.rlo;
+    let hi = p.rhi;
+    let root = Bx { lo, hi };
+    let start = Tally {
+        place: 2,
+        tiles: 0,
+        longest: 0,
+    };
+    show_header(p.n, tree(false, p.n, table, p.d, root, start));
+    tree(true, p.n, table, p.d, root, start);
+}
+
+// The listing of a plant's file, or its refusal.
+pub fn list(plant: &[u8]) {
+    let mut room = [0u8; 30039];
+    let table: &mut [u8] = &mut room;
+    match makes::make(plant, table) {
+        Written::Refused(e) => tellings::tell_place(e),
+        Written::Length(length) => {
+            let read = plants::read_plant(plant);
+            let p = read.plant;
+            show_table(p, table, length);
+        }
+    }
+}
