@@ -10,6 +10,7 @@ use figures::texts;
 use figures::words;
 use figures::words::Counted;
 use figures::words::Said;
+use files::numbers;
 use files::plants;
 use meaning::Answer;
 use meaning::Plant;
@@ -30,7 +31,7 @@ fn put_number(line: &mut [u8], at: usize, n: usize, j: usize, v: i64) -> usize {
         return at;
     }
     let past = texts::put_signed(line, at, v);
-    texts::put_byte(line, past, b' ')
+    numbers::put_byte(line, past, b' ')
 }
 
 // The first n numbers of a reading, at the start of a line.
@@ -48,11 +49,11 @@ fn show_sample(n: usize, x: [i64; 4], mode: usize, state: State) {
     let past_reading = put_reading(line, n, x);
     let past_colon = texts::put(line, past_reading, b": ");
     let past_mode = texts::put_decimal(line, past_colon, mode);
-    let past_blank = texts::put_byte(line, past_mode, b' ');
+    let past_blank = numbers::put_byte(line, past_mode, b' ');
     let past_place = texts::put_decimal(line, past_blank, state.place);
-    let past_blank = texts::put_byte(line, past_place, b' ');
+    let past_blank = numbers::put_byte(line, past_place, b' ');
     let past_left = texts::put_decimal(line, past_blank, state.left);
-    let end = texts::put_byte(line, past_left, b'\n');
+    let end = numbers::put_byte(line, past_left, b'\n');
     tellings::show(line, end);
 }
 

@@ -1,13 +1,13 @@
 -- Lines worked out by hand from document 01, where the second program has no answer to compare with or the paper states the answer itself:
--- what may follow, lines 10 and 12, a table with two faults, and the sheet's own equation with its floats taken exactly.
+-- what may follow, lines 10 and 12, a plant and a table with two faults, and the sheet's own equation with its floats taken exactly.
 use Prim.Native.Nat.{ℕ}
 use mathlib.Core.Path.{_≡_, refl}
 use mathlib.Core.Bool.{Bool, true, false}
-use mathlib.Core.List.{List, [], _∷_}
+use mathlib.Core.List.{List, [], _∷_, _++_}
 use lib.IntN.{ℤ, pos, negℤ}
 use Rattle.meaning.specs.declared.Verdict.{Verdict}
 use Rattle.meaning.specs.declared.Answer.{Answer}
-use Rattle.meaning.specs.Refusals.{broken, narrow, outside, leaves}
+use Rattle.meaning.specs.Refusals.{broken, unfit, narrow, outside, leaves}
 use Rattle.meaning.specs.Files.{fileOf}
 use Rattle.meaning.specs.Images.{follows}
 use Rattle.meaning.specs.Plants.{plantForm, plantOf, plantRead, stepOf}
@@ -41,6 +41,11 @@ line-10 = (refl, refl, refl, refl)
 line-12 : (plantRead [] .verdict ≡ Verdict.Refused (broken 0)) × (plantRead (fileOf plantForm (plantP 3)) .verdict ≡ Verdict.Refused (narrow 0))
 unfolding computing
 line-12 = (refl, refl)
+
+-- bytes left over are told before the narrow band
+leftover-first : plantRead (fileOf plantForm (plantP 3) ++ 0 ∷ []) .verdict ≡ Verdict.Refused (unfit 22)
+unfolding computing
+leftover-first = refl
 
 -- Images are tested where the tile stands: from 195..210 mode 0 leads to 185 and leaves S, which is told (7 at 3, step 1) before the node of 3
 -- modes behind it, one more than K (6 at 5).

@@ -1,20 +1,8 @@
-// Text in a lent buffer: bytes and decimal numbers, put one behind another. Relies on io for a number's digits. Leaves out who writes the buffer
-// out. A place stops at one past the buffer's end where there is not room for all, as in crate files.
-ghost use mathlib.Core.List.{[], _∷_};
+// Text in a lent buffer: texts and decimal numbers, put one behind another. Relies on crate files for a byte, on io for a number's digits. Leaves
+// out who writes the buffer out. A place stops at one past the buffer's end where there is not room for all, as in crate files.
+use files::numbers;
 ghost use Rattle.laws.specs.Writing.{Put};
 ghost use Rattle.figures.specs.Texts.{decimal, signedDecimal};
-
-// One byte at `at`, where there is room; the place behind it.
-pub fn put_byte(buf: &mut [u8], at: usize, b: u8) -> usize
-    ensures { λ r. ⌜ Put (now (buf .entry)) at (b ∷ []) r (now (buf .exit)) ⌝ }
-{
-    if at < buf.len() {
-        buf[at] = b;
-        at + 1
-    } else {
-        buf.len() + 1
-    }
-}
 
 // All of a text at `at`, as far as there is room; the place behind it.
 pub fn put(buf: &mut [u8], at: usize, text: &[u8]) -> usize
@@ -26,7 +14,7 @@ pub fn put(buf: &mut [u8], at: usize, text: &[u8]) -> usize
     }
     let mut i: usize = 0;
     while i < text.len() {
-        place = put_byte(buf, place, text[i]);
+        place = numbers::put_byte(buf, place, text[i]);
         i += 1;
     }
     place
@@ -48,6 +36,6 @@ pub fn put_signed(buf: &mut [u8], at: usize, v: i64) -> usize
     if 0 <= v {
         return put_decimal(buf, at, v as usize);
     }
-    let place = put_byte(buf, at, b'-');
+    let place = numbers::put_byte(buf, at, b'-');
     put_decimal(buf, place, (-1 - v) as usize + 1)
 }

@@ -21,16 +21,16 @@ struct Tally {
 
 // A blank and a number.
 fn put_number(line: &mut [u8], at: usize, v: usize) -> usize {
-    let past_blank = texts::put_byte(line, at, b' ');
+    let past_blank = numbers::put_byte(line, at, b' ');
     texts::put_decimal(line, past_blank, v)
 }
 
 // Lo and hi of a side, each with a blank behind it.
 fn put_side(line: &mut [u8], at: usize, lo: i64, hi: i64) -> usize {
     let past_lo = texts::put_signed(line, at, lo);
-    let past_blank = texts::put_byte(line, past_lo, b' ');
+    let past_blank = numbers::put_byte(line, past_lo, b' ');
     let past_hi = texts::put_signed(line, past_blank, hi);
-    texts::put_byte(line, past_hi, b' ')
+    numbers::put_byte(line, past_hi, b' ')
 }
 
 // The sides of a box, one behind another from the line's start on.
@@ -78,9 +78,9 @@ fn tile_line(shown: bool, n: usize, table: &[u8], place: usize, k: usize, b: Bx)
     let mut room = [0u8; 128];
     let line: &mut [u8] = &mut room;
     let past_sides = put_sides(line, n, b);
-    let past_colon = texts::put_byte(line, past_sides, b':');
+    let past_colon = numbers::put_byte(line, past_sides, b':');
     let modes = put_modes(line, past_colon, table, place, k);
-    let end = texts::put_byte(line, modes.at, b'\n');
+    let end = numbers::put_byte(line, modes.at, b'\n');
     if shown {
         tellings::show(line, end);
     }
@@ -130,7 +130,7 @@ fn show_header(n: usize, t: Tally) {
     let past_n = put_number(line, past_word, n);
     let past_tiles = put_number(line, past_n, t.tiles);
     let past_longest = put_number(line, past_tiles, t.longest);
-    let end = texts::put_byte(line, past_longest, b'\n');
+    let end = numbers::put_byte(line, past_longest, b'\n');
     tellings::show(line, end);
 }
 

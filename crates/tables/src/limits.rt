@@ -1,5 +1,5 @@
 // Limits: where the sums of a row have to lie for an image to lie in S or in R. With them the search tells both without dividing.
-// Relies on boxes and frames. Leaves out the sums themselves (images) and who tests them (search).
+// Relies on boxes and frames. Leaves out the sums themselves (images) and who tests them (steps).
 use crate::boxes::Bx;
 use crate::frames::Frame;
 ghost use mathlib.Core.Path.{_≡_};

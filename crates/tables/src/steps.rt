@@ -75,8 +75,7 @@ pub fn last(
     hi: &[i64; 4],
 ) -> usize
     requires { ⌜ (from ≤ to) × ((u : ℕ) → u < to → RowsSound n (now coef) u) × Small edgeLimit (sidesOf n (now lo) (now hi)) ⌝ }
-    ensures first { λ r. ⌜ oneOf to r ≡ firstMode (landing n (now (coef .entry)) (now (limits .entry)) (sidesOf n (now (lo .entry)) (now (hi .entry)))) (to - from) from ⌝ }
-    ensures least { λ r. ⌜ from ≤ r ⌝ }
+    ensures { λ r. ⌜ oneOf to r ≡ firstMode (landing n (now (coef .entry)) (now (limits .entry)) (sidesOf n (now (lo .entry)) (now (hi .entry)))) (to - from) from ⌝ }
 {
     let mut u = from;
     while u < to {

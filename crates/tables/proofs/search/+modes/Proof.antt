@@ -156,7 +156,7 @@ modes-returns t c =
     let z = c .before .before .if1 .taken in
     let h = c .if2 .taken in
     let l = few t s in (
-      λ x g. last-is (plant t s x) (now (s .args .limits)) g (box t s) (s .args .from) (s .args .to) (s .args .m) (c .before .last .result) l z (c .before .last .ensures .0) h,
+      λ x g. last-is (plant t s x) (now (s .args .limits)) g (box t s) (s .args .from) (s .args .to) (s .args .m) (c .before .last .result) l z (c .before .last .ensures) h,
       rw z (omega arith),
     )
 
@@ -164,7 +164,7 @@ modes-returns-2 : (t : ℕ) → modes-lts.Need-returns-2 (claims t) (modes-at t)
 modes-returns-2 t c =
     let s = c .before .before .before in
     let z = c .before .before .if1 .taken in
-    (λ x g. last-none (plant t s x) (now (s .args .limits)) g (box t s) (s .args .from) (s .args .to) (s .args .m) (c .before .last .result) (few t s) z (c .before .last .ensures .0) (c .if2 .left), omega arith)
+    (λ x g. last-none (plant t s x) (now (s .args .limits)) g (box t s) (s .args .from) (s .args .to) (s .args .m) (c .before .last .result) (few t s) z (c .before .last .ensures) (c .if2 .left), omega arith)
 
 modes-loop-holds : (t : ℕ) → modes-lts.Need-loop-holds (claims t) (modes-at t) modes.Post modes-Inv-loop modes-μ-loop
 modes-loop-holds t c = (c .before .pre .1 .1 .0, refl, refl, λ x g. refl)

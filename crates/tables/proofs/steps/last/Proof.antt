@@ -1,5 +1,5 @@
 -- `steps::last`: the modes that are left say what all of them say. Assumes nothing.
-use Prim.Native.Nat.{ℕ, _-_, _≤_}
+use Prim.Native.Nat.{ℕ, _-_}
 use mathlib.Core.Path.{_≡_, refl, sym, ap, _∙_}
 use mathlib.Core.Bool.{Bool, true, false}
 use mathlib.Core.List.{List, []}
@@ -18,7 +18,7 @@ use Rattle.tables.proofs.steps.last.Tie as tie
 
 abbrev Inv-loop : tie.InvT-loop
 Inv-loop n from to coef limits lo hi u₀ u =
-    (from ≤ u) × (u ≤ to) × (firstMode (landing n coef limits (sidesOf n lo hi)) (to - u) u ≡ firstMode (landing n coef limits (sidesOf n lo hi)) (to - from) from)
+    firstMode (landing n coef limits (sidesOf n lo hi)) (to - u) u ≡ firstMode (landing n coef limits (sidesOf n lo hi)) (to - from) from
 
 abbrev μ-loop : tie.MeasureT-loop
 μ-loop n from to coef limits lo hi u₀ u = to - u
@@ -37,7 +37,7 @@ missed : {t c : Bool} → t ≡ c → t ≡ false → behind c ≡ none
 missed e h = rw (sym e ∙ h) refl
 
 loop-holds : tie.Need-loop-holds Inv-loop μ-loop
-loop-holds c = (omega arith, c .pre .0, refl)
+loop-holds c = refl
 
 lands-requires : tie.Need-lands-requires Inv-loop μ-loop
 lands-requires c κs = (c .before .before .pre .1 (c .before .loop .u) (c .loop-test .taken), c .before .before .pre .2)
@@ -46,11 +46,9 @@ returns : tie.Need-returns Inv-loop μ-loop
 returns c =
     let t = c .before .before in
     let s = t .before .before in
-    let u = t .before .loop .u in (
-      ap (λ (b : Bool). picked b u) (lt-ltb u (s .args .to) (t .loop-test .taken))
-          ∙ sym (modes-hit (try s) (s .args .to) u (t .loop-test .taken) [] (landed (c .before .lands .ensures) (c .if1 .taken))) ∙ t .before .loop .inv .2,
-      t .before .loop .inv .0,
-    )
+    let u = t .before .loop .u in
+    ap (λ (b : Bool). picked b u) (lt-ltb u (s .args .to) (t .loop-test .taken))
+    ∙ sym (modes-hit (try s) (s .args .to) u (t .loop-test .taken) [] (landed (c .before .lands .ensures) (c .if1 .taken))) ∙ t .before .loop .inv
 
 add-u : tie.Need-add-u Inv-loop μ-loop
 add-u c = let h = c .before .before .loop-test .taken in omega arith
@@ -64,16 +62,13 @@ loop-again c =
     let s = t .before .before in
     let u = t .before .loop .u in
     let h = t .loop-test .taken in
-    let l = t .before .loop .inv .0 in
-    (omega arith, omega arith, sym (modes-miss (try s) (s .args .to) u h (missed (c .before .lands .ensures) (c .if1 .left))) ∙ t .before .loop .inv .2)
+    sym (modes-miss (try s) (s .args .to) u h (missed (c .before .lands .ensures) (c .if1 .left))) ∙ t .before .loop .inv
 
 returns-2 : tie.Need-returns-2 Inv-loop μ-loop
 returns-2 c =
     let s = c .before .before in
-    let u = c .before .loop .u in (
-      ap (λ (b : Bool). picked b u) (le-ltb u (s .args .to) (c .loop-test .left)) ∙ sym (modes-over (try s) (s .args .to) u (c .loop-test .left)) ∙ c .before .loop .inv .2,
-      c .before .loop .inv .0,
-    )
+    let u = c .before .loop .u in
+    ap (λ (b : Bool). picked b u) (le-ltb u (s .args .to) (c .loop-test .left)) ∙ sym (modes-over (try s) (s .args .to) u (c .loop-test .left)) ∙ c .before .loop .inv
 
 pub last-spec : {M : Type 1} → statement M
 last-spec =
