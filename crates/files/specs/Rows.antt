@@ -6,13 +6,13 @@ use mathlib.Core.List.{List}
 use native.Mathlib.Omega.{arith}
 use native.Mathlib.Nat.{suc-mul, zero-mul, zero-add}
 use lib.Dec.{ltb}
+use lib.IntN.{ℤ}
 use borrow.Author.Tests.{lt-ltb, le-ltb}
 use Rattle.laws.specs.Lists.{at, tab}
 use Rattle.laws.specs.Tabs.{Filled}
 use Rattle.meaning.specs.declared.Walk.{Walk}
 use Rattle.meaning.specs.Files.{Form}
 use Rattle.meaning.specs.Plants.{entryLimit, offsetLimit, limited, times, row, coefCount}
-use Rattle.files.specs.declared.rows.Rows.{Rows}
 use Rattle.files.specs.Parts.{Holds, Fails}
 
 abbrev pub limitAt : ℕ → ℕ → ℕ
@@ -45,13 +45,10 @@ rows-entries n (suc m) rest =
     let z : suc m * (n + 1) ≡ suc (n + m * (n + 1)) = suc-mul m (n + 1) ∙ omega arith in
     ap (row n) (rows-entries n m rest) ∙ row-entries n n 0 (m * (n + 1)) rest (omega arith) ∙ rw z refl
 
-pub record RowsRead (s : List ℕ) (from n modes : ℕ) (r : Rows) (next : ℕ) : Type 0 where
-  pub part : Holds (times (modes * n) (row n)) s from (tab (at (r .coef)) (coefCount modes n) 0) next
-  pub filled : Filled 320 (coefCount modes n) (r .coef)
+pub record RowsRead (s : List ℕ) (from n modes : ℕ) (coef : List ℤ) (next : ℕ) : Type 0 where
+  pub part : Holds (times (modes * n) (row n)) s from (tab (at coef) (coefCount modes n) 0) next
+  pub filled : Filled 320 (coefCount modes n) coef
 
-abbrev pub RowsAs : List ℕ → ℕ → ℕ → ℕ → Rows → Walk → Type 0
-RowsAs s from n modes r (Walk.Next next) = RowsRead s from n modes r next
-RowsAs s from n modes r (Walk.Refused e) = Fails (times (modes * n) (row n)) s from e
-
-abbrev pub RowsTold : List ℕ → ℕ → ℕ → ℕ → Rows → Type 0
-RowsTold s from n modes r = RowsAs s from n modes r (r .answer)
+abbrev pub RowsTold : List ℕ → ℕ → ℕ → ℕ → List ℤ → Walk → Type 0
+RowsTold s from n modes coef (Walk.Next next) = RowsRead s from n modes coef next
+RowsTold s from n modes coef (Walk.Refused e) = Fails (times (modes * n) (row n)) s from e

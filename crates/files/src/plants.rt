@@ -87,8 +87,8 @@ fn read_body(s: &[u8], b: Beginning, related: Verdict, at: usize) -> PlantRead
 {
     let n = b.n;
     let modes = b.m;
-    let modes_rows = rows::read_rows(s, at, n, modes);
-    let past_rows = modes_rows.answer;
+    let mut coef = [0i64; 320];
+    let past_rows = rows::read_rows(s, at, n, modes, &mut coef);
     let Walk::Next(next) = past_rows else {
         return refused_by(past_rows);
     };
@@ -97,10 +97,7 @@ fn read_body(s: &[u8], b: Beginning, related: Verdict, at: usize) -> PlantRead
     }
     match related {
         Verdict::Refused(e) => refused(e),
-        Verdict::Accepted => {
-            let coef = modes_rows.coef;
-            accepted(b, coef)
-        }
+        Verdict::Accepted => accepted(b, coef),
     }
 }
 

@@ -6,7 +6,7 @@ use meaning::Signed;
 use meaning::Walk;
 ghost use mathlib.Core.Path.{_≡_};
 ghost use Prim.Native.Nat.{_+_, _≤_};
-ghost use lib.ListN.{length};
+ghost use lib.ListN.{length, replicate};
 ghost use lib.IntN.{pos, negℤ};
 ghost use Rattle.laws.specs.Lists;
 ghost use Rattle.laws.specs.Lists.{tab};
@@ -14,12 +14,6 @@ ghost use Rattle.laws.specs.Writing.{Put};
 ghost use Rattle.files.specs.Fields.{rangedAt};
 ghost use Rattle.files.specs.Signed.{signedBytes};
 ghost use Rattle.files.specs.Rows.{limitAt, nextColumn, RowsTold};
-
-// The coefficients, zeros beyond the last row, and the place behind them.
-pub struct Rows {
-    pub answer: Walk,
-    pub coef: [i64; 320],
-}
 
 // The number of a row's column: one of n entries of A, or b behind them.
 fn entry(s: &[u8], at: usize, n: usize, column: usize) -> Signed
@@ -38,31 +32,25 @@ fn next_column(n: usize, column: usize) -> usize
     if column < n { column + 1 } else { 0 }
 }
 
-pub fn read_rows(s: &[u8], at: usize, n: usize, modes: usize) -> Rows
-    requires { ⌜ n ≤ 4 ⌝ ∗ ⌜ modes ≤ 16 ⌝ }
-    ensures { λ r. ⌜ RowsTold (now (s .entry)) at n modes r ⌝ }
+// The coefficients into an array of zeros that is lent, so that no copy of it is handed back; the place behind them.
+pub fn read_rows(s: &[u8], at: usize, n: usize, modes: usize, coef: &mut [i64; 320]) -> Walk
+    requires { ⌜ (n ≤ 4) × (modes ≤ 16) × (now coef ≡ replicate 320 (pos 0)) ⌝ }
+    ensures { λ r. ⌜ RowsTold (now (s .entry)) at n modes (now (coef .exit)) r ⌝ }
 {
     let count = modes * n * (n + 1);
-    let mut coef = [0i64; 320];
     let mut p = at;
     let mut column: usize = 0;
     let mut c: usize = 0;
     while c < count {
         let Signed::Value(v, next) = entry(s, p, n, column) else {
-            return Rows {
-                answer: Walk::Refused(fields::fault(s, p)),
-                coef,
-            };
+            return Walk::Refused(fields::fault(s, p));
         };
         coef[c] = v;
         p = next;
         column = next_column(n, column);
         c += 1;
     }
-    Rows {
-        answer: Walk::Next(p),
-        coef,
-    }
+    Walk::Next(p)
 }
 
 // The first `count` coefficients from `at` on, as far as there is room; the place behind them.

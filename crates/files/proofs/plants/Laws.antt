@@ -15,7 +15,6 @@ use Rattle.meaning.specs.Boxes.{sidesOf}
 use Rattle.meaning.specs.Plants.{times, row, coefCount, numbersOf, related, plantRelated, plantForm, plantJudged, readOf, plantRead}
 use Rattle.promises.specs.Plants.{Tidy, plant-back}
 use Rattle.files.specs.declared.beginnings.Beginning.{Beginning}
-use Rattle.files.specs.declared.rows.Rows.{Rows}
 use Rattle.files.specs.Parts.{behind, behind-read, behind-refused, Fails}
 use Rattle.files.specs.Rows.{RowsRead}
 use Rattle.files.specs.Beginnings.{beginningForm, headNumbers, headOf, edgesIn, bandsIn, beginningNumbers, byVerdict, relation, related-by, Begun}
@@ -29,12 +28,12 @@ module _ (s : List ℕ) (b : Beginning) (from : ℕ) where
   rows-refused r t =
       ap (λ (x : Read (List ℤ)). readOf (plantRelated (ended s x))) (ap (behind (beginningNumbers b)) (t .fails end) ∙ behind-refused (beginningNumbers b) r)
 
-  module _ (m : Rows) (next : ℕ) (v : RowsRead s from (b .n) (b .m) m next) where
+  module _ (m : List ℤ) (next : ℕ) (v : RowsRead s from (b .n) (b .m) m next) where
     p : Plant
-    p = plantFrom b (m .coef)
+    p = plantFrom b m
 
     coefs : List ℤ
-    coefs = tab (at (m .coef)) (coefCount (b .m) (b .n)) 0
+    coefs = tab (at m) (coefCount (b .m) (b .n)) 0
 
     numbers : beginningNumbers b ++ coefs ≡ numbersOf p
     unfolding p coefs beginningNumbers numbersOf
@@ -64,15 +63,15 @@ module _ (s : List ℕ) (b : Beginning) (from : ℕ) where
         coef-filled = v .filled;
       }
 
-      judged : bodyRead s b from ≡ readOf (byVerdict (relation b) λ _. good (plantFrom b (m .coef)))
+      judged : bodyRead s b from ≡ readOf (byVerdict (relation b) λ _. good (plantFrom b m))
       unfolding p
       judged =
           ap (λ (x : Read (List ℤ)). readOf (plantRelated (ended s x))) values ∙ simp (eq-eqb _ _ whole) refl
           ∙ ap (λ (x : Plant). readOf (related (x .q) (sidesOf (x .n) (x .rlo) (x .rhi)) (sidesOf (x .n) (x .slo) (x .shi)) (sidesOf (x .n) (x .wlo) (x .whi)) λ _. good x)) (plant-back p tidy)
           ∙ ap readOf (related-by b (λ _. good p))
 
-      pub by-verdict : (x y : Verdict) → x ≡ relation b → x ≡ y → bodyRead s b from ≡ readOf (byVerdict y λ _. good (plantFrom b (m .coef)))
-      by-verdict x y e g = judged ∙ ap (λ (z : Verdict). readOf (byVerdict z λ _. good (plantFrom b (m .coef)))) (sym e ∙ g)
+      pub by-verdict : (x y : Verdict) → x ≡ relation b → x ≡ y → bodyRead s b from ≡ readOf (byVerdict y λ _. good (plantFrom b m))
+      by-verdict x y e g = judged ∙ ap (λ (z : Verdict). readOf (byVerdict z λ _. good (plantFrom b m))) (sym e ∙ g)
 
 -- ---- the beginning in front
 

@@ -13,7 +13,6 @@ use Rattle.laws.specs.Tabs.{Filled, filled-none, filled-more, tab-stored, tab-s
 use Rattle.meaning.specs.declared.Signed.{Signed}
 use Rattle.meaning.specs.Files.{Form, refused, valuesAt}
 use Rattle.meaning.specs.Plants.{limited, times, row, coefCount}
-use Rattle.files.specs.declared.rows.Rows.{Rows}
 use Rattle.meaning.specs.Numbers.{bytesOf, stored}
 use Rattle.files.specs.Signed.{signedBytes}
 use Rattle.files.specs.Fields.{rangedAt, faultAt}
@@ -84,11 +83,11 @@ module _ {s : List ℕ} {from n : ℕ} (modes : ℕ) {c column p : ℕ} {coef : 
   pub rows-fails : c < coefCount modes n → rangedAt s p (negℤ (pos (limitAt n column))) (pos (limitAt n column)) ≡ Signed.Broken → Fails (times (modes * n) (row n)) s from (faultAt s p)
   rows-fails h e = record { fails = λ rest. ap (λ (x : Form). valuesAt x s from) (rows-entries n (modes * n) rest) ∙ entries-fails w h e rest }
 
-  pub rows-all : coefCount modes n ≤ c → (r : Rows) → r .coef ≡ coef → RowsRead s from n modes r p
+  pub rows-all : coefCount modes n ≤ c → RowsRead s from n modes coef p
   unfolding entriesFrom
-  rows-all h r e = record {
-    part = record { holds = λ rest. ap (λ (x : Form). valuesAt x s from) (rows-entries n (modes * n) rest) ∙ w .done rest ∙ ap (λ (x : Form). behind (tab (at coef) c 0) (valuesAt x s p)) (none rest) ∙ rw (e, j) refl };
-    filled = rw (e, ← j) (w .filled);
+  rows-all h = record {
+    part = record { holds = λ rest. ap (λ (x : Form). valuesAt x s from) (rows-entries n (modes * n) rest) ∙ w .done rest ∙ ap (λ (x : Form). behind (tab (at coef) c 0) (valuesAt x s p)) (none rest) ∙ rw j refl };
+    filled = rw (← j) (w .filled);
   }
     where
       j : c ≡ coefCount modes n

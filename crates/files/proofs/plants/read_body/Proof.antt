@@ -1,16 +1,41 @@
 -- `plants::read_body`: each return cites the law of the part that it stops at. Assumes nothing.
-use mathlib.Core.Path.{sym, ap, _∙_, subst}
+use Prim.Native.Nat.{ℕ}
+use mathlib.Core.Path.{_≡_, sym, ap, _∙_, subst}
+use mathlib.Core.List.{List}
 use denote.Ref.{now}
+use lib.ListN.{length}
+use lib.IntN.{ℤ}
 use Rattle.meaning.specs.declared.Refusal.{Refusal}
+use Rattle.meaning.specs.declared.Verdict.{Verdict}
 use Rattle.meaning.specs.declared.Walk.{Walk}
-use Rattle.meaning.specs.Files.{bad}
+use Rattle.meaning.specs.Files.{good, bad}
 use Rattle.meaning.specs.Plants.{readOf}
-use Rattle.files.specs.Rows.{RowsAs}
-use Rattle.files.specs.Plants.{refusalOf}
+use Rattle.files.specs.Beginnings.{byVerdict}
+use Rattle.files.specs.Rows.{RowsTold}
+use Rattle.files.specs.Plants.{refusalOf, bodyRead, plantFrom}
 use Rattle.files.proofs.plants.Laws.{rows-refused, left-over, by-verdict}
 use borrow.Author.Needs.{needs}
 use Rattle.files.proofs.plants.read_body.Statement.{statement}
 use Rattle.files.proofs.plants.read_body.Tie as tie
+
+-- the rows were read, whether whole or not
+module _ (m : tie.After-read-rows) where
+  abbrev start : tie.Start
+  start = m .before .before .before
+
+  abbrev file : List ℕ
+  file = now (start .args .s)
+
+  abbrev coef : List ℤ
+  coef = m .read-rows .last .1 .1 .1 .1 .0
+
+  told : (w : Walk) → m .read-rows .result ≡ w → RowsTold file (start .args .at) (start .args .b .n) (start .args .b .m) coef w
+  told w e = subst (RowsTold file (start .args .at) (start .args .b .n) (start .args .b .m) coef) e (m .read-rows .ensures)
+
+  -- they are whole and end the file: the verdict on the whole decides
+  judged : (next : ℕ) → m .read-rows .result ≡ Walk.Next next → next ≡ length file → (y : Verdict) → start .args .related ≡ y
+      → bodyRead file (start .args .b) (start .args .at) ≡ readOf (byVerdict y λ _. good (plantFrom (start .args .b) coef))
+  judged next e l y = by-verdict file (start .args .b) (start .args .at) coef next (told (Walk.Next next) e) (start .pre .0) l (start .args .related) y (start .pre .1)
 
 read-rows-requires : tie.Need-read-rows-requires
 read-rows-requires c κs = search needs
@@ -26,12 +51,10 @@ refused-by-requires c κs = search needs
 
 returns : tie.Need-returns
 returns c =
-    let z = c .before .before .before .before .before .args in
-    let s = now (z .s) in
-    let m = c .before .before .before .read-rows in
+    let m = c .before .before .before in
     let g = c .before .enum-told .given in
     c .refused-by .ensures ∙ ap (λ (k : Walk). readOf (bad (refusalOf k))) (g .1)
-    ∙ sym (rows-refused s (z .b) (z .at) (g .0 .0) (subst (RowsAs s (z .at) (z .b .n) (z .b .m) (m .result)) (g .1) (m .ensures)))
+    ∙ sym (rows-refused (file m) (start m .args .b) (start m .args .at) (g .0 .0) (told m (Walk.Refused (g .0 .0)) (g .1)))
 
 unfit-requires : tie.Need-unfit-requires
 unfit-requires c κs = search needs
@@ -41,13 +64,10 @@ refused-requires c κs = search needs
 
 returns-2 : tie.Need-returns-2
 returns-2 c =
-    let z = c .before .before .before .before .before .before .before .before .args in
-    let s = now (z .s) in
-    let m = c .before .before .before .before .before .before .read-rows in
+    let m = c .before .before .before .before .before .before in
     let g = c .before .before .before .before .past-rows .given in
-    let v = subst (RowsAs s (z .at) (z .b .n) (z .b .m) (m .result)) (g .1) (m .ensures) in
     c .refused .ensures ∙ ap (λ (k : Refusal). readOf (bad k)) (c .before .unfit .ensures)
-    ∙ sym (left-over s (z .b) (z .at) (m .result) (g .0 .0) v (c .before .before .if1 .taken))
+    ∙ sym (left-over (file m) (start m .args .b) (start m .args .at) (coef m) (g .0 .0) (told m (Walk.Next (g .0 .0)) (g .1)) (c .before .before .if1 .taken))
 
 enum-known-related : tie.Need-enum-known-related
 enum-known-related c = search needs
@@ -63,23 +83,13 @@ accepted-requires c κs = search needs
 
 returns-3 : tie.Need-returns-3
 returns-3 c =
-    let z = c .before .before .before .before .before .before .before .before .before .before .args in
-    let s = now (z .s) in
-    let m = c .before .before .before .before .before .before .before .before .read-rows in
     let g = c .before .before .before .before .before .before .past-rows .given in
-    let v = subst (RowsAs s (z .at) (z .b .n) (z .b .m) (m .result)) (g .1) (m .ensures) in
-    let w = c .before .before .before .before .before .before .before .before .before .before .pre in
-    c .refused2 .ensures ∙ sym (by-verdict s (z .b) (z .at) (m .result) (g .0 .0) v (w .0) (c .before .before .before .before .if1 .left) (z .related) _ (w .1) (c .before .before .related .given .1))
+    c .refused2 .ensures ∙ sym (judged (c .before .before .before .before .before .before .before .before) (g .0 .0) (g .1) (c .before .before .before .before .if1 .left) _ (c .before .before .related .given .1))
 
 returns-4 : tie.Need-returns-4
 returns-4 c =
-    let z = c .before .before .before .before .before .before .before .before .before .before .args in
-    let s = now (z .s) in
-    let m = c .before .before .before .before .before .before .before .before .read-rows in
-    let g = c .before .before .before .before .before .before .past-rows .given in
-    let v = subst (RowsAs s (z .at) (z .b .n) (z .b .m) (m .result)) (g .1) (m .ensures) in
-    let w = c .before .before .before .before .before .before .before .before .before .before .pre in
-    c .accepted .ensures ∙ sym (by-verdict s (z .b) (z .at) (m .result) (g .0 .0) v (w .0) (c .before .before .before .before .if1 .left) (z .related) _ (w .1) (c .before .before .enum-told2 .given .1))
+    let g = c .before .before .before .before .before .past-rows .given in
+    c .accepted .ensures ∙ sym (judged (c .before .before .before .before .before .before .before) (g .0 .0) (g .1) (c .before .before .before .if1 .left) _ (c .before .enum-told2 .given .1))
 
 pub read-body-spec : {M : Type 1} → statement M
 read-body-spec =

@@ -1,6 +1,6 @@
 -- `rows::read_rows` reads the coefficients number by number. Assumes nothing.
 use Prim.Native.Nat.{_-_}
-use mathlib.Core.Path.{refl, sym, _∙_}
+use mathlib.Core.Path.{sym, _∙_}
 use native.Mathlib.Omega.{arith}
 use mir.Syntax.{w64}
 use mir.Val.{SFits}
@@ -13,10 +13,10 @@ use Rattle.files.proofs.rows.read_rows.Statement.{statement}
 use Rattle.files.proofs.rows.read_rows.Tie as tie
 
 abbrev Inv-loop : tie.InvT-loop
-Inv-loop s at n modes count coef₀ p₀ column₀ c₀ coef p column c = EntriesUpTo s at n count c column p coef
+Inv-loop s at n modes coef₀ count p₀ column₀ c₀ coef p column c = EntriesUpTo s at n count c column p coef
 
 abbrev μ-loop : tie.MeasureT-loop
-μ-loop s at n modes count coef₀ p₀ column₀ c₀ coef p column c = count - c
+μ-loop s at n modes coef₀ count p₀ column₀ c₀ coef p column c = count - c
 
 mul-count : tie.Need-mul-count Inv-loop μ-loop
 mul-count c = record { fits = omega (arith, few-numbers (c .before .args .modes) (c .before .args .n) (omega arith) (omega arith) .0) }
@@ -28,7 +28,7 @@ mul-count-2 : tie.Need-mul-count-2 Inv-loop μ-loop
 mul-count-2 c = record { fits = omega (arith, few-numbers (c .before .args .modes) (c .before .args .n) (omega arith) (omega arith) .1) }
 
 loop-holds : tie.Need-loop-holds Inv-loop μ-loop
-loop-holds c = let t = c .before .args in entries-none (now (t .s)) (t .at) (t .n) (coefCount (t .modes) (t .n))
+loop-holds c = let t = c .before .args in rw (c .before .pre .2) (entries-none (now (t .s)) (t .at) (t .n) (coefCount (t .modes) (t .n)))
 
 entry-requires : tie.Need-entry-requires Inv-loop μ-loop
 entry-requires c κs = tt
@@ -48,11 +48,11 @@ returns c =
     let t = l .before .before .args in
     rw (c .fault .ensures) (rows-fails (t .modes) (l .loop .inv) (omega arith) (sym (c .before .before .before .entry .ensures) ∙ c .before .enum-told .given .1))
 
-mul-coef : tie.Need-mul-coef Inv-loop μ-loop
-mul-coef c = let t = c .before .before .before .before .before .before .before .args in omega (arith, few-numbers (t .modes) (t .n) (omega arith) (omega arith) .1)
+mul-v : tie.Need-mul-v Inv-loop μ-loop
+mul-v c = let t = c .before .before .before .before .before .before .before .args in omega (arith, few-numbers (t .modes) (t .n) (omega arith) (omega arith) .1)
 
-array-set-from-coef : tie.Need-array-set-from-coef Inv-loop μ-loop
-array-set-from-coef c = let t = c .before .before .before .before .before .before .before .args in omega (arith, few-numbers (t .modes) (t .n) (omega arith) (omega arith) .1)
+element-set-from-v : tie.Need-element-set-from-v Inv-loop μ-loop
+element-set-from-v c = let t = c .before .before .before .before .before .before .before .args in omega (arith, few-numbers (t .modes) (t .n) (omega arith) (omega arith) .1)
 
 next-column-requires : tie.Need-next-column-requires Inv-loop μ-loop
 next-column-requires c κs = tt
@@ -74,7 +74,7 @@ loop-again c =
     (entries-more (l .loop .inv) (v .0 .0) (v .0 .1 .0) (omega arith) q (sym (c .before .before .before .before .entry .ensures) ∙ v .1))
 
 returns-2 : tie.Need-returns-2 Inv-loop μ-loop
-returns-2 c = rows-all (c .before .before .before .args .modes) (c .before .loop .inv) (omega arith) _ refl
+returns-2 c = rows-all (c .before .before .before .args .modes) (c .before .loop .inv) (omega arith)
 
 pub read-rows-spec : {M : Type 1} → statement M
 read-rows-spec =
@@ -91,8 +91,8 @@ read-rows-spec =
     enum-told
     fault-requires
     returns
-    mul-coef
-    array-set-from-coef
+    mul-v
+    element-set-from-v
     next-column-requires
     add-c
     loop-less
