@@ -1,5 +1,5 @@
 -- Document 01's rules of a plant that was judged good: its numbers meet what page Laws asks of numbers, and take one byte each in a table; and the
--- answers about tables over bytes are those of its rules. That they split well and that their patterns keep their word is page PlantMotion.
+-- answers about tables over bytes are those of its rules. How a plant was judged is told by its reader's verdict; a bad one is told first. That they split well and that their patterns keep their word is page PlantMotion.
 -- Relies on the ranges of page Sound.
 use Prim.Native.Nat.{ℕ, _+_}
 use mathlib.Core.Path.{_≡_, refl, ap}
@@ -7,13 +7,18 @@ use mathlib.Core.List.{List, _++_}
 use native.Mathlib.Omega.{arith}
 use lib.ListN.{length, length-append}
 use lib.IntN.{ℤ}
+use Rattle.laws.specs.Tests.{never}
+use Rattle.meaning.specs.declared.Answer.{Answer}
 use Rattle.meaning.specs.declared.Plant.{Plant}
+use Rattle.meaning.specs.declared.PlantRead.{PlantRead}
+use Rattle.meaning.specs.declared.Refusal.{Refusal}
 use Rattle.meaning.specs.declared.State.{State}
+use Rattle.meaning.specs.declared.Verdict.{Verdict}
 use Rattle.meaning.specs.Control.{call}
 use Rattle.meaning.specs.Defined.{definedTree}
-use Rattle.meaning.specs.Files.{good}
+use Rattle.meaning.specs.Files.{Judged, good, bad}
 use Rattle.meaning.specs.Numbers.{bytesOf}
-use Rattle.meaning.specs.Plants.{plantJudged}
+use Rattle.meaning.specs.Plants.{plantJudged, readOf}
 use Rattle.meaning.specs.Tables as T
 use Rattle.meaning.specs.Tables.{rulesOf, checked, tableBytes, made, controlled}
 use Rattle.meaning.specs.Trees.{Tree, modesBytes, layout, Pattern, tableOf}
@@ -61,6 +66,31 @@ module _ (p : Plant) (s : Sound p) where
 
     pub tile-size : length (bytesOf (length us) ++ modesBytes us) ≡ 1 + length us
     tile-size = omega (arith, length-append (bytesOf (length us)) (modesBytes us), number-size, modes-length (p .modes) us one-byte-modes (g .modes))
+
+-- the reader's answer x says how the plant was judged
+module _ (j : Judged Plant) (x : PlantRead) (q : x ≡ readOf j) where
+  pub read-good : x .verdict ≡ Verdict.Accepted → j ≡ good (x .plant)
+  read-good h = go j q
+    where
+      go : (j : Judged Plant) → x ≡ readOf j → j ≡ good (x .plant)
+      go (good p) e = rw e refl
+      go (bad r) e = never cc
+
+  pub read-bad : (e : Refusal) → x .verdict ≡ Verdict.Refused e → j ≡ bad e
+  read-bad e h = go j q
+    where
+      go : (j : Judged Plant) → x ≡ readOf j → j ≡ bad e
+      go (good p) f = never cc
+      go (bad r) f = let same : r ≡ e = cc in rw same refl
+
+module _ (plant : List ℕ) (r : Refusal) (e : plantJudged plant ≡ bad r) where
+  pub checked-bad : (table : List ℕ) → checked plant table ≡ Verdict.Refused r
+  unfolding T.checked
+  checked-bad table = rw e refl
+
+  pub controlled-bad : (table : List ℕ) (st : State) (x : List ℤ) → controlled plant table st x ≡ Answer.Refused r
+  unfolding T.controlled
+  controlled-bad table st x = rw e refl
 
 module _ (plant : List ℕ) (p : Plant) (e : plantJudged plant ≡ good p) where
   pub judged-sizes : Sizes (rulesOf p)

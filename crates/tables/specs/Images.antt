@@ -1,15 +1,14 @@
 -- A mode's step as the code is lent it: the small numbers by value and the coefficients in a slice; and what it asks of them, which a judged
--- plant has. Definitions, and the law that they are those of the plant.
+-- plant has. Definitions alone.
 use Prim.Native.Nat.{ℕ, _+_, _≤_, _<_}
-use mathlib.Core.Path.{_≡_, refl}
+use mathlib.Core.Path.{_≡_}
 use mathlib.Core.List.{List}
 use lib.ListN.{length}
 use lib.IntN.{ℤ, natAbs}
 use Rattle.laws.specs.Lists.{at, tab}
-use Rattle.meaning.specs.declared.Plant.{Plant}
 use Rattle.meaning.specs.Boxes.{Side, sidesOf}
 use Rattle.meaning.specs.Images.{Row, Step, leastOf, greatestOf, extreme}
-use Rattle.meaning.specs.Plants.{bandLimit, entryLimit, offsetLimit, rowStart, stepOf}
+use Rattle.meaning.specs.Plants.{bandLimit, entryLimit, offsetLimit, rowStart}
 use Rattle.tables.specs.Boxes.{Small}
 
 -- an entry of A times an edge of S; four of them; and with an offset and an edge of the band
@@ -39,10 +38,6 @@ rowFrom n wlo whi coef u i = rowAt n coef (rowStart n u i) (at wlo i) (at whi i)
 
 abbrev pub stepFrom : ℕ → ℕ → List ℤ → List ℤ → List ℤ → ℕ → Step
 stepFrom n q wlo whi coef u = record { rows = tab (rowFrom n wlo whi coef u) n 0; q = q }
-
--- of a plant's own fields it is the plant's step
-pub step-from : (p : Plant) (u : ℕ) → stepFrom (p .n) (p .q) (p .wlo) (p .whi) (p .coef) u ≡ stepOf p u
-step-from p u = refl
 
 -- ---- what is asked
 

@@ -18,7 +18,8 @@ use Rattle.meaning.specs.Buffers.{left, refusedWith}
 use Rattle.meaning.specs.declared.Refusal.{Refusal}
 use Rattle.meaning.specs.Numbers.{bytesOf, stored}
 use Rattle.meaning.specs.Files.{Form, end, Read, refused, ended, valuesAt, fileOf, Judged, good, bad, fileJudged}
-use Rattle.meaning.specs.Plants.{headed, plantForm, coefCount, numbersOf, plantRelated, plantJudged, readOf, plantRead, plantLeft}
+use Rattle.meaning.specs.Plants.{headed, plantForm, coefCount, numbersOf, plantRelated, plantJudged, plantRead, plantLeft}
+use Rattle.promises.specs.PlantRules.{read-good, read-bad}
 use Rattle.promises.specs.PlantShapes.{plantBody}
 use Rattle.files.specs.declared.beginnings.Beginning.{Beginning}
 use Rattle.files.specs.Signed.{signedBytes}
@@ -143,35 +144,20 @@ taken-file p q g = go (drafted p)
     go (header-out y e w) = bad-good (sym (draft-bad p y e w) ∙ g)
     go (the-file e) = e
 
--- a verdict says how the file was judged
-refused-judged : (j : Judged Plant) (e : Refusal) → readOf j .verdict ≡ Verdict.Refused e → j ≡ bad e
-refused-judged (good q) e h = absurd (let z : _≡_ {A = ℕ} 0 1 = cc in no z)
-  where
-    no : _≡_ {A = ℕ} 0 1 → ⊥
-    no z = omega arith
-refused-judged (bad r) e h = let q : r ≡ e = cc in ap bad q
-
-taken-judged : (j : Judged Plant) → readOf j .verdict ≡ Verdict.Accepted → (q : Plant) × (j ≡ good q)
-taken-judged (good q) h = (q, refl)
-taken-judged (bad r) h = absurd (let z : _≡_ {A = ℕ} 0 1 = cc in no z)
-  where
-    no : _≡_ {A = ℕ} 0 1 → ⊥
-    no z = omega arith
-
 -- ---- what the writer leaves
 
 module _ (p : Plant) (buf : List ℕ) where
   pub refused-left : (e : Refusal) → plantRead (draftBytes p) .verdict ≡ Verdict.Refused e → plantLeft p buf ≡ refusedWith e buf
   unfolding plantLeft
-  refused-left e h = ap (λ (j : Judged Plant). left (fileJudged (fileOf plantForm (numbersOf p)) j) buf) (judged-alike p ∙ refused-judged (plantJudged (draftBytes p)) e h)
+  refused-left e h = ap (λ (j : Judged Plant). left (fileJudged (fileOf plantForm (numbersOf p)) j) buf) (judged-alike p ∙ read-bad (plantJudged (draftBytes p)) (plantRead (draftBytes p)) refl e h)
 
   module _ (h : plantRead (draftBytes p) .verdict ≡ Verdict.Accepted) where
     judged-good : plantLeft p buf ≡ left (good (draftBytes p)) buf
     unfolding plantLeft
     judged-good =
-        let w = taken-judged (plantJudged (draftBytes p)) h in
-        ap (λ (j : Judged Plant). left (fileJudged (fileOf plantForm (numbersOf p)) j) buf) (judged-alike p ∙ w .1)
-        ∙ ap (λ (bs : List ℕ). left (good bs) buf) (sym (taken-file p (w .0) (w .1)))
+        let w = read-good (plantJudged (draftBytes p)) (plantRead (draftBytes p)) refl h in
+        ap (λ (j : Judged Plant). left (fileJudged (fileOf plantForm (numbersOf p)) j) buf) (judged-alike p ∙ w)
+        ∙ ap (λ (bs : List ℕ). left (good bs) buf) (sym (taken-file p (plantRead (draftBytes p) .plant) w))
 
     pub short-left : (r : ℕ) (out : List ℕ) → Put buf 0 (draftBytes p) r out → length buf < r → plantLeft p buf ≡ refusedWith short buf
     short-left r out t l = judged-good ∙ short-file (draftBytes p) buf r out t l

@@ -18,10 +18,10 @@ use Rattle.meaning.specs.declared.Verdict.{Verdict}
 use Rattle.meaning.specs.declared.Walk.{Walk}
 use Rattle.meaning.specs.Boxes.{fits, sidesOf}
 use Rattle.meaning.specs.Control.{canRun, modeAt, onFound, find, idleCall, runningCall, stateCall, call}
-use Rattle.meaning.specs.Files.{Judged, good, bad}
-use Rattle.meaning.specs.Plants.{readOf, plantJudged, rootOf, safeOf}
+use Rattle.meaning.specs.Files.{good}
+use Rattle.meaning.specs.Plants.{plantJudged, rootOf, safeOf}
 use Rattle.meaning.specs.Refusals.{outside, badState}
-use Rattle.meaning.specs.Tables.{readingOf, rulesOf, onPlant, controlled}
+use Rattle.meaning.specs.Tables.{readingOf, rulesOf}
 use Rattle.meaning.specs.Verdicts.{onWalk, header}
 use Rattle.promises.specs.Judged.{judged-sound}
 use Rattle.promises.specs.Sound.{Sound}
@@ -123,32 +123,8 @@ module _ (p : Plant) (s : List ℕ) (x : List ℤ) where
       pub call-running : (st .left ≡ 0 → ⊥) → runningCall (rulesOf p) s (st .place) (st .left) x ≡ call (rulesOf p) s st x
       call-running h = state-running at (st .place) (st .left) h ∙ headed (Walk.Next at) g
 
--- ---- the plant
+-- ---- the plant: its frame is ready to read a tree over R
 
-refused-judged : (j : Judged Plant) (e : Refusal) → readOf j .verdict ≡ Verdict.Refused e → j ≡ bad e
-refused-judged (bad r) e q = cc
-refused-judged (good p) e q = never cc
-
-accepted-judged : (j : Judged Plant) → readOf j .verdict ≡ Verdict.Accepted → j ≡ good (readOf j .plant)
-accepted-judged (bad r) q = never cc
-accepted-judged (good p) q = refl
-
-module _ (plant s : List ℕ) (st : State) (x : List ℤ) where
-  judged : (j : Judged Plant) → plantJudged plant ≡ j → onPlant j Answer.Refused (λ p. call (rulesOf p) s st x) ≡ controlled plant s st x
-  unfolding controlled
-  judged j g = ap (λ (k : Judged Plant). onPlant k Answer.Refused (λ p. call (rulesOf p) s st x)) (sym g)
-
-  pub plant-refused : (e : Refusal) → readOf (plantJudged plant) .verdict ≡ Verdict.Refused e → Answer.Refused e ≡ controlled plant s st x
-  plant-refused e q = judged (bad e) (refused-judged (plantJudged plant) e q)
-
-  pub plant-called : (p : Plant) → plantJudged plant ≡ good p → call (rulesOf p) s st x ≡ controlled plant s st x
-  plant-called p g = judged (good p) g
-
--- a plant that was read and accepted
-pub plant-good : (s : List ℕ) → readOf (plantJudged s) .verdict ≡ Verdict.Accepted → plantJudged s ≡ good (readOf (plantJudged s) .plant)
-plant-good s q = accepted-judged (plantJudged s) q
-
--- its frame is ready to read a tree over R
 pub frame-ready : (s : List ℕ) (p : Plant) (f : Frame) → plantJudged s ≡ good p → plantFrom f (p .coef) ≡ p → Ready f (f .root)
 frame-ready s p f g e =
     let q = plantFrom f (p .coef) in

@@ -1,81 +1,16 @@
--- Laws of the walk over a subtree, over any judge of a tile: a node, and a loop over a split's children, at a plant's rules in the terms of the
--- code. The passing of a subtree (module passes) is the walk whose judge lets every tile be. Assumes nothing.
-use Prim.Native.Nat.{ℕ, _+_, _-_, _≤_, _<_}
-use mathlib.Core.Path.{_≡_, refl, sym, ap, _∙_}
-use mathlib.Core.List.{List, [], _∷_}
-use native.Mathlib.Omega.{arith}
-use lib.ListN.{length, getD, drop}
-use Rattle.meaning.specs.declared.Number.{Number}
-use Rattle.meaning.specs.declared.Plant.{Plant}
-use Rattle.meaning.specs.declared.Refusal.{Refusal}
-use Rattle.meaning.specs.declared.Rule.{Rule}
+-- Passing a subtree (module passes) is the walk whose judge lets every tile be: modes that were read, or not, let it go on, or not. Assumes nothing.
+use Prim.Native.Nat.{ℕ}
+use mathlib.Core.Path.{_≡_, refl, ap, _∙_}
+use mathlib.Core.List.{List}
 use Rattle.meaning.specs.declared.Rule.the-variants.{Works}
 use Rattle.meaning.specs.declared.Walk.{Walk}
-use Rattle.meaning.specs.Boxes.{Side, children}
 use Rattle.meaning.specs.Files.{Read}
-use Rattle.meaning.specs.Numbers.{numberAt}
-use Rattle.meaning.specs.Refusals.{broken, badTable}
-use Rattle.meaning.specs.Tables.{rulesOf}
-use Rattle.meaning.specs.Verdicts.{onModes, each, modesAt, walk}
-use Rattle.promises.specs.Walking.{each-done, each-more, each-refused, walk-broken, walk-deep, walk-stuck, walk-split, walk-over, walk-tile}
+use Rattle.meaning.specs.Verdicts.{onModes}
 use Rattle.tables.specs.Modes.{told}
 
--- modes that were read, or not, let the walk go on, or not, where every tile is let be
 pub let-be : (w : Walk) (us : List ℕ) (m : Read (List ℕ)) (at : ℕ) → told w us ≡ m → w ≡ onModes m at (λ _. Works)
 let-be w us m at q = go w ∙ ap (λ (t : Read (List ℕ)). onModes t at (λ _. Works)) q
   where
     go : (w : Walk) → w ≡ onModes (told w us) at (λ _. Works)
     go (Walk.Refused e) = refl
     go (Walk.Next next) = refl
-
-none : (bs : List (List Side)) → length bs ≡ 0 → bs ≡ []
-none [] h = refl
-none (b ∷ bs) h = absurd (omega arith)
-
-module _ (p : Plant) (judge : List Side → List ℕ → Rule) where
-  -- the walk over the tree at `at`, over box b with depth d left
-  abbrev pub tree : ℕ → List ℕ → ℕ → List Side → Walk
-  tree d s at b = walk (rulesOf p) judge d s at b
-
-  -- ---- a node
-
-  module _ (d : ℕ) (s : List ℕ) (at : ℕ) (b : List Side) where
-    pub tree-broken : numberAt s at ≡ Number.Broken → Walk.Refused (broken at) ≡ tree d s at b
-    tree-broken e = sym (walk-broken (rulesOf p) judge d s at b e)
-
-    module _ (k m : ℕ) (e : numberAt s at ≡ Number.Value k m) where
-      pub tree-over : p .k < k → Walk.Refused (badTable at) ≡ tree d s at b
-      tree-over h = sym (walk-over (rulesOf p) judge d s at b k m e h)
-
-      pub tree-tile : 0 < k → k ≤ p .k → onModes (modesAt (rulesOf p) k s m) at (judge b) ≡ tree d s at b
-      tree-tile h l = sym (walk-tile (rulesOf p) judge d s at b k m e (omega arith) l)
-
-      module _ (z : k ≤ 0) where
-        split : numberAt s at ≡ Number.Value 0 m
-        split = let q : k ≡ 0 = omega arith in rw q at e
-
-        pub tree-deep : d ≡ 0 → Walk.Refused (badTable at) ≡ tree d s at b
-        tree-deep h = sym (walk-deep (rulesOf p) judge d s at b m split h)
-
-        pub tree-stuck : length (children b) ≡ 0 → Walk.Refused (badTable at) ≡ tree d s at b
-        tree-stuck h = sym (walk-stuck (rulesOf p) judge d s at b m split (none (children b) h))
-
-        pub tree-split : (d ≡ 0 → ⊥) → (length (children b) ≡ 0 → ⊥) → each (tree (d - 1) s) (drop 0 (children b)) m ≡ tree d s at b
-        tree-split h l = sym (walk-split (rulesOf p) judge d s at b m (d - 1) split (omega arith) (λ q. l (ap length q)))
-
-  -- ---- children in a loop: c of them are done, w is the place behind them
-
-  module _ (d : ℕ) (s : List ℕ) (b : List Side) (c w : ℕ) where
-    pub children-done : length (children b) ≤ c → Walk.Next w ≡ each (tree d s) (drop c (children b)) w
-    children-done h = sym (each-done (tree d s) (children b) c w h)
-
-    -- the next one, and what was answered for it
-    module _ (h : c < length (children b)) (kid : List Side) (q : kid ≡ getD (children b) c []) (v : Walk) (e : v ≡ tree d s w kid) where
-      came : tree d s w (getD (children b) c []) ≡ v
-      came = ap (λ (k : List Side). tree d s w k) (sym q) ∙ sym e
-
-      pub children-more : (m : ℕ) → v ≡ Walk.Next m → each (tree d s) (drop (c + 1) (children b)) m ≡ each (tree d s) (drop c (children b)) w
-      children-more m g = sym (each-more (tree d s) (children b) c w [] m h (came ∙ g))
-
-      pub children-stopped : (r : Refusal) → v ≡ Walk.Refused r → v ≡ each (tree d s) (drop c (children b)) w
-      children-stopped r g = g ∙ sym (each-refused (tree d s) (children b) c w [] r h (came ∙ g))

@@ -10,17 +10,21 @@ use borrow.Author.Needs.{needs}
 use Rattle.meaning.specs.declared.Plant.{Plant}
 use Rattle.meaning.specs.declared.Number.{Number}
 use Rattle.meaning.specs.declared.Refusal.{Refusal}
+use Rattle.meaning.specs.declared.Rule.{Rule}
 use Rattle.meaning.specs.declared.Walk.{Walk}
 use Rattle.meaning.specs.Refusals.{badTable}
 use Rattle.meaning.specs.Numbers.{numberAt}
 use Rattle.meaning.specs.Boxes.{Side, children}
 use Rattle.meaning.specs.Plants.{edgeLimit}
+use Rattle.meaning.specs.Rules.{rule}
+use Rattle.meaning.specs.Tables.{rulesOf}
 use Rattle.meaning.specs.Verdicts.{each}
 use Rattle.tables.specs.Boxes.{boxOf}
 use Rattle.tables.specs.Frames.{plantFrom}
+use Rattle.tables.specs.Trees.{judged}
 use Rattle.tables.proofs.boxes.Laws.{small-children}
 use Rattle.tables.proofs.frames.Laws.{rooms}
-use Rattle.tables.proofs.checks.Laws.{tree, node-broken, node-over, node-tile, node-deep, node-stuck, node-split, children-done, children-more, children-stopped}
+use Rattle.tables.proofs.Walks.{tree-broken, tree-over, tree-tile, tree-deep, tree-stuck, tree-split, children-done, children-more, children-stopped}
 use borrow.Fn.Kinds.{In}
 use borrow.Fn.PlainCycle.{Measures, is, falls, and}
 use Rattle.tables.proofs.checks.walk.Reads as walk
@@ -49,7 +53,7 @@ claims t = (number-reads.Asked, number-reads.Learnt, broken-reads.Asked, broken-
 
 abbrev walk-Inv-loop : walk-lts.InvT-loop
 walk-Inv-loop f coef table d at b k next n count place₀ c₀ place c =
-    (c ≤ count) × (each (tree (plantFrom f coef) (d - 1) table) (drop c (children (boxOf (f .n) b))) place ≡ tree (plantFrom f coef) d table at (boxOf (f .n) b))
+    (c ≤ count) × (each (judged (plantFrom f coef) (d - 1) table) (drop c (children (boxOf (f .n) b))) place ≡ judged (plantFrom f coef) d table at (boxOf (f .n) b))
 
 abbrev walk-μ-loop : walk-lts.MeasureT-loop
 walk-μ-loop f coef table d at b k next n count place₀ c₀ place c = count - c
@@ -64,10 +68,13 @@ Node t = walk-lts.After-k (claims t) (walk-at t) walk.Post walk-Inv-loop walk-μ
 abbrev Child : ℕ → Type 0
 Child t = walk-lts.After-walk (claims t) (walk-at t) walk.Post walk-Inv-loop walk-μ-loop
 
--- the plant, the table, the box, and the answer that is asked for
+-- the plant, its tile rule, the table, the box, and the answer that is asked for
 module _ (t : ℕ) (s : Call t) where
   abbrev plant : Plant
   plant = plantFrom (s .args .f) (now (s .args .coef))
+
+  abbrev judge : List Side → List ℕ → Rule
+  judge = rule (rulesOf plant)
 
   abbrev table : List ℕ
   table = now (s .args .table)
@@ -76,7 +83,7 @@ module _ (t : ℕ) (s : Call t) where
   box = boxOf (s .args .f .n) (s .args .b)
 
   abbrev whole : Walk
-  whole = tree plant (s .args .d) table (s .args .at) box
+  whole = judged plant (s .args .d) table (s .args .at) box
 
 -- the node's number, and the laws of the node at it
 module _ (t : ℕ) (n : Node t) where
@@ -93,13 +100,13 @@ module _ (t : ℕ) (n : Node t) where
   value = sym (n .before .before .number .ensures) ∙ n .k .given .1
 
   over : plant t from .k < size → Walk.Refused (badTable (from .args .at)) ≡ whole t from
-  over h = node-over (plant t from) (from .args .d) (table t from) (from .args .at) (box t from) size next value h
+  over h = tree-over (plant t from) (judge t from) (from .args .d) (table t from) (from .args .at) (box t from) size next value h
 
   deep : size ≤ 0 → from .args .d ≡ 0 → Walk.Refused (badTable (from .args .at)) ≡ whole t from
-  deep z h = node-deep (plant t from) (from .args .d) (table t from) (from .args .at) (box t from) size next value z h
+  deep z h = tree-deep (plant t from) (judge t from) (from .args .d) (table t from) (from .args .at) (box t from) size next value z h
 
   stuck : size ≤ 0 → length (children (box t from)) ≡ 0 → Walk.Refused (badTable (from .args .at)) ≡ whole t from
-  stuck z h = node-stuck (plant t from) (from .args .d) (table t from) (from .args .at) (box t from) size next value z h
+  stuck z h = tree-stuck (plant t from) (judge t from) (from .args .d) (table t from) (from .args .at) (box t from) size next value z h
 
 -- a child walked over: the loop it is in, and the laws of the children at it
 module _ (t : ℕ) (w : Child t) where
@@ -117,12 +124,12 @@ module _ (t : ℕ) (w : Child t) where
   in-count = let k = w .before .before .before .before .before .count .ensures in let h = w .before .before .loop-test .taken in rw (← k) h
 
   stopped : (e : Refusal) → w .walk .result ≡ Walk.Refused e → w .walk .result ≡ whole t parent
-  stopped e h = children-stopped (plant t parent) (parent .args .d - 1) (table t parent) (box t parent) done at-kid (whole t parent) (w .before .before .before .loop .inv .1)
-      in-count (boxOf (parent .args .f .n) (w .before .child .result)) (w .before .child .ensures) (w .walk .result) (w .walk .ensures) e h
+  stopped e h = children-stopped (plant t parent) (judge t parent) (parent .args .d - 1) (table t parent) (box t parent) done at-kid in-count (boxOf (parent .args .f .n) (w .before .child .result)) (w .before .child .ensures) (w .walk .result)
+      (w .walk .ensures) e h ∙ w .before .before .before .loop .inv .1
 
-  more : (m : ℕ) → w .walk .result ≡ Walk.Next m → each (tree (plant t parent) (parent .args .d - 1) (table t parent)) (drop (done + 1) (children (box t parent))) m ≡ whole t parent
-  more m h = children-more (plant t parent) (parent .args .d - 1) (table t parent) (box t parent) done at-kid (whole t parent) (w .before .before .before .loop .inv .1)
-      in-count (boxOf (parent .args .f .n) (w .before .child .result)) (w .before .child .ensures) (w .walk .result) (w .walk .ensures) m h
+  more : (m : ℕ) → w .walk .result ≡ Walk.Next m → each (judged (plant t parent) (parent .args .d - 1) (table t parent)) (drop (done + 1) (children (box t parent))) m ≡ whole t parent
+  more m h = children-more (plant t parent) (judge t parent) (parent .args .d - 1) (table t parent) (box t parent) done at-kid in-count (boxOf (parent .args .f .n) (w .before .child .result)) (w .before .child .ensures) (w .walk .result)
+      (w .walk .ensures) m h ∙ w .before .before .before .loop .inv .1
 
 walk-number-requires : (t : ℕ) → walk-lts.Need-number-requires (claims t) (walk-at t) walk.Post walk-Inv-loop walk-μ-loop
 walk-number-requires t c κs = search needs
@@ -140,7 +147,7 @@ walk-returns : (t : ℕ) → walk-lts.Need-returns (claims t) (walk-at t) walk.P
 walk-returns t c =
     let s = c .before .before .before .before .before in
     ap Walk.Refused (c .broken .ensures)
-    ∙ node-broken (plant t s) (s .args .d) (table t s) (s .args .at) (box t s) (sym (c .before .before .before .number .ensures) ∙ c .before .enum-told .given .1)
+    ∙ tree-broken (plant t s) (judge t s) (s .args .d) (table t s) (s .args .at) (box t s) (sym (c .before .before .before .number .ensures) ∙ c .before .enum-told .given .1)
 
 walk-bad-table-requires : (t : ℕ) → walk-lts.Need-bad-table-requires (claims t) (walk-at t) walk.Post walk-Inv-loop walk-μ-loop
 walk-bad-table-requires t c κs = search needs
@@ -155,7 +162,7 @@ walk-returns-3 : (t : ℕ) → walk-lts.Need-returns-3 (claims t) (walk-at t) wa
 walk-returns-3 t c =
     let n = c .before .before .before .before .before in
     let s = from t n in
-    node-tile (plant t s) (s .args .d) (table t s) (s .args .at) (box t s) (size t n) (next t n) (value t n) (c .before .if2 .taken) (c .before .before .if1 .left) (c .tile .result) (c .tile .ensures)
+    c .tile .ensures ∙ tree-tile (plant t s) (judge t s) (s .args .d) (table t s) (s .args .at) (box t s) (size t n) (next t n) (value t n) (c .before .if2 .taken) (c .before .before .if1 .left)
 
 walk-bad-table-requires-2 : (t : ℕ) → walk-lts.Need-bad-table-requires-2 (claims t) (walk-at t) walk.Post walk-Inv-loop walk-μ-loop
 walk-bad-table-requires-2 t c κs = search needs
@@ -178,7 +185,7 @@ walk-loop-holds t c =
     let n = c .before .before .before .before .before .before .before in
     let s = from t n in
     let some : length (children (box t s)) ≡ 0 → ⊥ = λ z. c .if4 .left (c .before .count .ensures ∙ z) in
-    (omega arith, node-split (plant t s) (s .args .d) (table t s) (s .args .at) (box t s) (size t n) (next t n) (value t n) (c .before .before .before .if2 .left) (c .before .before .if3 .left) some)
+    (omega arith, tree-split (plant t s) (judge t s) (s .args .d) (table t s) (s .args .at) (box t s) (size t n) (next t n) (value t n) (c .before .before .before .if2 .left) (c .before .before .if3 .left) some)
 
 walk-child-requires : (t : ℕ) → walk-lts.Need-child-requires (claims t) (walk-at t) walk.Post walk-Inv-loop walk-μ-loop
 walk-child-requires t c κs =
@@ -223,7 +230,7 @@ walk-returns-7 t c =
     let l = c .before .loop in
     let k = c .before .before .before .count .ensures in
     let h = c .loop-test .left in
-    children-done (plant t s) (s .args .d - 1) (table t s) (box t s) (l .c) (l .place) (whole t s) (l .inv .1) (rw (← k) h)
+    children-done (plant t s) (judge t s) (s .args .d - 1) (table t s) (box t s) (l .c) (l .place) (rw (← k) h) ∙ l .inv .1
 
 pub +walk-spec : {M : Type 1} → statement M
 +walk-spec = close μ-walk λ t. walk-lts.spec (claims t)

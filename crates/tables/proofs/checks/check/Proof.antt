@@ -1,9 +1,9 @@
 -- `checks::check`: the plant's file, which is sound where it was judged good, then the table. Assumes nothing.
-use mathlib.Core.Path.{_∙_}
+use mathlib.Core.Path.{sym, _∙_}
 use denote.Ref.{now}
 use Rattle.meaning.specs.Plants.{plantJudged}
 use Rattle.promises.specs.Judged.{judged-sound}
-use Rattle.tables.proofs.checks.Laws.{plant-good, plant-bad, checked-bad, checked-good}
+use Rattle.promises.specs.PlantRules.{read-good, read-bad, checked-bad, checked-as}
 use borrow.Author.Needs.{needs}
 use Rattle.tables.proofs.checks.check.Statement.{statement}
 use Rattle.tables.proofs.checks.check.Tie as tie
@@ -22,7 +22,7 @@ judge-requires c κs =
     let a = c .before .before .before .before .before .before .args in
     let s = now (a .plant) in
     let x = c .before .before .before .read-plant in
-    judged-sound s (x .result .plant) (plant-good (plantJudged s) (x .result) (x .ensures) (c .before .enum-told .given .1))
+    judged-sound s (x .result .plant) (read-good (plantJudged s) (x .result) (x .ensures) (c .before .enum-told .given .1))
 
 returns : tie.Need-returns
 returns c =
@@ -30,14 +30,14 @@ returns c =
     let s = now (a .plant) in
     let x = c .before .before .before .read-plant in
     let g = c .before .verdict .given in
-    checked-bad s (now (a .table)) (g .0 .0) (plant-bad (plantJudged s) (x .result) (x .ensures) (g .0 .0) (g .1))
+    sym (checked-bad s (g .0 .0) (read-bad (plantJudged s) (x .result) (x .ensures) (g .0 .0) (g .1)) (now (a .table)))
 
 returns-2 : tie.Need-returns-2
 returns-2 c =
     let a = c .before .before .before .before .before .before .before .args in
     let s = now (a .plant) in
     let x = c .before .before .before .before .read-plant in
-    c .judge .ensures ∙ checked-good s (now (a .table)) (x .result .plant) (plant-good (plantJudged s) (x .result) (x .ensures) (c .before .before .enum-told .given .1))
+    c .judge .ensures ∙ sym (checked-as s (x .result .plant) (read-good (plantJudged s) (x .result) (x .ensures) (c .before .before .enum-told .given .1)) (now (a .table)))
 
 pub check-spec : {M : Type 1} → statement M
 check-spec =

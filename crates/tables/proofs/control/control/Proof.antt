@@ -3,12 +3,12 @@ use mathlib.Core.Path.{_≡_, sym, ap, _∙_}
 use denote.Ref.{now}
 use borrow.Author.Needs.{needs}
 use Rattle.meaning.specs.declared.Plant.{Plant}
-use Rattle.meaning.specs.declared.PlantRead.{PlantRead}
 use Rattle.meaning.specs.Control.{call}
 use Rattle.meaning.specs.Files.{good}
 use Rattle.meaning.specs.Plants.{plantJudged}
 use Rattle.meaning.specs.Tables.{rulesOf}
-use Rattle.tables.proofs.control.Laws.{plant-refused, plant-called, plant-good, frame-ready}
+use Rattle.promises.specs.PlantRules.{read-good, read-bad, controlled-bad, controlled-as}
+use Rattle.tables.proofs.control.Laws.{frame-ready}
 use Rattle.tables.proofs.control.control.Statement.{statement}
 use Rattle.tables.proofs.control.control.Tie as tie
 
@@ -16,7 +16,7 @@ use Rattle.tables.proofs.control.control.Tie as tie
 taken : (c : tie.After-enum-told) → plantJudged (now (c .before .before .before .before .before .args .plant)) ≡ good (c .before .before .read-plant .result .plant)
 taken c =
     let r = c .before .before .read-plant in
-    plant-good (now (c .before .before .before .before .before .args .plant)) (ap (λ (a : PlantRead). a .verdict) (sym (r .ensures)) ∙ c .enum-told .given .1) ∙ ap (λ (a : PlantRead). good (a .plant)) (sym (r .ensures))
+    read-good (plantJudged (now (c .before .before .before .before .before .args .plant))) (r .result) (r .ensures) (c .enum-told .given .1)
 
 read-plant-requires : tie.Need-read-plant-requires
 read-plant-requires c κs = search needs
@@ -39,7 +39,8 @@ returns : tie.Need-returns
 returns c =
     let a = c .before .before .before .before .before .before .args in
     let e = c .before .verdict .given in
-    plant-refused (now (a .plant)) (now (a .table)) (a .st) (a .x) (e .0 .0) (ap (λ (r : PlantRead). r .verdict) (sym (c .before .before .before .read-plant .ensures)) ∙ e .1)
+    let r = c .before .before .before .read-plant in
+    sym (controlled-bad (now (a .plant)) (e .0 .0) (read-bad (plantJudged (now (a .plant))) (r .result) (r .ensures) (e .0 .0) (e .1)) (now (a .table)) (a .st) (a .x))
 
 returns-2 : tie.Need-returns-2
 returns-2 c =
@@ -47,7 +48,7 @@ returns-2 c =
     let a = t .before .before .before .before .before .args in
     let p = t .before .before .read-plant .result .plant in
     c .call .ensures (p .coef) ∙ ap (λ (q : Plant). call (rulesOf q) (now (a .table)) (a .st) (a .x)) (c .before .framed .ensures)
-    ∙ plant-called (now (a .plant)) (now (a .table)) (a .st) (a .x) p (taken t)
+    ∙ sym (controlled-as (now (a .plant)) p (taken t) (now (a .table)) (a .st) (a .x))
 
 pub control-spec : {M : Type 1} → statement M
 control-spec =

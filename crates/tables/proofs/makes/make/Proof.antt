@@ -13,8 +13,8 @@ use Rattle.meaning.specs.Files.{good}
 use Rattle.meaning.specs.Plants.{plantJudged}
 use Rattle.meaning.specs.Tables.{rulesOf}
 use Rattle.promises.specs.Judged.{judged-sound}
+use Rattle.promises.specs.PlantRules.{read-good, read-bad}
 use Rattle.tables.specs.Makes.{definedBytes}
-use Rattle.tables.proofs.checks.Laws.{plant-good, plant-bad}
 use Rattle.tables.proofs.makes.Laws.{wrote-length, left-bad, left-none, left-short, left-done}
 use borrow.Author.Needs.{needs}
 use Rattle.tables.proofs.makes.make.Statement.{statement}
@@ -32,7 +32,7 @@ module _ (w : tie.After-table) where
   plant = w .before .before .before .before .before .read-plant .result .plant
 
   good-plant : plantJudged file ≡ good plant
-  good-plant = let x = w .before .before .before .before .before .read-plant in plant-good (plantJudged file) (x .result) (x .ensures) (w .before .before .before .enum-told .given .1)
+  good-plant = let x = w .before .before .before .before .before .read-plant in read-good (plantJudged file) (x .result) (x .ensures) (w .before .before .before .enum-told .given .1)
 
   same : length (w .table .last .1 .0) ≡ length buffer
   same = wrote-length (definedBytes (rulesOf plant)) buffer 0 (w .table .result) (w .table .last .1 .0) (w .table .ensures)
@@ -53,7 +53,7 @@ table-requires : tie.Need-table-requires
 table-requires c κs =
     let s = now (c .before .before .before .before .before .before .before .args .plant) in
     let x = c .before .before .before .before .read-plant in
-    judged-sound s (x .result .plant) (plant-good (plantJudged s) (x .result) (x .ensures) (c .before .before .enum-told .given .1))
+    judged-sound s (x .result .plant) (read-good (plantJudged s) (x .result) (x .ensures) (c .before .before .enum-told .given .1))
 
 enum-known-length : tie.Need-enum-known-length
 enum-known-length c = search needs
@@ -100,7 +100,7 @@ returns-3 c =
     let a = c .before .before .before .before .before .before .before .before .before .before .args in
     let x = c .before .before .before .before .before .before .before .read-plant in
     let g = c .before .before .before .before .before .verdict .given in
-    let e = left-bad (now (a .plant)) (now (a .buf)) (g .0 .0) (plant-bad (plantJudged (now (a .plant))) (x .result) (x .ensures) (g .0 .0) (g .1)) in
+    let e = left-bad (now (a .plant)) (now (a .buf)) (g .0 .0) (read-bad (plantJudged (now (a .plant))) (x .result) (x .ensures) (g .0 .0) (g .1)) in
     (ap (λ (x : Left). x .answer) (sym e), c .before .before .clear .ensures ∙ ap (λ (x : Left). x .buffer) (sym e))
 
 same-length-4 : tie.Need-same-length-4

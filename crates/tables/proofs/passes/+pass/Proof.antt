@@ -21,7 +21,8 @@ use Rattle.tables.specs.Frames.{plantFrom}
 use Rattle.tables.specs.Trees.{always, passed}
 use Rattle.tables.specs.Tiles.{patternOf}
 use Rattle.tables.proofs.boxes.Laws.{small-children}
-use Rattle.tables.proofs.passes.Laws.{let-be, tree-broken, tree-over, tree-tile, tree-deep, tree-stuck, tree-split, children-done, children-more, children-stopped}
+use Rattle.tables.proofs.Walks.{tree-broken, tree-over, tree-tile, tree-deep, tree-stuck, tree-split, children-done, children-more, children-stopped}
+use Rattle.tables.proofs.passes.Laws.{let-be}
 use borrow.Fn.Kinds.{In}
 use borrow.Fn.PlainCycle.{Measures, is, falls, and}
 use Rattle.tables.proofs.passes.pass.Reads as pass
