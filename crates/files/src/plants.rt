@@ -41,7 +41,7 @@ fn refused(e: Refusal) -> PlantRead
     }
 }
 
-// The same, of a part that was refused.
+// The same, of a part's walk that was refused: `let else` keeps no refusal, so the walk is handed on whole. Next does not occur.
 fn refused_by(w: Walk) -> PlantRead
     ensures { λ r. ⌜ r ≡ readOf (bad (refusalOf w)) ⌝ }
 {
@@ -115,7 +115,7 @@ pub fn read_plant(s: &[u8]) -> PlantRead
     read_body(s, b, related, at)
 }
 
-// The file that the values would be, as far as there is room; the place behind it. Where n or N is out of range the header says it all.
+// The file that the values would be, as far as there is room; the place behind it. Where n or N is out of range what follows is left out: the header is refused first.
 fn put_plant(p: Plant, buf: &mut [u8]) -> usize
     ensures { λ r. ⌜ Put (now (buf .entry)) 0 (draftBytes p) r (now (buf .exit)) ⌝ }
 {
