@@ -5,6 +5,7 @@ use mathlib.Core.Path.{_≡_}
 use mathlib.Core.Bool.{Bool}
 use mathlib.Core.List.{List, []}
 use mathlib.Core.Option.{Option, none, some}
+use lib.ListN.{set}
 use lib.IntN.{ℤ, pos, natAbs, _+ℤ_, _-ℤ_, _*ℤ_}
 use Rattle.laws.specs.Guards.{guard}
 use Rattle.laws.specs.Lists.{at, tab, all}
@@ -14,16 +15,11 @@ use Rattle.meaning.specs.Boxes.{Side, side, sideAt, covers}
 use Rattle.meaning.specs.Images.{leastOf, greatestOf, extreme}
 use Rattle.meaning.specs.Plants.{rowStart}
 use Rattle.promises.specs.Sound.{Sound}
-use Rattle.tables.specs.declared.boxes.Bx.{Bx}
 use Rattle.tables.specs.Images.{entriesOf, RowSound}
 
 -- ceil(v / q) ≥ lo exactly when v ≥ q·(lo − 1) + 1, floor(v / q) ≤ hi exactly when v ≤ q·(hi + 1) − 1; v is a sum with an end of the band w
 abbrev pub limitSide : ℕ → Side → Side → Side
 limitSide q w s = side (pos q *ℤ (s .lo -ℤ pos 1) +ℤ pos 1 -ℤ w .lo) (pos q *ℤ (s .hi +ℤ pos 1) -ℤ pos 1 -ℤ w .hi)
-
--- limits of side i of box b, with the band w
-abbrev pub limitsAt : ℕ → Bx → Bx → ℕ → Side
-limitsAt q w b i = limitSide q (sideAt (w .lo) (w .hi) i) (sideAt (b .lo) (b .hi) i)
 
 -- the least and the greatest of A·x + b over a box, by the row that starts at `start`
 abbrev pub sumSide : ℕ → List ℤ → ℕ → List Side → Side
@@ -37,6 +33,10 @@ divided q w s = side (ceilZ (s .lo +ℤ w .lo) q) (floorZ (s .hi +ℤ w .hi) q)
 
 abbrev pub lentSide : List ℤ → ℕ → ℕ → Side
 lentSide limits base i = side (at limits (base + i)) (at limits (base + 4 + i))
+
+-- side i of the box at `base` set
+abbrev pub stored : List ℤ → ℕ → ℕ → Side → List ℤ
+stored limits base i s = set (set limits (base + i) (s .lo)) (base + 4 + i) (s .hi)
 
 pub record Laid (n q : ℕ) (root safe band : ℕ → Side) (limits : List ℤ) : Type 0 where
   pub in-safe : (i : ℕ) → i < n → lentSide limits 0 i ≡ limitSide q (band i) (safe i)

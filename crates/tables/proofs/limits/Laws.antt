@@ -1,24 +1,33 @@
--- Laws for the proof of module limits: limits fit the machine's words, and six arrays of four laid in one of 24. Assumes nothing.
-use Prim.Native.Nat.{ℕ, zero, suc, _+_, _≤_, _<_}
+-- Laws for the proof of module limits: limits fit the machine's words, and the array is laid dimension by dimension. Assumes nothing.
+use Prim.Native.Nat.{ℕ, _+_, _≤_, _<_}
 use mathlib.Core.Path.{_≡_, refl, sym, ap, _∙_}
-use mathlib.Core.List.{List, [], _∷_}
+use mathlib.Core.List.{List}
 use native.Mathlib.Omega.{arith}
+use native.Mathlib.Decide.{ℕ-discrete}
 use native.Mathlib.Nat.{zero-add}
-use lib.ListN.{getD}
+use lib.ListN.{length, getD, set, length-set}
+use lib.Seq.{getD-set-other}
 use lib.IntN.{ℤ, pos}
 use mir.Syntax.{w64}
 use mir.Val.{ofZ, toZ}
 use Rattle.laws.specs.Lists.{at, tab}
-use Rattle.laws.specs.Tabs.{getD-tab}
+use Rattle.laws.specs.Tabs.{getD-tab, at-stored}
 use Rattle.laws.specs.Expressions.{Ex, var, lit, _⊕_, _⊝_, _⊗_, bound, size, exact}
-use Rattle.meaning.specs.Boxes.{Side, side, sideAt}
+use Rattle.meaning.specs.Boxes.{Side, side}
 use Rattle.meaning.specs.Plants.{edgeLimit, bandLimit}
 use Rattle.tables.specs.Boxes.{Bounded}
-use Rattle.tables.specs.Limits.{limitSide, lentSide}
+use Rattle.tables.specs.Limits.{limitSide, lentSide, stored, Laid}
 
--- what the machine holds of a number
-abbrev pub word : ℤ → ℤ
-word z = toZ w64 (ofZ w64 z)
+-- ---- what the machine holds of a side: itself, of a small one and of its limits
+
+abbrev held : Side → Side
+held s = side (toZ w64 (ofZ w64 (s .lo))) (toZ w64 (ofZ w64 (s .hi)))
+
+pub band-held : (w : Side) → Bounded bandLimit w → held w ≡ w
+band-held w g = rw (exact (var (w .lo) bandLimit (g .low)) tt, exact (var (w .hi) bandLimit (g .high)) tt) refl
+
+pub edge-held : (s : Side) → Bounded edgeLimit s → held s ≡ s
+edge-held s e = rw (exact (var (s .lo) edgeLimit (e .low)) tt, exact (var (s .hi) edgeLimit (e .high)) tt) refl
 
 module _ (q : ℕ) (w s : Side) (h : q ≤ 10_000) (g : Bounded bandLimit w) (e : Bounded edgeLimit s) where
   abbrev from : Ex
@@ -27,44 +36,84 @@ module _ (q : ℕ) (w s : Side) (h : q ≤ 10_000) (g : Bounded bandLimit w) (e 
   abbrev to : Ex
   to = var (pos q) 10_000 h ⊗ (var (s .hi) edgeLimit (e .high) ⊕ lit (pos 1)) ⊝ lit (pos 1) ⊝ var (w .hi) bandLimit (g .high)
 
-  pub low-word : word (limitSide q w s .lo) ≡ limitSide q w s .lo
-  low-word = exact (var (limitSide q w s .lo) (bound from) (size from)) tt
+  -- of what was answered for the two as they are held
+  pub limit-held : (t : Side) → t ≡ limitSide q (held w) (held s) → held t ≡ limitSide q w s
+  limit-held t k =
+      ap held {x = t} {y = limitSide q w s} (k ∙ ap (λ (v : Side). limitSide q v (held s)) (band-held w g) ∙ ap (λ (v : Side). limitSide q w v) (edge-held s e))
+      ∙ rw (exact (var (limitSide q w s .lo) (bound from) (size from)) tt, exact (var (limitSide q w s .hi) (bound to) (size to)) tt) refl
 
-  pub high-word : word (limitSide q w s .hi) ≡ limitSide q w s .hi
-  high-word = exact (var (limitSide q w s .hi) (bound to) (size to)) tt
+-- ---- one side is set
 
--- ---- the array
+length-stored : (l : List ℤ) (base i : ℕ) (s : Side) → length (stored l base i s) ≡ length l
+length-stored l base i s = length-set (set l (base + i) (s .lo)) (base + 4 + i) (s .hi) ∙ length-set l (base + i) (s .lo)
 
-abbrev pub spread : List ℤ → List ℤ → List ℤ → List ℤ → List ℤ → List ℤ → List ℤ
-spread a b c d e f =
-    word (at a 0) ∷ word (at a 1) ∷ word (at a 2) ∷ word (at a 3) ∷ word (at b 0) ∷ word (at b 1) ∷ word (at b 2) ∷ word (at b 3)
-    ∷ word (at c 0) ∷ word (at c 1) ∷ word (at c 2) ∷ word (at c 3) ∷ word (at d 0) ∷ word (at d 1) ∷ word (at d 2) ∷ word (at d 3)
-    ∷ word (at e 0) ∷ word (at e 1) ∷ word (at e 2) ∷ word (at e 3) ∷ word (at f 0) ∷ word (at f 1) ∷ word (at f 2) ∷ word (at f 3) ∷ []
+at-other : (l : List ℤ) (i : ℕ) (z : ℤ) (k : ℕ) → (k ≡ i → ⊥) → at (set l i z) k ≡ at l k
+at-other l i z k h = getD-set-other l i k z (pos 0) h
 
-abbrev worded : List ℤ → List ℤ → ℕ → Side
-worded a b i = side (word (at a i)) (word (at b i))
+module _ (l : List ℤ) (base i : ℕ) (s : Side) (h : i < 4) where
+  abbrev half : List ℤ
+  half = set l (base + i) (s .lo)
 
--- a law for the first four
-four : (f g : ℕ → Side) → f 0 ≡ g 0 → f 1 ≡ g 1 → f 2 ≡ g 2 → f 3 ≡ g 3 → (i : ℕ) → i < 4 → f i ≡ g i
-four f g p q r s zero h = p
-four f g p q r s (suc zero) h = q
-four f g p q r s (suc (suc zero)) h = r
-four f g p q r s (suc (suc (suc zero))) h = s
-four f g p q r s (suc (suc (suc (suc i)))) h = absurd (omega arith)
+  stored-here : base + 8 ≤ length l → lentSide (stored l base i s) base i ≡ s
+  stored-here k =
+      let low = at-other half (base + 4 + i) (s .hi) (base + i) (λ e. absurd (omega arith)) ∙ at-stored l (base + i) (s .lo) (omega arith) in
+      let high = at-stored half (base + 4 + i) (s .hi) (omega (arith, length-set l (base + i) (s .lo))) in
+      rw (low, high) refl
 
--- a side that is laid is the side that was meant, where the machine holds it
-module _ (a b : List ℤ) (i : ℕ) (t : Side) (e : sideAt a b i ≡ t) (p : word (t .lo) ≡ t .lo) (q : word (t .hi) ≡ t .hi) where
-  meant : worded a b i ≡ t
-  meant = rw (ap (λ (s : Side). s .lo) e, ap (λ (s : Side). s .hi) e, p, q) refl
+  -- every other side is as it was: of a box in front, of one behind, and one before it in its own
+  module _ (place j : ℕ) (k : j < 4) where
+    same : (place + j ≡ base + i → ⊥) → (place + j ≡ base + 4 + i → ⊥) → (place + 4 + j ≡ base + i → ⊥) → (place + 4 + j ≡ base + 4 + i → ⊥) → lentSide (stored l base i s) place j ≡ lentSide l place j
+    same p q r t =
+        let low = at-other half (base + 4 + i) (s .hi) (place + j) q ∙ at-other l (base + i) (s .lo) (place + j) p in
+        let high = at-other half (base + 4 + i) (s .hi) (place + 4 + j) t ∙ at-other l (base + i) (s .lo) (place + 4 + j) r in
+        rw (low, high) refl
 
-  pub laid-first : (c d f g : List ℤ) → i < 4 → lentSide (spread a b c d f g) 0 i ≡ t
-  laid-first c d f g h = four (lentSide (spread a b c d f g) 0) (worded a b) refl refl refl refl i h ∙ meant
+    stored-behind : place + 8 ≤ base → lentSide (stored l base i s) place j ≡ lentSide l place j
+    stored-behind o = same (λ e. absurd (omega arith)) (λ e. absurd (omega arith)) (λ e. absurd (omega arith)) (λ e. absurd (omega arith))
 
-  pub laid-second : (c d f g : List ℤ) → i < 4 → lentSide (spread c d a b f g) 8 i ≡ t
-  laid-second c d f g h = four (lentSide (spread c d a b f g) 8) (worded a b) refl refl refl refl i h ∙ meant
+    stored-before : base + 8 ≤ place → lentSide (stored l base i s) place j ≡ lentSide l place j
+    stored-before o = same (λ e. absurd (omega arith)) (λ e. absurd (omega arith)) (λ e. absurd (omega arith)) (λ e. absurd (omega arith))
 
-  pub laid-third : (c d f g : List ℤ) → i < 4 → lentSide (spread c d f g a b) 16 i ≡ t
-  laid-third c d f g h = four (lentSide (spread c d f g a b) 16) (worded a b) refl refl refl refl i h ∙ meant
+  stored-beside : (j : ℕ) → j < i → lentSide (stored l base i s) base j ≡ lentSide l base j
+  stored-beside j o = same base j (omega arith) (λ e. absurd (omega arith)) (λ e. absurd (omega arith)) (λ e. absurd (omega arith)) (λ e. absurd (omega arith))
+
+  -- what holds of the sides below i and of s at i
+  stored-more : (t : ℕ → Side) → base + 8 ≤ length l → s ≡ t i → ((j : ℕ) → j < i → lentSide l base j ≡ t j) → (j : ℕ) → j < i + 1 → lentSide (stored l base i s) base j ≡ t j
+  stored-more t k e f j o = go (ℕ-discrete j i)
+    where
+      go : Dec (j ≡ i) → lentSide (stored l base i s) base j ≡ t j
+      go (yes q) = rw q (stored-here k ∙ e)
+      go (no q) = let m : j < i = omega arith in stored-beside j m ∙ f j m
+
+-- ---- the array, dimension by dimension
+
+module _ (q : ℕ) (root safe band : ℕ → Side) where
+  pub laid-none : (l : List ℤ) → Laid 0 q root safe band l
+  laid-none l = record { in-safe = λ i h. absurd (omega arith); in-root = λ i h. absurd (omega arith); in-band = λ i h. absurd (omega arith) }
+
+  -- dimension i behind i of them
+  module _ (i : ℕ) (l : List ℤ) (s r w : Side) (z : length l ≡ 24) (h : i < 4) where
+    abbrev first : List ℤ
+    first = stored l 0 i s
+
+    abbrev second : List ℤ
+    second = stored first 8 i r
+
+    laid-stored : s ≡ limitSide q (band i) (safe i) → r ≡ limitSide q (band i) (root i) → w ≡ band i → Laid i q root safe band l → Laid (i + 1) q root safe band (stored second 16 i w)
+    laid-stored es er ew g = record {
+      in-safe = λ j k. stored-behind second 16 i w h 0 j (omega arith) (omega arith) ∙ stored-behind first 8 i r h 0 j (omega arith) (omega arith)
+          ∙ stored-more l 0 i s h (λ j. limitSide q (band j) (safe j)) (omega arith) es (g .in-safe) j k;
+      in-root = λ j k. stored-behind second 16 i w h 8 j (omega arith) (omega arith)
+          ∙ stored-more first 8 i r h (λ j. limitSide q (band j) (root j)) (omega (arith, length-stored l 0 i s)) er (λ j k. stored-before l 0 i s h 8 j (omega arith) (omega arith) ∙ g .in-root j k) j k;
+      in-band = stored-more second 16 i w h band (omega (arith, length-stored first 8 i r, length-stored l 0 i s)) ew
+          (λ j k. stored-before first 8 i r h 16 j (omega arith) (omega arith) ∙ stored-before l 0 i s h 16 j (omega arith) (omega arith) ∙ g .in-band j k);
+    }
+
+    -- x, y and v are the array after each side that is set
+    pub laid-more : {x y v : List ℤ} → x ≡ stored l 0 i s → y ≡ stored x 8 i r → v ≡ stored y 16 i w → s ≡ limitSide q (band i) (safe i) → r ≡ limitSide q (band i) (root i) → w ≡ band i
+        → Laid i q root safe band l → (length v ≡ 24) × Laid (i + 1) q root safe band v
+    laid-more ex ey ev es er ew g =
+        rw (ev, ey, ex) (length-stored second 16 i w ∙ length-stored first 8 i r ∙ length-stored l 0 i s ∙ z, laid-stored es er ew g)
 
 -- equal lists have equal entries
 pub tab-entry : (f g : ℕ → Side) (n i : ℕ) → tab f n 0 ≡ tab g n 0 → i < n → f i ≡ g i

@@ -1,153 +1,174 @@
--- `limits::lay`: the sides of the two boxes of limits and of the band, each at its place. Assumes nothing.
-use Prim.Native.Nat.{ℕ, _<_}
-use mathlib.Core.Path.{refl}
+-- `limits::lay`: the dimensions that are done are laid. Assumes nothing.
+use Prim.Native.Nat.{ℕ, _-_, _≤_, _<_}
+use mathlib.Core.Path.{_≡_, refl}
 use native.Mathlib.Omega.{arith}
-use borrow.Author.Needs.{needs}
-use Rattle.laws.specs.Expressions.{var, exact}
-use Rattle.meaning.specs.Boxes.{sideAt}
-use Rattle.meaning.specs.Plants.{bandLimit}
-use Rattle.tables.specs.declared.boxes.Bx.{Bx}
-use Rattle.tables.specs.Boxes.{Bounded, boxOf, Small}
-use Rattle.tables.specs.Limits.{limitsAt}
+use lib.ListN.{length}
+use Rattle.meaning.specs.Boxes.{Side, side, sideAt}
+use Rattle.meaning.specs.Plants.{edgeLimit, bandLimit}
+use Rattle.tables.specs.Boxes.{Bounded}
+use Rattle.tables.specs.Limits.{Laid}
 use Rattle.tables.proofs.boxes.Laws.{small-side}
-use Rattle.tables.proofs.limits.Laws.{low-word, high-word, laid-first, laid-second, laid-third, tab-entry}
+use Rattle.tables.proofs.limits.Laws.{band-held, edge-held, limit-held, laid-none, laid-more}
 use Rattle.tables.proofs.limits.lay.Statement.{statement}
 use Rattle.tables.proofs.limits.lay.Tie as tie
 
--- side i of a box
-inside : {k : ℕ} (n : ℕ) (b : Bx) → Small k (boxOf n b) → (i : ℕ) → i < n → Bounded k (sideAt (b .lo) (b .hi) i)
-inside n b s i h = small-side (b .lo) (b .hi) n i s h
+abbrev Inv-loop : tie.InvT-loop
+Inv-loop f band safe root of₀ i₀ of i =
+    (i ≤ f .n) × (length of ≡ 24) × Laid i (f .q) (sideAt (root .lo) (root .hi)) (sideAt (safe .lo) (safe .hi)) (sideAt (band .lo) (band .hi)) of
 
-around-requires : tie.Need-around-requires
-around-requires c κs = search needs
+abbrev μ-loop : tie.MeasureT-loop
+μ-loop f band safe root of₀ i₀ of i = f .n - i
 
-around-requires-2 : tie.Need-around-requires-2
-around-requires-2 c κs = search needs
+-- the round of dimension i, and its sides
+module _ (t : tie.Then1 Inv-loop μ-loop) where
+  abbrev began : tie.Start Inv-loop μ-loop
+  began = t .before .before .before .before .before .before
 
-array-copy-out-t17 : tie.Need-array-copy-out-t17
-array-copy-out-t17 c = search needs
+  abbrev index : ℕ
+  index = t .before .before .loop .i
 
-array-copy-out-t20 : tie.Need-array-copy-out-t20
-array-copy-out-t20 c = search needs
+  few : index < 4
+  few = let h = t .if1 .taken in let n = began .pre .0 .0 in omega arith
 
-array-copy-out-t23 : tie.Need-array-copy-out-t23
-array-copy-out-t23 c = search needs
+  abbrev band : Side
+  band = let f = began .args .f in sideAt (f .band .lo) (f .band .hi) index
 
-array-copy-out-t26 : tie.Need-array-copy-out-t26
-array-copy-out-t26 c = search needs
+  abbrev safe : Side
+  safe = let f = began .args .f in sideAt (f .safe .lo) (f .safe .hi) index
 
-array-copy-out-t29 : tie.Need-array-copy-out-t29
-array-copy-out-t29 c = search needs
+  abbrev root : Side
+  root = let f = began .args .f in sideAt (f .root .lo) (f .root .hi) index
 
-array-copy-out-t32 : tie.Need-array-copy-out-t32
-array-copy-out-t32 c = search needs
+  band-small : Bounded bandLimit band
+  band-small = let f = began .args .f in small-side (f .band .lo) (f .band .hi) (f .n) index (began .pre .1 .0) (t .if1 .taken)
 
-array-copy-out-t35 : tie.Need-array-copy-out-t35
-array-copy-out-t35 c = search needs
+  safe-small : Bounded edgeLimit safe
+  safe-small = let f = began .args .f in small-side (f .safe .lo) (f .safe .hi) (f .n) index (began .pre .1 .2) (t .if1 .taken)
 
-array-copy-out-t38 : tie.Need-array-copy-out-t38
-array-copy-out-t38 c = search needs
+  root-small : Bounded edgeLimit root
+  root-small = let f = began .args .f in small-side (f .root .lo) (f .root .hi) (f .n) index (began .pre .1 .1) (t .if1 .taken)
 
-array-copy-out-t41 : tie.Need-array-copy-out-t41
-array-copy-out-t41 c = search needs
+-- where the round began
+abbrev first : tie.After-put-side Inv-loop μ-loop → tie.Then1 Inv-loop μ-loop
+first c = c .before .before .before .before .before .before .before .before .before .before .before
 
-array-copy-out-t44 : tie.Need-array-copy-out-t44
-array-copy-out-t44 c = search needs
+abbrev second : tie.After-put-side2 Inv-loop μ-loop → tie.After-put-side Inv-loop μ-loop
+second c = c .before .before .before .before .before
 
-array-copy-out-t47 : tie.Need-array-copy-out-t47
-array-copy-out-t47 c = search needs
+loop-holds : tie.Need-loop-holds Inv-loop μ-loop
+loop-holds c = (omega arith, refl, laid-none _ _ _ _ _)
 
-array-copy-out-t50 : tie.Need-array-copy-out-t50
-array-copy-out-t50 c = search needs
+mul-wl : tie.Need-mul-wl Inv-loop μ-loop
+mul-wl c = let h = few c in omega arith
 
-array-copy-out-t53 : tie.Need-array-copy-out-t53
-array-copy-out-t53 c = search needs
+element-copy-out-wl : tie.Need-element-copy-out-wl Inv-loop μ-loop
+element-copy-out-wl c = few c
 
-array-copy-out-t56 : tie.Need-array-copy-out-t56
-array-copy-out-t56 c = search needs
+mul-wh : tie.Need-mul-wh Inv-loop μ-loop
+mul-wh c = let h = few (c .before) in omega arith
 
-array-copy-out-t59 : tie.Need-array-copy-out-t59
-array-copy-out-t59 c = search needs
+element-copy-out-wh : tie.Need-element-copy-out-wh Inv-loop μ-loop
+element-copy-out-wh c = few (c .before)
 
-array-copy-out-t62 : tie.Need-array-copy-out-t62
-array-copy-out-t62 c = search needs
+mul-sl : tie.Need-mul-sl Inv-loop μ-loop
+mul-sl c = let h = few (c .before .before) in omega arith
 
-array-copy-out-t65 : tie.Need-array-copy-out-t65
-array-copy-out-t65 c = search needs
+element-copy-out-sl : tie.Need-element-copy-out-sl Inv-loop μ-loop
+element-copy-out-sl c = few (c .before .before)
 
-array-copy-out-t68 : tie.Need-array-copy-out-t68
-array-copy-out-t68 c = search needs
+mul-sh : tie.Need-mul-sh Inv-loop μ-loop
+mul-sh c = let h = few (c .before .before .before) in omega arith
 
-array-copy-out-t71 : tie.Need-array-copy-out-t71
-array-copy-out-t71 c = search needs
+element-copy-out-sh : tie.Need-element-copy-out-sh Inv-loop μ-loop
+element-copy-out-sh c = few (c .before .before .before)
 
-array-copy-out-t74 : tie.Need-array-copy-out-t74
-array-copy-out-t74 c = search needs
+mul-rl : tie.Need-mul-rl Inv-loop μ-loop
+mul-rl c = let h = few (c .before .before .before .before) in omega arith
 
-array-copy-out-t77 : tie.Need-array-copy-out-t77
-array-copy-out-t77 c = search needs
+element-copy-out-rl : tie.Need-element-copy-out-rl Inv-loop μ-loop
+element-copy-out-rl c = few (c .before .before .before .before)
 
-array-copy-out-t80 : tie.Need-array-copy-out-t80
-array-copy-out-t80 c = search needs
+mul-rh : tie.Need-mul-rh Inv-loop μ-loop
+mul-rh c = let h = few (c .before .before .before .before .before) in omega arith
 
-array-copy-out-t83 : tie.Need-array-copy-out-t83
-array-copy-out-t83 c = search needs
+element-copy-out-rh : tie.Need-element-copy-out-rh Inv-loop μ-loop
+element-copy-out-rh c = few (c .before .before .before .before .before)
 
-array-copy-out-t86 : tie.Need-array-copy-out-t86
-array-copy-out-t86 c = search needs
+around-requires : tie.Need-around-requires Inv-loop μ-loop
+around-requires c κs =
+    let t = c .before .before .before .before .before .before in
+    (began t .pre .0 .1, rw (band-held (band t) (band-small t)) (band-small t), rw (edge-held (safe t) (safe-small t)) (safe-small t))
 
-returns : tie.Need-returns
+put-side-requires : tie.Need-put-side-requires Inv-loop μ-loop
+put-side-requires c κs = (omega arith, few (c .before .before .before .before .before .before .before .before .before .before))
+
+around-requires-2 : tie.Need-around-requires-2 Inv-loop μ-loop
+around-requires-2 c κs =
+    let t = first c in
+    (began t .pre .0 .1, rw (band-held (band t) (band-small t)) (band-small t), rw (edge-held (root t) (root-small t)) (root-small t))
+
+put-side-requires-2 : tie.Need-put-side-requires-2 Inv-loop μ-loop
+put-side-requires-2 c κs = (omega arith, few (first (c .before .before .before .before)))
+
+put-side-requires-3 : tie.Need-put-side-requires-3 Inv-loop μ-loop
+put-side-requires-3 c κs = (omega arith, few (first (second (c .before))))
+
+add-i : tie.Need-add-i Inv-loop μ-loop
+add-i c = let h = few (first (second (c .before .before))) in omega arith
+
+loop-less : tie.Need-loop-less Inv-loop μ-loop
+loop-less c = let h = first (second (c .before .before)) .if1 .taken in omega arith
+
+loop-again : tie.Need-loop-again Inv-loop μ-loop
+loop-again c =
+    let r = c .before .before in
+    let p = second r in
+    let t = first p in
+    let f = began t .args .f in
+    let q = began t .pre .0 .1 in
+    let l = t .before .before .loop in
+    let s = p .before .before .before .before .around in
+    let o = r .before .before .before .before .around2 in
+    let h = t .if1 .taken in
+    let more = laid-more (f .q) (sideAt (f .root .lo) (f .root .hi)) (sideAt (f .safe .lo) (f .safe .hi)) (sideAt (f .band .lo) (f .band .hi)) (l .i) (l .of) _ _ _ (l .inv .1) (few t)
+    (p .put-side .ensures) (r .put-side2 .ensures) (c .put-side3 .ensures)
+    (limit-held (f .q) (band t) (safe t) q (band-small t) (safe-small t) (side (s .result .lo) (s .result .hi)) (s .ensures))
+    (limit-held (f .q) (band t) (root t) q (band-small t) (root-small t) (side (o .result .lo) (o .result .hi)) (o .ensures))
+    (band-held (band t) (band-small t)) (l .inv .2) in
+    (omega arith, more .0, more .1)
+
+returns : tie.Need-returns Inv-loop μ-loop
 returns c =
-    let w = c .before .before .before .before .before .before .before .before .before .before .before .before .before .before .before .before .before .before .before .before .before .before .before .before in
-    let s = w .before .before .before .before .before .before .before .before .before .before .before in
-    let f = s .args .f in
-    let safe = w .before .before .before .before .before .before .before .around in
-    let root = w .before .before .before .before .before .before .around2 in
-    let few = s .pre .0 .0 in
-    let q = s .pre .0 .1 in
-    let band = inside (f .n) (f .band) (s .pre .1 .0) in
-    let r = inside (f .n) (f .root) (s .pre .1 .1) in
-    let t = inside (f .n) (f .safe) (s .pre .1 .2) in
-    record {
-      in-safe = λ i h. laid-first (safe .result .lo) (safe .result .hi) i (limitsAt (f .q) (f .band) (f .safe) i) (tab-entry (sideAt (safe .result .lo) (safe .result .hi)) (limitsAt (f .q) (f .band) (f .safe)) (f .n) i (safe .ensures) h)
-          (low-word (f .q) (sideAt (f .band .lo) (f .band .hi) i) (sideAt (f .safe .lo) (f .safe .hi) i) q (band i h) (t i h)) (high-word (f .q) (sideAt (f .band .lo) (f .band .hi) i) (sideAt (f .safe .lo) (f .safe .hi) i) q (band i h) (t i h))
-          (root .result .lo) (root .result .hi) (f .band .lo) (f .band .hi) (omega arith);
-      in-root = λ i h. laid-second (root .result .lo) (root .result .hi) i (limitsAt (f .q) (f .band) (f .root) i) (tab-entry (sideAt (root .result .lo) (root .result .hi)) (limitsAt (f .q) (f .band) (f .root)) (f .n) i (root .ensures) h)
-          (low-word (f .q) (sideAt (f .band .lo) (f .band .hi) i) (sideAt (f .root .lo) (f .root .hi) i) q (band i h) (r i h)) (high-word (f .q) (sideAt (f .band .lo) (f .band .hi) i) (sideAt (f .root .lo) (f .root .hi) i) q (band i h) (r i h))
-          (safe .result .lo) (safe .result .hi) (f .band .lo) (f .band .hi) (omega arith);
-      in-band = λ i h. laid-third (f .band .lo) (f .band .hi) i (sideAt (f .band .lo) (f .band .hi) i) refl
-          (exact (var (sideAt (f .band .lo) (f .band .hi) i .lo) bandLimit (band i h .low)) tt) (exact (var (sideAt (f .band .lo) (f .band .hi) i .hi) bandLimit (band i h .high)) tt)
-          (safe .result .lo) (safe .result .hi) (root .result .lo) (root .result .hi) (omega arith);
-    }
+    let l = c .before .before .loop in
+    let s = c .before .before .before .before .before .before in
+    let e : l .i ≡ s .args .f .n = omega arith in
+    rw e at (l .inv .2)
 
 pub lay-spec : {M : Type 1} → statement M
 lay-spec =
     tie.close
     (tie.spec
+    Inv-loop
+    μ-loop
+    loop-holds
+    mul-wl
+    element-copy-out-wl
+    mul-wh
+    element-copy-out-wh
+    mul-sl
+    element-copy-out-sl
+    mul-sh
+    element-copy-out-sh
+    mul-rl
+    element-copy-out-rl
+    mul-rh
+    element-copy-out-rh
     around-requires
+    put-side-requires
     around-requires-2
-    array-copy-out-t17
-    array-copy-out-t20
-    array-copy-out-t23
-    array-copy-out-t26
-    array-copy-out-t29
-    array-copy-out-t32
-    array-copy-out-t35
-    array-copy-out-t38
-    array-copy-out-t41
-    array-copy-out-t44
-    array-copy-out-t47
-    array-copy-out-t50
-    array-copy-out-t53
-    array-copy-out-t56
-    array-copy-out-t59
-    array-copy-out-t62
-    array-copy-out-t65
-    array-copy-out-t68
-    array-copy-out-t71
-    array-copy-out-t74
-    array-copy-out-t77
-    array-copy-out-t80
-    array-copy-out-t83
-    array-copy-out-t86
+    put-side-requires-2
+    put-side-requires-3
+    add-i
+    loop-less
+    loop-again
     returns)
