@@ -1,18 +1,18 @@
 -- The expression checker: straight-line arithmetic of i64, as data. `val` is what it means, over ℤ. `mach` is the term that a need shows: each
 -- result is written to bits and read back. `bound` bounds its size, and `ok` computes whether every step stays within ±(2 ^ 63 − 1).
 -- `need e tt` then answers each overflow need, and `exact e tt` says that the machine's value is the integer. Assumes nothing.
-use mathlib.Core.Path.{_≡_, refl, sym, subst}
+use mathlib.Core.Path.{_≡_, refl, subst}
 use mathlib.Core.Bool.{Bool, true, false, _&&_}
 use Prim.Native.Nat.{ℕ, _+_, _*_, _^_, _≤_}
 use native.Mathlib.Omega.{arith}
 use native.Mathlib.Nat.{mul-le-mul, le-refl}
 use lib.Dec.{T, ltb, leb, ltb→lt, leb→le}
 use lib.IntN.{ℤ, pos, natAbs, _+ℤ_, _-ℤ_, _*ℤ_}
-use lib.Signed.{leZ, ltZ, quotZ, natAbs-le, _≤ℤ_, _<ℤ_}
+use lib.Signed.{ltZ, quotZ, natAbs-le, _≤ℤ_, _<ℤ_}
 use mir.Syntax.{w64}
 use mir.Val.{SFits, ofZ, toZ}
 use mir.Facts.{toZ-ofZ, sfits-lit}
-use Rattle.laws.specs.Integers.{zarith, abs-add, abs-sub, abs-mul, abs-quot, leZ-true, leZ-false, ltZ-true, ltZ-false}
+use Rattle.laws.specs.Integers.{zarith, abs-add, abs-sub, abs-mul, abs-quot, ltZ-true, ltZ-false}
 
 pub data Op : Type 0 where
   plus : Op
@@ -142,20 +142,11 @@ under e k t =
     rw (exact e (fst (ok e) (leb (bound e) k) t))
     (omega (arith, size e, leb→le (bound e) k (snd (ok e) (leb (bound e) k) t)))
 
--- a fact of the value, said of what the machine holds, and back
-pub up : (Q : ℤ → Type 0) (e : Ex) → T (ok e) → Q (val e) → Q (mach e)
-up Q e t q = subst Q (sym (exact e t)) q
-
+-- a fact of what the machine holds, said of the value
 pub down : (Q : ℤ → Type 0) (e : Ex) → T (ok e) → Q (mach e) → Q (val e)
 down Q e t q = subst Q (exact e t) q
 
 -- a test that held or failed
-pub le-yes : (e f : Ex) → T (ok e && ok f) → leZ (mach e) (mach f) ≡ true → val e ≤ℤ val f
-le-yes e f t h = leZ-true (val e) (val f) (rw (exact e (fst (ok e) (ok f) t), exact f (snd (ok e) (ok f) t)) at h)
-
-pub le-no : (e f : Ex) → T (ok e && ok f) → leZ (mach e) (mach f) ≡ false → val f <ℤ val e
-le-no e f t h = leZ-false (val e) (val f) (rw (exact e (fst (ok e) (ok f) t), exact f (snd (ok e) (ok f) t)) at h)
-
 pub lt-yes : (e f : Ex) → T (ok e && ok f) → ltZ (mach e) (mach f) ≡ true → val e <ℤ val f
 lt-yes e f t h = ltZ-true (val e) (val f) (rw (exact e (fst (ok e) (ok f) t), exact f (snd (ok e) (ok f) t)) at h)
 
