@@ -71,10 +71,10 @@ to-eq {a = negsuc a} {b = negsuc b} h = ap negsuc (omega arith)
 
 -- ---- what the parts of a sum, a difference and a product are
 
-neg-parts : (a : ℤ) → (P (negℤ a) ≡ N a) × (N (negℤ a) ≡ P a)
-neg-parts (pos zero) = (refl, refl)
-neg-parts (pos (suc n)) = (refl, refl)
-neg-parts (negsuc n) = (refl, refl)
+pub neg : (a : ℤ) → (P (negℤ a) ≡ N a) × (N (negℤ a) ≡ P a)
+neg (pos zero) = (refl, refl)
+neg (pos (suc n)) = (refl, refl)
+neg (negsuc n) = (refl, refl)
 
 cond-ind : (c : Bool) (x y : ℤ) (Q : ℤ → Type 0) → (T c → Q x) → (T (not c) → Q y) → Q (cond c x y)
 cond-ind true x y Q f g = f tt
@@ -98,9 +98,6 @@ add (pos a) (pos b) = omega arith
 add (pos a) (negsuc b) = omega (arith, sub-parts a (suc b))
 add (negsuc a) (pos b) = omega (arith, sub-parts b (suc a))
 add (negsuc a) (negsuc b) = omega arith
-
-pub neg : (a : ℤ) → (P (negℤ a) ≡ N a) × (N (negℤ a) ≡ P a)
-neg a = neg-parts a
 
 pub sub : (a b : ℤ) → P (a -ℤ b) + (N a + P b) ≡ P a + N b + N (a -ℤ b)
 sub a b = omega (arith, add a (negℤ b), neg b)
@@ -156,15 +153,7 @@ pub fits : {w : Width} {z : ℤ} → natAbs z < 2 ^ hbits w → SFits w z
 fits {z = pos n} h = record { sfits = h }
 fits {w = w} {z = negsuc n} h = record { sfits = omega arith }
 
--- the bits of a number that is above 0 are not 0
-pub bits-pos : {z : ℤ} → pos 1 ≤ℤ z → 0 < ofZ w64 z
-bits-pos {z = pos n} h = omega (arith, of-le h)
-bits-pos {z = negsuc n} h = absurd (h .le)
-
 -- ---- what a test of two i64 leaves: it held, or it did not. A literal's `SFits` is `sfits-lit tt`
-rd : {z : ℤ} → SFits w64 z → toZ w64 (ofZ w64 z) ≡ z
-rd f = toZ-ofZ f
-
 is : (t : Bool) → t ≡ true → T t
 is t e = subst T (sym e) tt
 
@@ -195,9 +184,6 @@ le-held a b f g e = leZ-true a b (simp toZ-ofZ at e)
 pub le-failed : (a b : ℤ) → SFits w64 a → SFits w64 b → leZ (toZ w64 (ofZ w64 a)) (toZ w64 (ofZ w64 b)) ≡ false → b <ℤ a
 le-failed a b f g e = leZ-false a b (simp toZ-ofZ at e)
 
-pub lt-held : (a b : ℤ) → SFits w64 a → SFits w64 b → ltZ (toZ w64 (ofZ w64 a)) (toZ w64 (ofZ w64 b)) ≡ true → a <ℤ b
-lt-held a b f g e = ltZ-true a b (simp toZ-ofZ at e)
-
 pub lt-failed : (a b : ℤ) → SFits w64 a → SFits w64 b → ltZ (toZ w64 (ofZ w64 a)) (toZ w64 (ofZ w64 b)) ≡ false → b ≤ℤ a
 lt-failed a b f g e = ltZ-false a b (simp toZ-ofZ at e)
 
@@ -223,10 +209,6 @@ mul-assoc a b c =
 pub ok64 : (z : ℤ) → mag z < 2 ^ 63 → SFits w64 z
 ok64 z h = record { sfits = h }
 
--- a test `==` of two i64 compares their bits
-pub bits-eq : (a b : ℤ) → SFits w64 a → SFits w64 b → ofZ w64 a ≡ ofZ w64 b → a ≡ b
-bits-eq a b f g e = sym (toZ-ofZ f) ∙ ap (toZ w64) e ∙ toZ-ofZ g
-
 -- ---- tests: less is the opposite of not less
 
 ltb-not : (a b : ℕ) → ltb a b ≡ not (leb b a)
@@ -236,7 +218,6 @@ ltb-not a b = go (decLt a b)
     go (yes h) = simp (lt-ltb _ _ h, lt-leb _ _ h)
     go (no h) = let g : b ≤ a = omega arith in simp (le-ltb _ _ g, le-leb _ _ g)
 
--- less is the opposite of not less
 pub ltZ-not : (a b : ℤ) → ltZ a b ≡ not (leZ b a)
 ltZ-not (pos a) (pos b) = ltb-not a b
 ltZ-not (pos a) (negsuc b) = refl
