@@ -1,8 +1,8 @@
 -- S6 over bytes: the checker's verdict on a plant's and a table's bytes is "accepted" exactly where the plant is judged good and the table is the
--- layout of a tree of sound shape whose tiles all work; and there is just one such tree. Relies on pages Accept and Unique, at document 01's rules.
+-- layout of a tree of sound shape whose tiles all work; and a table is the layout of at most one tree of sound shape. Relies on pages Accept and Unique, at document 01's rules.
 -- What a refusal tells is left out: that is the definition `checked` itself.
 use Prim.Native.Nat.{ℕ}
-use mathlib.Core.Path.{_≡_, refl, sym, subst, _∙_}
+use mathlib.Core.Path.{_≡_, refl, sym, _∙_}
 use mathlib.Core.Logic.{_↔_}
 use mathlib.Core.List.{List}
 use Rattle.meaning.specs.declared.Plant.{Plant}
@@ -15,7 +15,7 @@ use Rattle.meaning.specs.Trees.{Tree, tableOf}
 use Rattle.meaning.specs.Verdicts.{verdict}
 use Rattle.promises.specs.Accept.{refused-accepted, accepted-exactly}
 use Rattle.promises.specs.PlantRules.{judged-sizes, checked-as}
-use Rattle.promises.specs.Shapes.{Shaped, Working, working-shaped}
+use Rattle.promises.specs.Shapes.{Shaped, Working}
 use Rattle.promises.specs.Unique.{one-tree}
 
 -- The table is that of a tree over the plant's R, of sound shape, whose tiles all keep the tile rule.
@@ -52,11 +52,3 @@ checked-exactly plant table = (
 pub one-tree-a-table : (plant table : List ℕ) (p : Plant) → plantJudged plant ≡ good p → (t u : Tree) → Shaped (rulesOf p) t → Shaped (rulesOf p) u
     → table ≡ tableOf (rulesOf p) t → table ≡ tableOf (rulesOf p) u → t ≡ u
 one-tree-a-table plant table p e t u o v = one-tree (rulesOf p) (judged-sizes plant p e) table t u o v
-
--- and so what an accepted table is the layout of is one plant and one tree
-pub one-tiled : (plant table : List ℕ) (a b : Tiled plant table) → (a .p ≡ b .p) × (a .tree ≡ b .tree)
-one-tiled plant table a b =
-    let e : a .p ≡ b .p = cc (a .judged, b .judged) in
-    let o : Shaped (rulesOf (b .p)) (a .tree) = subst (λ (p : Plant). Shaped (rulesOf p) (a .tree)) e (working-shaped (rulesOf (a .p)) (a .tree) (a .works)) in
-    let q : table ≡ tableOf (rulesOf (b .p)) (a .tree) = subst (λ (p : Plant). table ≡ tableOf (rulesOf p) (a .tree)) e (a .is) in
-    (e, one-tree-a-table plant table (b .p) (b .judged) (a .tree) (b .tree) o (working-shaped (rulesOf (b .p)) (b .tree) (b .works)) q (b .is))

@@ -114,14 +114,6 @@ module _ (plant : List ℕ) (p : Plant) (e : plantJudged plant ≡ good p) where
         λ h. made-as plant p e ∙ w .1 (k .1 (λ table c. h table (checked-as plant p e table ∙ c))),
       )
 
-  -- so that something is made exactly where some table is accepted
-  pub made-where-some : ((bytes : List ℕ) × (made plant ≡ good bytes)) ↔ ((table : List ℕ) × (checked plant table ≡ Verdict.Accepted))
-  made-where-some = (λ w. (w .0, made-accepted plant (w .0) (w .1)), λ w. go (w .0) (w .1) (definedTree (rulesOf p)) refl)
-    where
-      go : (table : List ℕ) → checked plant table ≡ Verdict.Accepted → (o : Option Tree) → definedTree (rulesOf p) ≡ o → (bytes : List ℕ) × (made plant ≡ good bytes)
-      go table c (some t) q = (tableOf (rulesOf p) t, made-exactly (tableOf (rulesOf p) t) .1 (t, q, refl))
-      go table c none q = absurd (nine-exactly .0 (made-as plant p e ∙ none-bytes (rulesOf p) (definedTree (rulesOf p)) .1 q) table c)
-
 -- ---- the maker, of all plants, judged good or not
 
 -- Maker: plant, 9, 10. What is not made is refused by the plant's own number, or by 9.

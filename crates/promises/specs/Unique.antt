@@ -11,7 +11,7 @@ use Rattle.meaning.specs.Files.{read}
 use Rattle.meaning.specs.Rules.{Rules}
 use Rattle.meaning.specs.Trees.{Tree, Forest, split, tile, leaf, more, modesBytes, layout, layouts, Pattern, tableOf, Over, Overs}
 use Rattle.promises.specs.Laws.{Sizes}
-use Rattle.promises.specs.Shapes.{Shaped, Working, working-shaped}
+use Rattle.promises.specs.Shapes.{Shaped}
 use Rattle.promises.specs.Layouts.{tile-read, split-read, headed, table-stands}
 
 module _ (r : Rules) (sizes : Sizes r) where
@@ -74,7 +74,3 @@ module _ (r : Rules) (sizes : Sizes r) where
   one-tree s t u o v p q =
       tree-alike t u D root s (headed r) (length (tableOf r t)) (length (tableOf r u)) o v
       (table-stands r s [] t (p ∙ sym (append-nil (tableOf r t))) .1) (table-stands r s [] u (q ∙ sym (append-nil (tableOf r u))) .1) .0
-
-  -- and so an accepted file is the table of just one tree
-  pub one-working : (s : List ℕ) (t u : Tree) → Working r t → Working r u → s ≡ tableOf r t → s ≡ tableOf r u → t ≡ u
-  one-working s t u o v p q = one-tree s t u (working-shaped r t o) (working-shaped r u v) p q
