@@ -20,9 +20,6 @@ use Rattle.sheets.proofs.made.make.Tie as tie
 
 -- what the callees told, in the order of the calls
 module _ (h : Sheet) (s : Sized h) (modes : ℕ) (b : Bands) (e : Entries) (m : modes ≡ madeModes h) (w : b ≡ bandsOf h) (v : e ≡ entriesOf h (modes * h .n * (h .n + 1))) where
-  count-fits : modes * h .n * (h .n + 1) ≤ 320
-  count-fits = rw m (count-few h s)
-
   entries-fit : e .first ≤ 1000
   entries-fit = rw (v, m) (omega (arith, entries-few h s))
 
