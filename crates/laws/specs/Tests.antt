@@ -1,4 +1,4 @@
--- Tests: what one says that holds, by its halves and as an order of ℤ; and lists of tests, the first that does not hold, found in a loop, and what
+-- Tests: what one says that holds, by its halves and as an order of ℤ, and one that was passed; and lists of tests, the first that does not hold, found in a loop, and what
 -- it says of all. Relies on the order of page Integers.
 use Prim.Native.Nat.{ℕ, zero, suc, _+_, _-_, _≤_, _<_}
 use mathlib.Core.Path.{_≡_, refl, sym, ap, _∙_}
@@ -12,6 +12,7 @@ use lib.IntN.{ℤ}
 use lib.Signed.{leZ, ltZ, _≤ℤ_, _<ℤ_}
 use Rattle.laws.specs.Every as E
 use Rattle.laws.specs.Every.{Every}
+use Rattle.laws.specs.Guards.{guard}
 use Rattle.laws.specs.Integers.{leZ-true, lt-nle}
 use Rattle.laws.specs.Lists.{tab, all, firstFalse}
 use Rattle.laws.specs.Tabs.{length-tab, tab-step, tab-done}
@@ -19,6 +20,12 @@ use Rattle.laws.specs.Tabs.{length-tab, tab-step, tab-done}
 -- what a test that cannot hold proves
 pub never {ℓ} : {A : Type ℓ} → false ≡ true → A
 never e = absurd (let z : _≡_ {A = ℕ} 0 1 = cc in omega arith)
+
+-- an answer that is not the one behind a failed test has passed it
+pub guard-passed : {A : Type 0} {otherwise a : A} (t : Bool) (rest : Unit {0} → A) → (otherwise ≡ a → ⊥) → guard t otherwise rest ≡ a
+    → (t ≡ true) × (rest tt ≡ a)
+guard-passed true rest other e = (refl, e)
+guard-passed false rest other e = absurd (other e)
 
 -- ---- both halves of a test
 

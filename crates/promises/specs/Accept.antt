@@ -11,6 +11,7 @@ use lib.Dec.{eqb}
 use borrow.Author.Tests.{eqb-true, eq-eqb}
 use Rattle.laws.specs.Guards.{guard}
 use Rattle.laws.specs.Standing.{Stands, stand-join}
+use Rattle.laws.specs.Tests.{guard-passed}
 use Rattle.meaning.specs.declared.Refusal.{Refusal}
 use Rattle.meaning.specs.declared.Walk.{Walk}
 use Rattle.meaning.specs.declared.Verdict.{Verdict}
@@ -21,7 +22,7 @@ use Rattle.meaning.specs.Trees.{Tree, layout, tableOf}
 use Rattle.meaning.specs.Verdicts.{onWalk, walk, header, verdict}
 use Rattle.promises.specs.Laws.{Sizes}
 use Rattle.promises.specs.Shapes.{Working}
-use Rattle.promises.specs.Walking.{guard-passed, walk-went}
+use Rattle.promises.specs.Walking.{walk-went}
 use Rattle.promises.specs.Layouts.{walk-stands, header-stands, walk-reads, header-read, headed, table-stands}
 
 pub refused-accepted : {e : Refusal} → Verdict.Refused e ≡ Verdict.Accepted → ⊥

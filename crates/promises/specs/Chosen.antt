@@ -9,6 +9,7 @@ use native.Mathlib.Omega.{arith}
 use lib.ListN.{length, take, drop, getD}
 use lib.IntN.{ℤ}
 use Rattle.laws.specs.Standing.{Stands, stand-back, at-cons}
+use Rattle.laws.specs.Tests.{guard-passed}
 use Rattle.meaning.specs.declared.Refusal.{Refusal}
 use Rattle.meaning.specs.declared.Plant.{Plant}
 use Rattle.meaning.specs.declared.State.{State}
@@ -37,7 +38,7 @@ use Rattle.promises.specs.PlantRules.{sizes, one-byte-modes, header-size
 use Rattle.promises.specs.Shapes.{Good}
 use Rattle.promises.specs.Sound.{Sound}
 use Rattle.promises.specs.Underway.{stateOf, mode-is, modes-length}
-use Rattle.promises.specs.Walking.{guard-passed, walk-went}
+use Rattle.promises.specs.Walking.{walk-went}
 
 -- ---- of an accepted table
 

@@ -15,9 +15,10 @@ use lib.IntN.{ℤ, pos, natAbs}
 use borrow.Author.Tests.{lt-ltb, le-ltb, eqb-true, eq-eqb}
 use Rattle.laws.specs.Guards.{guard}
 use Rattle.laws.specs.Standing.{Stands, stand-nil, stand-join, stand-front, stand-back}
+use Rattle.laws.specs.Tests.{guard-passed}
 use Rattle.meaning.specs.declared.Number.{Number}
 use Rattle.meaning.specs.declared.Refusal.{Refusal}
-use Rattle.meaning.specs.Refusals.{broken, unfit}
+use Rattle.meaning.specs.Refusals.{broken}
 use Rattle.meaning.specs.Numbers.{numberAt, asSigned, bytesOf, stored, restored}
 use Rattle.meaning.specs.Files.{Kind, plain, signed, float, Taken, taken, none, takenAs, plainTaken, signedTaken, bytesAs, Field, Form, end, field, Read, read, refused, before, onTaken, valuesAt, ended, valuesOf, fileOf}
 use Rattle.promises.specs.Numbers.{reads, was, too-long, restored-stored, stored-restored}
@@ -126,15 +127,10 @@ reads-back (field f rest) (v ∷ vs) s i next h p =
     go mid true e = ap (λ (r : Read (List ℤ)). guard (f .right v) (refused (f .wrong i)) λ _. before v r) e
     go mid false e = refl
 
--- ---- what was read: a test that had to hold held, and a value came before the others
+-- ---- what was read: a value came before the others
 
 refused-read : {r : Refusal} {ws : List ℤ} {m : ℕ} → refused r ≡ read ws m → ⊥
 refused-read e = let z : _≡_ {A = ℕ} 0 1 = cc in omega arith
-
-guard-read : {ws : List ℤ} {m : ℕ} (t : Bool) (r : Refusal) (rest : Unit {0} → Read (List ℤ))
-    → guard t (refused r) rest ≡ read ws m → (t ≡ true) × (rest tt ≡ read ws m)
-guard-read true r rest e = (refl, e)
-guard-read false r rest e = absurd (refused-read e)
 
 before-read : {ws : List ℤ} {m : ℕ} (v : ℤ) (t : Read (List ℤ)) → before v t ≡ read ws m → (more : List ℤ) × (ws ≡ v ∷ more) × (t ≡ read more m)
 before-read v (read more n) e = (more, cc, cc)
@@ -148,8 +144,8 @@ judged-back end vs i h e = (rw h (cc), cc (add-zero i))
 judged-back (field f rest) [] i h e = absurd h
 judged-back (field f rest) (v ∷ vs) i h e =
     let bytes = bytesAs (f .kind) v in
-    let a = guard-read (fiveBytes (f .kind) v) (broken i) _ e in
-    let b = guard-read (f .right v) (f .wrong i) _ (a .1) in
+    let a = guard-passed (fiveBytes (f .kind) v) _ refused-read e in
+    let b = guard-passed (f .right v) _ refused-read (a .1) in
     let c = before-read v (judgedValues (rest v) vs (i + length bytes)) (b .1) in
     let more = judged-back (rest v) vs (i + length bytes) (h .1) (c .2) in
     (c .1 ∙ ap (λ (us : List ℤ). v ∷ us) (more .0), omega (arith, more .1, length-append bytes (fileOf (rest v) vs)))
@@ -174,7 +170,7 @@ field-read f rest s i {vs} {next} e = go (takenAs (f .kind) s i) refl e
         → FieldRead f rest s i vs next
     go none q e = absurd (refused-read e)
     go (taken v mid) q e =
-        let a = guard-read (f .right v) (f .wrong i) _ e in
+        let a = guard-passed (f .right v) _ refused-read e in
         let b = before-read v (valuesAt (rest v) s mid) (a .1) in
         let w = taken-was (f .kind) v i mid s q in
         record { value = v; others = b .0; mid = mid; values = b .1; right = a .0; storable = w .storable; short = w .short; stands = w .stands; behind = b .2 }
@@ -217,7 +213,7 @@ file-writes form s {vs} {next} e = go (valuesAt form s 0) refl e
         → (valuesAt form s 0 ≡ read vs next) × (next ≡ length s) × (fileOf form vs ≡ s)
     go (refused r) q e = absurd (refused-read e)
     go (read ws m) q e =
-        let a = guard-read (eqb m (length s)) (unfit m) _ e in
+        let a = guard-passed (eqb m (length s)) _ refused-read e in
         let r : valuesAt form s 0 ≡ read vs next = q ∙ a .1 in
         let b = writes-back form s 0 r in
         let n : next ≡ length s = (let k : m ≡ next = cc in omega (arith, eqb-true m (length s) (a .0))) in

@@ -12,6 +12,7 @@ use lib.Dec.{ltb, eqb}
 use borrow.Author.Tests.{ltb-true, eqb-true, lt-ltb, eq-eqb}
 use Rattle.laws.specs.Guards.{guard}
 use Rattle.laws.specs.Standing.{Stands, stand-nil, stand-join, stand-front, stand-back}
+use Rattle.laws.specs.Tests.{guard-passed}
 use Rattle.meaning.specs.declared.Refusal.{Refusal}
 use Rattle.meaning.specs.declared.Number.{Number}
 use Rattle.meaning.specs.declared.Rule.{Rule}
@@ -26,7 +27,7 @@ use Rattle.meaning.specs.Verdicts.{onNumber, onRule, onModes, each, splitAt, mo
 use Rattle.promises.specs.Numbers.{reads, was}
 use Rattle.promises.specs.Laws.{Sizes}
 use Rattle.promises.specs.Shapes.{Good}
-use Rattle.promises.specs.Walking.{guard-passed, number-read, walk-went, NodeWas, was-split, was-tile, node-was, walk-split, walk-tile}
+use Rattle.promises.specs.Walking.{number-read, walk-went, NodeWas, was-split, was-tile, node-was, walk-split, walk-tile}
 
 refused-read : {A : Type 0} {e : Refusal} {a : A} {m : ℕ} → refused e ≡ read a m → ⊥
 refused-read e = let z : _≡_ {A = ℕ} 0 1 = cc in omega arith

@@ -1,13 +1,11 @@
 -- A mode that a call answers stands in the table: it is the byte at some place, so that one byte carries it. Assumes nothing of plant or table.
 use Prim.Native.Nat.{ℕ, zero, suc}
 use mathlib.Core.Path.{_≡_}
-use mathlib.Core.Bool.{Bool, true, false}
 use mathlib.Core.List.{List}
 use lib.ListN.{getD}
 use lib.Dec.{eqb}
 use lib.IntN.{ℤ}
-use Rattle.laws.specs.Guards.{guard}
-use Rattle.laws.specs.Tests.{never}
+use Rattle.laws.specs.Tests.{never, guard-passed}
 use Rattle.meaning.specs.declared.Refusal.{Refusal}
 use Rattle.meaning.specs.declared.Plant.{Plant}
 use Rattle.meaning.specs.declared.Walk.{Walk}
@@ -16,8 +14,7 @@ use Rattle.meaning.specs.declared.State.{State}
 use Rattle.meaning.specs.declared.Answer.{Answer}
 use Rattle.meaning.specs.Files.{Judged, good, bad}
 use Rattle.meaning.specs.Plants.{plantJudged}
-use Rattle.meaning.specs.Refusals.{badState, outside}
-use Rattle.meaning.specs.Rules.{Rules, holds, missed}
+use Rattle.meaning.specs.Rules.{Rules, holds}
 use Rattle.meaning.specs.Verdicts.{header, onWalk}
 use Rattle.meaning.specs.Control.{modeAt, onFound, find, canRun, stateCall, call}
 use Rattle.meaning.specs.Tables.{rulesOf, onPlant, controlled}
@@ -40,16 +37,14 @@ module _ {u : ℕ} {then : State} where
   at-found s (Found.Tile from k) e = at-place s from k e
 
   -- 12 and 11 were passed
-  passed : (e f : Refusal) (a b : Bool) (rest : Answer) → guard a (Answer.Refused e) (λ _. guard b (Answer.Refused f) λ _. rest) ≡ Answer.Mode u then → rest ≡ Answer.Mode u then
-  passed r q true true rest e = e
-  passed r q true false rest e = absurd (refused-mode e)
-  passed r q false b rest e = absurd (refused-mode e)
-
   at-state : (r : Rules) (s : List ℕ) (at place left : ℕ) (x : Rules.Reading r) → stateCall r s at place left x ≡ Answer.Mode u then → Stands s u
   at-state r s at place zero x e =
       let f = find r (Rules.D r) s at (Rules.root r) x in
-      at-found s f (passed badState (outside (missed r (Rules.root r) x)) (eqb place 0) (holds r (Rules.root r) x) (onFound s f) e)
-  at-state r s at place (suc m) x e = at-place s place (suc m) (passed badState (outside (missed r (Rules.safe r) x)) (canRun r s place (suc m)) (holds r (Rules.safe r) x) (modeAt s place (suc m)) e)
+      let a = guard-passed (eqb place 0) _ refused-mode e in
+      at-found s f (guard-passed (holds r (Rules.root r) x) _ refused-mode (a .1) .1)
+  at-state r s at place (suc m) x e =
+      let a = guard-passed (canRun r s place (suc m)) _ refused-mode e in
+      at-place s place (suc m) (guard-passed (holds r (Rules.safe r) x) _ refused-mode (a .1) .1)
 
   at-call : (r : Rules) (s : List ℕ) (st : State) (x : Rules.Reading r) → call r s st x ≡ Answer.Mode u then → Stands s u
   unfolding call

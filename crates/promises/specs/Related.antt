@@ -2,34 +2,29 @@
 -- that a plant can hold each number made of it. Assumes nothing.
 use Prim.Native.Nat.{ℕ}
 use mathlib.Core.Path.{_≡_, refl}
-use mathlib.Core.Bool.{Bool, true, false}
+use mathlib.Core.Bool.{true}
 use mathlib.Core.List.{List, map}
 use lib.IntN.{ℤ}
-use Rattle.laws.specs.Guards.{guard}
-use Rattle.laws.specs.Lists.{all, firstFalse}
-use Rattle.laws.specs.Tests.{never}
+use Rattle.laws.specs.Lists.{all}
+use Rattle.laws.specs.Tests.{never, guard-passed}
 use Rattle.meaning.specs.declared.Plant.{Plant}
 use Rattle.meaning.specs.declared.Refusal.{Refusal}
 use Rattle.meaning.specs.declared.Sheet.{Sheet}
-use Rattle.meaning.specs.Refusals.{notInSafe, narrow, badResult}
 use Rattle.meaning.specs.Boxes.{Side, sidesOf, lies, within}
 use Rattle.meaning.specs.Files.{Read, read, refused, Judged, good, bad}
 use Rattle.meaning.specs.Plants.{plantOf, rootOf, safeOf, bandsOf, wide, related, plantRelated}
 use Rattle.meaning.specs.Sheets.{sheetOf, madeNumbers, isNear, sheetRelated}
 
--- ---- a test that has to hold held
-
-guard-good : {A : Type 0} {a : A} (t : Bool) (r : Refusal) (rest : Unit {0} → Judged A) → guard t (bad r) rest ≡ good a → (t ≡ true) × (rest tt ≡ good a)
-guard-good true r rest e = (refl, e)
-guard-good false r rest e = never (cc)
+bad-good : {A : Type 0} {r : Refusal} {a : A} → bad r ≡ good a → ⊥
+bad-good e = never cc
 
 -- ---- R within S, and each band wide enough
 
 pub related-was : {A : Type 0} {a : A} (q : ℕ) (root safe bands : List Side) (rest : Unit {0} → Judged A) → related q root safe bands rest ≡ good a
     → (within root safe ≡ true) × (all (map (wide q) bands) ≡ true) × (rest tt ≡ good a)
 related-was q root safe bands rest e =
-    let a = guard-good (all (lies root safe)) (notInSafe (firstFalse (lies root safe))) _ e in
-    let b = guard-good (all (map (wide q) bands)) (narrow (firstFalse (map (wide q) bands))) rest (a .1) in
+    let a = guard-passed (all (lies root safe)) _ bad-good e in
+    let b = guard-passed (all (map (wide q) bands)) rest bad-good (a .1) in
     (a .0, b .0, b .1)
 
 pub related-holds : {A : Type 0} (q : ℕ) (root safe bands : List Side) (rest : Unit {0} → Judged A) → within root safe ≡ true → all (map (wide q) bands) ≡ true
@@ -79,6 +74,6 @@ good-sheet (refused r) h e = never (cc)
 good-sheet (read vs next) h e =
     let g = sheetOf vs in
     let w = related-was (g .q) (rootSheet g) (safeSheet g) (bandsSheet g) _ e in
-    let f = guard-good (all (map isNear (madeNumbers g))) (badResult (firstFalse (map isNear (madeNumbers g)))) _ (w .2) in
+    let f = guard-passed (all (map isNear (madeNumbers g))) _ bad-good (w .2) in
     let s : g ≡ h = (let k = f .1 in cc) in
     rw (← s) (record { values = vs; next = next; was = refl; sheet = refl; root-safe = w .0; bands-wide = w .1; fit = f .0 })

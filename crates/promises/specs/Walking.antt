@@ -11,6 +11,7 @@ use lib.Seq.{drop-cons}
 use lib.Dec.{ltb, leb}
 use borrow.Author.Tests.{le-leb, lt-leb, lt-ltb, le-ltb, leb-true}
 use Rattle.laws.specs.Guards.{guard}
+use Rattle.laws.specs.Tests.{guard-passed}
 use Rattle.meaning.specs.declared.Refusal.{Refusal}
 use Rattle.meaning.specs.declared.Number.{Number}
 use Rattle.meaning.specs.declared.Rule.{Rule}
@@ -24,12 +25,7 @@ use Rattle.meaning.specs.Rules.{Rules, holds}
 use Rattle.meaning.specs.Verdicts.{onNumber, onWalk, onModes, each, splitAt, onSize, modesAt, nodeAt, walk}
 use Rattle.meaning.specs.Control.{tileFound, among, find}
 
--- ---- an answer that is no refusal has passed its tests
-
-pub guard-passed : {A : Type 0} {otherwise a : A} (t : Bool) (rest : Unit {0} → A) → (otherwise ≡ a → ⊥) → guard t otherwise rest ≡ a
-    → (t ≡ true) × (rest tt ≡ a)
-guard-passed true rest never e = (refl, e)
-guard-passed false rest never e = absurd (never e)
+-- ---- an answer that is no refusal has read what it asked for
 
 pub number-read : {A : Type 0} {otherwise a : A} (v : Number) (rest : ℕ → ℕ → A) → (otherwise ≡ a → ⊥) → onNumber v otherwise rest ≡ a
     → (k m : ℕ) × (v ≡ Number.Value k m) × (rest k m ≡ a)
