@@ -17,7 +17,8 @@ use Rattle.meaning.specs.declared.Number.{Number}
 use Rattle.meaning.specs.Numbers.{groupsOf, numberAt, bytesOf}
 use Rattle.meaning.specs.Files.{Form, refused, valuesAt}
 use Rattle.meaning.specs.Plants.{headed}
-use Rattle.promises.specs.Numbers.{reads, too-long}
+use Rattle.promises.specs.Files.{number-back}
+use Rattle.promises.specs.Numbers.{reads}
 use Rattle.files.specs.declared.headers.Header.{Header}
 use Rattle.files.specs.Fields.{inRange, faultOf}
 use Rattle.files.specs.Headers.{headBytes}
@@ -26,13 +27,6 @@ use Rattle.files.specs.HeaderLaws.{n-fails, m-fails}
 -- what is read of a number's bytes
 abbrev seen : ℕ → ℕ → Number
 seen v next = cond (ltb v (2 ^ 35)) (Number.Value v next) Number.Broken
-
-seen-is : (v i next : ℕ) (s : List ℕ) → Stands s i (bytesOf v) next → numberAt s i ≡ seen v next
-seen-is v i next s t = go (decLt v (2 ^ 35))
-  where
-    go : Dec (v < 2 ^ 35) → numberAt s i ≡ seen v next
-    go (yes h) = reads v i next s h t ∙ simp (lt-ltb _ _ h)
-    go (no h) = let g : 2 ^ 35 ≤ v = omega arith in too-long v i next s g t ∙ simp (le-ltb _ _ g)
 
 -- such a number is not taken
 low-out : (least most v next : ℕ) → v < least → inRange least most (seen v next) ≡ Number.Broken
@@ -76,12 +70,12 @@ module _ (h : Header) (t : List ℕ) where
 
   n-seen : numberAt s 1 ≡ seen (h .n) second
   unfolding second
-  n-seen = seen-is (h .n) 1 (1 + length (bytesOf (h .n))) s (stand-front (bytesOf (h .n)) (bytesOf (h .m) ++ (bytesOf (h .q) ++ (bytesOf (h .k) ++ bytesOf (h .d)))) n-stand)
+  n-seen = number-back (h .n) 1 (1 + length (bytesOf (h .n))) s (stand-front (bytesOf (h .n)) (bytesOf (h .m) ++ (bytesOf (h .q) ++ (bytesOf (h .k) ++ bytesOf (h .d)))) n-stand)
 
   m-seen : numberAt s second ≡ seen (h .m) (second + length (bytesOf (h .m)))
   unfolding second
   m-seen =
-      seen-is (h .m) (1 + length (bytesOf (h .n))) (1 + length (bytesOf (h .n)) + length (bytesOf (h .m))) s
+      number-back (h .m) (1 + length (bytesOf (h .n))) (1 + length (bytesOf (h .n)) + length (bytesOf (h .m))) s
       (stand-front (bytesOf (h .m)) (bytesOf (h .q) ++ (bytesOf (h .k) ++ bytesOf (h .d)))
       (stand-back (bytesOf (h .n)) (bytesOf (h .m) ++ (bytesOf (h .q) ++ (bytesOf (h .k) ++ bytesOf (h .d)))) n-stand))
 

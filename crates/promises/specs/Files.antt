@@ -38,7 +38,8 @@ fiveBytes plain v = ltb (natAbs v) (2 ^ 35)
 fiveBytes signed v = ltb (stored v) (2 ^ 35)
 fiveBytes float v = true
 
-number-back : (v i next : ℕ) (s : List ℕ) → Stands s i (bytesOf v) next → numberAt s i ≡ cond (ltb v (2 ^ 35)) (Number.Value v next) Number.Broken
+-- what is read of a number's bytes
+pub number-back : (v i next : ℕ) (s : List ℕ) → Stands s i (bytesOf v) next → numberAt s i ≡ cond (ltb v (2 ^ 35)) (Number.Value v next) Number.Broken
 number-back v i next s p = go (decLt v (2 ^ 35))
   where
     go : Dec (v < 2 ^ 35) → numberAt s i ≡ cond (ltb v (2 ^ 35)) (Number.Value v next) Number.Broken
