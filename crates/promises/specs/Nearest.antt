@@ -29,7 +29,7 @@ pub record Nearest (u : ℕ) (z v : ℤ) : Type 0 where
 
 -- ---- a sign kept apart
 
-signed-size : (s : Bool) (a : ℕ) → natAbs (signedBy s a) ≡ a
+pub signed-size : (s : Bool) (a : ℕ) → natAbs (signedBy s a) ≡ a
 signed-size false a = refl
 signed-size true a = abs-neg (pos a)
 
@@ -77,7 +77,7 @@ has-units s m e t = (refl, units-exact s m e t ∙ ap (λ (z : ℕ). z * down e)
 
 -- ---- k times a size n / d that is a units of 1 / u, to the nearest
 
-crossed : (k n d a u : ℕ) → n * u ≡ a * d → (2 * (k * n) + d) * (2 * u) ≡ (2 * (k * a) + u) * (2 * d)
+pub crossed : (k n d a u : ℕ) → n * u ≡ a * d → (2 * (k * n) + d) * (2 * u) ≡ (2 * (k * a) + u) * (2 * d)
 crossed k n d a u h =
     let p : 2 * (k * n) * (2 * u) ≡ 2 * (2 * (k * (n * u))) = simp (mul-assoc, mul-left-comm) in
     let q : 2 * (k * a) * (2 * d) ≡ 2 * (2 * (k * (a * d))) = simp (mul-assoc, mul-left-comm) in

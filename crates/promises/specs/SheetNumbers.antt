@@ -27,7 +27,8 @@ made h = map nearValue (madeNumbers h)
 abbrev pub madePlant : Sheet → Plant
 madePlant h = plantOf (made h)
 
-map-values : (l : List ℤ) → map nearValue (map Whole.Near l) ≡ l
+-- numbers that are taken over as they are
+pub map-values : (l : List ℤ) → map nearValue (map Whole.Near l) ≡ l
 map-values [] = refl
 map-values (v ∷ l) = ap (λ (t : List ℤ). v ∷ t) (map-values l)
 

@@ -35,12 +35,12 @@ use Rattle.promises.specs.SheetSound.{SoundSheet, judged-sound}
 
 -- ---- at most 16 modes
 
-has-one : (e : Emitter) → hasEmitter e ≤ 1
+pub has-one : (e : Emitter) → hasEmitter e ≤ 1
 has-one Emitter.None = omega arith
 has-one (Emitter.Heater p water) = omega arith
 has-one (Emitter.Steady rate) = omega arith
 
-emitters-few : (h : Sheet) (m : ℕ) → emitters h m ≤ m
+pub emitters-few : (h : Sheet) (m : ℕ) → emitters h m ≤ m
 unfolding S.emitters
 emitters-few h zero = omega arith
 emitters-few h (suc m) = omega (arith, emitters-few h m, has-one (roomAt h m .emitter))

@@ -48,7 +48,7 @@ bits-back x t = ofBits-toBits binary64 x t
 pub float-held : (v : ℤ) → Held (floatOf v)
 float-held v = ofBits-fits binary64 (natAbs v)
 
-finite-number : (x : Float) → finite x ≡ true → T (not (isNan x))
+pub finite-number : (x : Float) → finite x ≡ true → T (not (isNan x))
 unfolding S.finite Ieee.isNan
 finite-number nan e = never e
 finite-number (inf s) e = never e

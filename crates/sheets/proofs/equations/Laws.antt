@@ -1,4 +1,4 @@
--- The equations step by step, and what the code reads of a room's and a sheet's arrays. Assumes nothing.
+-- The equations step by step, and what the code reads of a room's and a sheet's arrays. Relies on promises' page SheetPlants for how many emitters there are.
 use Prim.Native.Nat.{ℕ, zero, suc, _+_, _-_, _/_, _%_, _^_, _≤_, _<_}
 use mathlib.Core.Path.{_≡_, refl, ap}
 use mathlib.Core.List.{List, [], _∷_}
@@ -9,9 +9,9 @@ use borrow.Author.Tests.{lt-ltb, le-ltb, eq-eqb, ne-eqb}
 use lib.Ieee.{Float, binary64, add, sub, mul}
 use Rattle.laws.specs.Lists.{tab}
 use Rattle.laws.specs.Tabs.{tab-step, tab-done}
-use Rattle.meaning.specs.declared.Emitter.{Emitter}
 use Rattle.meaning.specs.declared.Sheet.{Sheet}
 use Rattle.meaning.specs.Sheets.{oneF, roomAt, exchangeAt, sumFrom, lossSum, coefficient, pushed, hasEmitter, emitters, offset}
+use Rattle.promises.specs.SheetPlants.{emitters-few}
 
 -- within a list it does not matter what would stand behind its end
 pub same-entry {ℓ} : {A : Type ℓ} (l : List A) (i : ℕ) (d e : A) → i < length l → getD l i d ≡ getD l i e
@@ -46,11 +46,6 @@ module _ (h : Sheet) (i j : ℕ) where
 
 -- ---- emitters
 
-pub has-few : (e : Emitter) → hasEmitter e ≤ 1
-has-few Emitter.None = omega arith
-has-few (Emitter.Heater p water) = omega arith
-has-few (Emitter.Steady rate) = omega arith
-
 pub none-before : (h : Sheet) → emitters h 0 ≡ 0
 unfolding emitters
 none-before h = refl
@@ -59,14 +54,9 @@ pub one-more : (h : Sheet) (m : ℕ) → emitters h (m + 1) ≡ emitters h m + h
 unfolding emitters
 one-more h m = rw add-one refl
 
-pub few-before : (h : Sheet) (m : ℕ) → emitters h m ≤ m
-unfolding emitters
-few-before h zero = omega arith
-few-before h (suc m) = omega (arith, few-before h m, has-few (roomAt h m .emitter))
-
 -- a mode has few bits
 pub bit-small : (h : Sheet) (m t : ℕ) → t ≡ emitters h m → m ≤ 4 → t < 64
-bit-small h m t e l = omega (arith, few-before h m)
+bit-small h m t e l = omega (arith, emitters-few h m)
 
 -- ---- an offset, its room's bit set or not
 

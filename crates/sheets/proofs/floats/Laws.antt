@@ -1,7 +1,7 @@
 -- A float of a sheet against its definition: its bytes, its exponent's field, what is asked of it; and its bytes written. Assumes nothing.
 use Prim.Native.Nat.{ℕ, suc, _+_, _-_, _*_, _/_, _%_, _^_, _≤_, _<_}
-use mathlib.Core.Path.{_≡_, refl, sym, _∙_, subst}
-use mathlib.Core.Bool.{Bool, true, false, not, _&&_, true≢false}
+use mathlib.Core.Path.{_≡_, refl, sym, subst}
+use mathlib.Core.Bool.{Bool, true, false, not, _&&_}
 use mathlib.Core.List.{List, [], _∷_, _++_, map}
 use native.Mathlib.Omega.{arith}
 use native.Mathlib.Nat.{add-zero}
@@ -10,17 +10,17 @@ use lib.Seq.{drop-cons}
 use lib.Pow.{pow-mono, pow-add}
 use lib.Dec.{T, ltb, eqb, eqb→eq, not-T}
 use lib.IntN.{pos}
-use lib.Ieee.{Float, nan, inf, fin, binary64, odd, ofFields, ofBits, toBits, nanBits, isNan, ne}
+use lib.Ieee.{Float, binary64, odd, ofFields, ofBits, toBits, nanBits, ne}
 use lib.Ieee.Fits.{and-l}
 use lib.Ieee.Bits.{toBits-ofBits}
-use lib.Ieee.Compare.{differs-from-itself, nan-differs}
+use lib.Ieee.Compare.{differs-from-itself}
 use borrow.Author.Tests.{lt-ltb, eq-eqb, ne-eqb}
 use Rattle.laws.specs.Lists.{all}
 use Rattle.meaning.specs.Files.{taken, none, little, lowFirst, floatAt, valuesAt}
 use Rattle.meaning.specs.Refusals.{broken, badFloat}
-use Rattle.meaning.specs.Sheets.{finite, zeroF, floating}
+use Rattle.meaning.specs.Sheets.{zeroF, floating}
 use Rattle.promises.specs.Floats.{float-was}
-use Rattle.promises.specs.SheetRooms.{float-held}
+use Rattle.promises.specs.SheetRooms.{float-held, finite-number}
 use Rattle.files.specs.Parts.{behind, Fails}
 use Rattle.sheets.specs.Floats.{Floated}
 use Rattle.sheets.proofs.wholes.Fields.{exponent, digits, finite-good, finite-bad}
@@ -91,12 +91,6 @@ pub no-nan : (b : ℕ) → (exponent b ≡ 2047 → ⊥) → T (not (nanBits bin
 unfolding nanBits
 no-nan b h = not-T (eqb (exponent b) 2047 && not (eqb (digits b) 0)) (λ t. h (eqb→eq (exponent b) 2047 (and-l (eqb (exponent b) 2047) (not (eqb (digits b) 0)) t)))
 
-a-number : (x : Float) → finite x ≡ true → T (not (isNan x))
-unfolding finite isNan
-a-number nan h = absurd (true≢false (sym h))
-a-number (inf s) h = absurd (true≢false (sym h))
-a-number (fin s m e) h = tt
-
 -- ---- a float read
 
 module _ (ok : Float → Bool) (s : List ℕ) (from : ℕ) where
@@ -118,7 +112,7 @@ module _ (ok : Float → Bool) (s : List ℕ) (from : ℕ) where
       same-bits =
           let w = float-was (pos b) from next s e in
           let q : b ≡ w .0 = cc in
-          toBits-ofBits binary64 b (omega (arith, w .2)) (a-number (ofBits binary64 b) (finite-good b h))
+          toBits-ofBits binary64 b (omega (arith, w .2)) (finite-number (ofBits binary64 b) (finite-good b h))
 
       pub floated : ok (ofBits binary64 b) ≡ true → Floated ok s from (ofBits binary64 b) next
       unfolding valuesAt behind
@@ -132,12 +126,6 @@ module _ (ok : Float → Bool) (s : List ℕ) (from : ℕ) where
 pub nan-bits : (x : Float) → ne x x ≡ true → 0x7ff8_0000_0000_0000 ≡ toBits binary64 x
 unfolding toBits
 nan-bits x h = rw (differs-from-itself x (subst T (sym h) tt)) refl
-
-pub itself : (x : Float) → ne x x ≡ false → T (not (isNan x))
-unfolding isNan
-itself nan h = absurd (true≢false (sym nan-differs ∙ h))
-itself (inf s) h = tt
-itself (fin s m e) h = tt
 
 -- k of eight bytes are written, one more, or none
 pub low-step : (k v : ℕ) → k < 8 → lowFirst (8 - k) v ≡ (v % 256 ∷ []) ++ lowFirst (8 - (k + 1)) (v / 256)

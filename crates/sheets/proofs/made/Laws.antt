@@ -1,4 +1,5 @@
--- The coefficients of a plant one by one: each is that of its column, row and mode, so that they are the definition's rows. Assumes nothing.
+-- The coefficients of a plant one by one: each is that of its column, row and mode, so that they are the definition's rows; and how many there are. Relies on
+-- promises' page SheetPlants for how many emitters there are.
 use Prim.Native.Nat.{ℕ, zero, suc, _+_, _*_, _/_, _%_, _≤_, _<_}
 use mathlib.Core.Path.{_≡_, refl, sym, ap, _∙_, subst}
 use mathlib.Core.Bool.{cond}
@@ -17,12 +18,12 @@ use Rattle.meaning.specs.declared.Sheet.{Sheet}
 use Rattle.meaning.specs.declared.Whole.{Whole}
 use Rattle.meaning.specs.Plants.{entryLimit, offsetLimit, coefCount}
 use Rattle.meaning.specs.Sheets.{wholeOf, coefficient, offset, madeRow, madeModes, nearValue}
+use Rattle.promises.specs.SheetPlants.{emitters-few}
 use Rattle.sheets.specs.declared.made.Entries.{Entries}
 use Rattle.sheets.specs.Sizes.{Sized}
 use Rattle.sheets.specs.Wholes.{firstOut, joined, near, held}
 use Rattle.sheets.specs.Made.{entryAt, entriesOf}
 use Rattle.sheets.proofs.wholes.Counts.{joined-one, Holding, holding-none, holding-more, holding-all}
-use Rattle.sheets.proofs.equations.Laws.{few-before}
 
 -- ---- what the code reads of a place: an entry of A, or b
 
@@ -104,7 +105,7 @@ module _ (h : Sheet) (some : 1 ≤ h .n) where
 
 module _ (h : Sheet) (s : Sized h) where
   pub modes-few : madeModes h ≤ 16
-  modes-few = pow-mono {j = 4} (le-trans (few-before h (h .n)) (s .few))
+  modes-few = pow-mono {j = 4} (le-trans (emitters-few h (h .n)) (s .few))
 
   pub rows-few : madeModes h * h .n ≤ 64
   rows-few = mul-le-mul modes-few (s .few)

@@ -1,4 +1,4 @@
--- The numbers of the made plant are those of the definition, and the place of the first that is out. Relies on page Laws.
+-- The numbers of the made plant are those of the definition, and the place of the first that is out. Relies on page Laws, and on promises' page SheetNumbers.
 use Prim.Native.Nat.{ℕ, suc, _+_, _*_, _≤_, _<_}
 use mathlib.Core.Path.{_≡_, refl, sym, ap, _∙_}
 use mathlib.Core.Bool.{Bool}
@@ -16,6 +16,7 @@ use Rattle.meaning.specs.declared.Sheet.{Sheet}
 use Rattle.meaning.specs.declared.Whole.{Whole}
 use Rattle.meaning.specs.Plants.{coefCount, edgesOf, bandOf, numbersOf}
 use Rattle.meaning.specs.Sheets.{sheetEdges, madeBand, madeModes, madeNumbers, isNear, nearValue}
+use Rattle.promises.specs.SheetNumbers.{map-values}
 use Rattle.sheets.specs.Sizes.{Sized}
 use Rattle.sheets.specs.Wholes.{firstOut, joined, held}
 use Rattle.sheets.specs.Bands.{lowEnd, highEnd}
@@ -24,12 +25,7 @@ use Rattle.sheets.specs.Made.{entryAt, heldPlant, madeOf}
 use Rattle.sheets.proofs.wholes.Counts.{first-few, out-all, joined-is}
 use Rattle.sheets.proofs.made.Laws.{rows-are, count-few}
 
--- ---- numbers that are taken over as they are
-
-near-values : (l : List ℤ) → map nearValue (map Whole.Near l) ≡ l
-near-values [] = refl
-near-values (v ∷ l) = ap (λ (t : List ℤ). v ∷ t) (near-values l)
-
+-- numbers that are taken over as they are are all near
 near-all : (l : List ℤ) → firstOut (map Whole.Near l) ≡ length (map Whole.Near l)
 unfolding firstFalse
 near-all [] = refl
@@ -73,7 +69,7 @@ module _ (h : Sheet) (s : Sized h) where
   made-numbers =
       sym (ap (map nearValue) numbers-are
       ∙ map-append nearValue head (edges ++ (bands ++ entries))
-      ∙ rw (map-append nearValue edges (bands ++ entries), map-append nearValue bands entries, near-values (sheetEdges h), bands-held, entries-held) refl)
+      ∙ rw (map-append nearValue edges (bands ++ entries), map-append nearValue bands entries, map-values (sheetEdges h), bands-held, entries-held) refl)
 
   -- ---- the place of the first that is out
 

@@ -1,9 +1,9 @@
 -- How `whole` rounds: the nearest whole number does not depend on the fraction that a float is written as, and by the exponent's field it is out of
--- every limit, 0, or what the shifted product says. Relies on page Fields.
+-- every limit, 0, or what the shifted product says. Relies on page Fields, and on promises' page Nearest.
 use Prim.Native.Nat.{ℕ, zero, suc, _+_, _-_, _*_, _/_, _%_, _^_, _≤_, _<_}
 use mathlib.Core.Path.{_≡_, refl, sym, ap, _∙_, subst}
 use mathlib.Core.Bool.{Bool, true, false, not, cond, true≢false}
-use native.Mathlib.Nat.{le-trans, le-of-lt, le-of-suc-le-suc, le-add-right, lt-of-le-of-lt, zero-lt-suc, mul-comm, mul-assoc, mul-left-comm, mul-add, add-mul, one-mul, mul-le-mul, mul-le-mul-left, mul-le-mul-right, div-add-mod', div-eq-of-lt, add-div-right, mul-add-div-right, div-div-eq-div-mul, mul-div-mul-left, mul-div-mul-right, le-div-iff-mul-le}
+use native.Mathlib.Nat.{le-trans, le-of-lt, le-of-suc-le-suc, le-add-right, lt-of-le-of-lt, zero-lt-suc, mul-comm, mul-assoc, mul-add, one-mul, mul-le-mul, mul-le-mul-left, mul-le-mul-right, div-add-mod', div-eq-of-lt, add-div-right, mul-add-div-right, div-div-eq-div-mul, mul-div-mul-left, mul-div-mul-right, le-div-iff-mul-le}
 use native.Mathlib.Omega.{arith}
 use borrow.Author.Tests.{le-leb, lt-leb, eqb-true, eqb-false}
 use lib.Dec.{T, eqb, lit<, lit≤}
@@ -14,35 +14,23 @@ use lib.Ieee.Fits.{down-pos}
 use lib.Ieee.Exact.{HasValue}
 use lib.Ieee.Nearest.{div-same}
 use lib.Ieee.Compare.{nan-differs}
-use Rattle.laws.specs.Integers.{abs-neg}
 use Rattle.meaning.specs.declared.Whole.{Whole}
 use Rattle.meaning.specs.Sheets.{signedBy, limitedTo, wholeOf}
+use Rattle.promises.specs.Nearest.{signed-size, crossed}
 use Rattle.sheets.proofs.wholes.Fields.{top-is, low-value, field-value}
 
 -- ---- within the limit, or not
 
-pub abs-signed : (s : Bool) (v : ℕ) → natAbs (signedBy s v) ≡ v
-abs-signed false v = refl
-abs-signed true v = abs-neg (pos v)
-
 pub limited-in : (limit : ℕ) (s : Bool) (v : ℕ) → v ≤ limit → limitedTo limit (signedBy s v) ≡ Whole.Near (signedBy s v)
-limited-in limit s v h = simp (le-leb (natAbs (signedBy s v)) limit (omega (arith, abs-signed s v)))
+limited-in limit s v h = simp (le-leb (natAbs (signedBy s v)) limit (omega (arith, signed-size s v)))
 
 pub limited-out : (limit : ℕ) (s : Bool) (v : ℕ) → limit < v → limitedTo limit (signedBy s v) ≡ Whole.Out
-limited-out limit s v h = simp (lt-leb (natAbs (signedBy s v)) limit (omega (arith, abs-signed s v)))
+limited-out limit s v h = simp (lt-leb (natAbs (signedBy s v)) limit (omega (arith, signed-size s v)))
 
 -- ---- the whole number nearest k·u/l, halves upwards, from any fraction u/l that a float is
 
 abbrev pub nearAt : ℕ → ℕ → ℕ → ℕ
 nearAt k u l = (2 * (k * u) + l) / (2 * l)
-
-crossing : (k n d u l : ℕ) → n * l ≡ u * d → (2 * (k * n) + d) * (2 * l) ≡ (2 * (k * u) + l) * (2 * d)
-crossing k n d u l h =
-    let p : 2 * (k * n) * (2 * l) ≡ 2 * (2 * (k * (n * l))) = simp (mul-assoc, mul-left-comm) in
-    let q : 2 * (k * u) * (2 * d) ≡ 2 * (2 * (k * (u * d))) = simp (mul-assoc, mul-left-comm) in
-    let r : d * (2 * l) ≡ l * (2 * d) = simp (mul-comm, mul-left-comm) in
-    let e : k * (n * l) ≡ k * (u * d) = ap (λ (z : ℕ). k * z) h in
-    rw (add-mul (2 * (k * n)) d (2 * l), add-mul (2 * (k * u)) l (2 * d)) (omega arith)
 
 twice : (l : ℕ) → 0 < l → 0 < 2 * l
 twice l h = omega arith
@@ -52,7 +40,7 @@ unfolding wholeOf
 whole-at limit k nan s u l p h = absurd h
 whole-at limit k (inf t) s u l p h = absurd h
 whole-at limit k (fin t m e) s u l p h =
-    let same = div-same (2 * (k * (m * up e)) + down e) (2 * down e) (2 * (k * u) + l) (2 * l) (twice (down e) (down-pos e)) (twice l p) (crossing k (m * up e) (down e) u l (h .1)) in
+    let same = div-same (2 * (k * (m * up e)) + down e) (2 * down e) (2 * (k * u) + l) (2 * l) (twice (down e) (down-pos e)) (twice l p) (crossed k (m * up e) (down e) u l (h .1)) in
     ap (λ (v : ℕ). limitedTo limit (signedBy t v)) same ∙ ap (λ (z : Bool). limitedTo limit (signedBy z (nearAt k u l))) (h .0)
 
 -- ---- not a number, and what lies outside every limit

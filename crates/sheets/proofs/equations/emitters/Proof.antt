@@ -5,7 +5,8 @@ use native.Mathlib.Omega.{arith}
 use Rattle.meaning.specs.Sheets as S
 use Rattle.meaning.specs.declared.Room.{Room}
 use Rattle.meaning.specs.Sheets.{roomAt, hasEmitter}
-use Rattle.sheets.proofs.equations.Laws.{has-few, none-before, one-more}
+use Rattle.promises.specs.SheetPlants.{has-one}
+use Rattle.sheets.proofs.equations.Laws.{none-before, one-more}
 use Rattle.sheets.proofs.equations.emitters.Statement.{statement}
 use Rattle.sheets.proofs.equations.emitters.Tie as tie
 
@@ -25,7 +26,7 @@ has-emitter-requires : tie.Need-has-emitter-requires Inv-loop μ-loop
 has-emitter-requires c κs = tt
 
 add-t : tie.Need-add-t Inv-loop μ-loop
-add-t c = omega (arith, c .has-emitter .ensures, has-few (c .before .room-of .result .emitter))
+add-t c = omega (arith, c .has-emitter .ensures, has-one (c .before .room-of .result .emitter))
 
 add-i : tie.Need-add-i Inv-loop μ-loop
 add-i c = omega arith
@@ -39,7 +40,7 @@ loop-again c =
     let h = l .before .args .h in
     let i = l .loop .i in
     let e = c .has-emitter .ensures ∙ ap (λ (room : Room). hasEmitter (room .emitter)) (c .before .room-of .ensures) in
-    let few = has-few (roomAt h i .emitter) in
+    let few = has-one (roomAt h i .emitter) in
     (omega arith, omega arith, omega (arith, one-more h i, l .loop .inv .2))
 
 returns : tie.Need-returns Inv-loop μ-loop

@@ -1,6 +1,7 @@
 -- `floats::bits` has the one pattern of no number, and else asks the machine. Assumes nothing.
 use borrow.Author.Needs.{needs}
-use Rattle.sheets.proofs.floats.Laws.{nan-bits, itself}
+use Rattle.sheets.proofs.floats.Laws.{nan-bits}
+use Rattle.sheets.proofs.wholes.Laws.{itself}
 use Rattle.sheets.proofs.floats.bits.Statement.{statement}
 use Rattle.sheets.proofs.floats.bits.Tie as tie
 
