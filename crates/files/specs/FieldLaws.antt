@@ -9,6 +9,7 @@ use lib.IntN.{ℤ, pos}
 use lib.Signed.{leZ, ltZ}
 use borrow.Author.Tests.{ltb-true, ltb-false, le-leb, lt-leb}
 use Rattle.laws.specs.Integers.{lt-nle, nlt-le}
+use Rattle.laws.specs.Tests.{never}
 use Rattle.meaning.specs.declared.Number.{Number}
 use Rattle.meaning.specs.declared.Signed.{Signed}
 use Rattle.meaning.specs.Refusals.{broken, unfit}
@@ -16,18 +17,6 @@ use Rattle.meaning.specs.Numbers.{numberAt, signedAt, asSigned, restored}
 use Rattle.meaning.specs.Files.{Form, refused, before, valuesAt}
 use Rattle.meaning.specs.Plants.{counted, from, ranged}
 use Rattle.files.specs.Fields.{inRange, countedAt, inSpan, rangedAt, faultOf, faultAt}
-
-apart : {X : Type 0} {v n : ℕ} → Number.Broken ≡ Number.Value v n → X
-apart e = absurd (let z : _≡_ {A = ℕ} 0 1 = cc in no z)
-  where
-    no : _≡_ {A = ℕ} 0 1 → ⊥
-    no z = omega arith
-
-apart-signed : {X : Type 0} {v : ℤ} {n : ℕ} → Signed.Broken ≡ Signed.Value v n → X
-apart-signed e = absurd (let z : _≡_ {A = ℕ} 0 1 = cc in no z)
-  where
-    no : _≡_ {A = ℕ} 0 1 → ⊥
-    no z = omega arith
 
 -- ---- a number
 
@@ -53,12 +42,12 @@ pub counted-was : (s : List ℕ) (at least most v next : ℕ) → countedAt s at
 counted-was s at least most v next e = go (numberAt s at) refl e
   where
     go : (n : Number) → numberAt s at ≡ n → inRange least most n ≡ Number.Value v next → Counted s at least most v next
-    go Number.Broken q e = apart e
+    go Number.Broken q e = never cc
     go (Number.Value w m) q e = tests (ltb w least) refl (ltb most w) refl e
       where
         tests : (a : Bool) → ltb w least ≡ a → (b : Bool) → ltb most w ≡ b → cond a Number.Broken (cond b Number.Broken (Number.Value w m)) ≡ Number.Value v next → Counted s at least most v next
-        tests true p b r e = apart e
-        tests false p true r e = apart e
+        tests true p b r e = never cc
+        tests false p true r e = never cc
         tests false p false r e =
             let i : w ≡ v = cc in
             let j : m ≡ next = cc in
@@ -76,7 +65,7 @@ counted-fault ok rest s at least most low high e = go (numberAt s at) refl e
         tests : (a : Bool) → ltb w least ≡ a → (b : Bool) → ltb most w ≡ b → cond a Number.Broken (cond b Number.Broken (Number.Value w m)) ≡ Number.Broken → valuesAt (counted ok rest) s at ≡ refused (unfit at)
         tests true p b r e = taken-wrong ok rest s at w m q (low w (ltb-true w least p))
         tests false p true r e = taken-wrong ok rest s at w m q (high w (ltb-true most w r))
-        tests false p false r e = apart (sym e)
+        tests false p false r e = never cc
 
 -- the plain range
 module _ (rest : ℕ → Form) (s : List ℕ) (at least most : ℕ) where
@@ -116,12 +105,12 @@ module _ (s : List ℕ) (at : ℕ) (least most : ℤ) where
   ranged-was v next e = go (signedAt s at) refl e
     where
       go : (n : Signed) → signedAt s at ≡ n → inSpan least most n ≡ Signed.Value v next → Ranged s at least most v next
-      go Signed.Broken q e = apart-signed e
+      go Signed.Broken q e = never cc
       go (Signed.Value w m) q e = tests (ltZ w least) refl (ltZ most w) refl e
         where
           tests : (a : Bool) → ltZ w least ≡ a → (b : Bool) → ltZ most w ≡ b → cond a Signed.Broken (cond b Signed.Broken (Signed.Value w m)) ≡ Signed.Value v next → Ranged s at least most v next
-          tests true p b r e = apart-signed e
-          tests false p true r e = apart-signed e
+          tests true p b r e = never cc
+          tests false p true r e = never cc
           tests false p false r e =
               let i : w ≡ v = cc in
               let j : m ≡ next = cc in
@@ -146,4 +135,4 @@ module _ (s : List ℕ) (at : ℕ) (least most : ℤ) where
           tests : (a : Bool) → ltZ z least ≡ a → (b : Bool) → ltZ most z ≡ b → cond a Signed.Broken (cond b Signed.Broken (Signed.Value z m)) ≡ Signed.Broken → valuesAt (ranged least most rest) s at ≡ refused (unfit at)
           tests true p b r e = wrong rest z m (ap asSigned q) (simp (lt-nle z least p))
           tests false p true r e = wrong rest z m (ap asSigned q) (over (leZ least z) r)
-          tests false p false r e = apart-signed (sym e)
+          tests false p false r e = never cc

@@ -4,14 +4,13 @@ use Prim.Native.Nat.{ℕ}
 use mathlib.Core.Path.{_≡_, refl, sym, ap, _∙_}
 use mathlib.Core.Logic.{_↔_}
 use mathlib.Core.List.{List, [], _++_, append-nil, append-assoc}
-use native.Mathlib.Omega.{arith}
 use lib.ListN.{length}
 use lib.Seq.{drop-length}
 use lib.Dec.{eqb}
 use borrow.Author.Tests.{eqb-true, eq-eqb}
 use Rattle.laws.specs.Guards.{guard}
 use Rattle.laws.specs.Standing.{Stands, stand-join}
-use Rattle.laws.specs.Tests.{guard-passed}
+use Rattle.laws.specs.Tests.{never, guard-passed}
 use Rattle.meaning.specs.declared.Refusal.{Refusal}
 use Rattle.meaning.specs.declared.Walk.{Walk}
 use Rattle.meaning.specs.declared.Verdict.{Verdict}
@@ -26,7 +25,7 @@ use Rattle.promises.specs.Walking.{walk-went}
 use Rattle.promises.specs.Layouts.{walk-stands, header-stands, walk-reads, header-read, headed, table-stands}
 
 pub refused-accepted : {e : Refusal} → Verdict.Refused e ≡ Verdict.Accepted → ⊥
-refused-accepted e = let z : _≡_ {A = ℕ} 0 1 = cc in omega arith
+refused-accepted e = never cc
 
 module _ (r : Rules) where
   open Rules r using (root, n, D)

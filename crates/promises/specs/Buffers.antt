@@ -10,6 +10,7 @@ use lib.Seq.{sets, sets-eq, take-at}
 use lib.Dec.{leb}
 use borrow.Author.Tests.{leb-true, le-leb, lt-leb}
 use Rattle.laws.specs.Guards.{guard}
+use Rattle.laws.specs.Tests.{never}
 use Rattle.meaning.specs.declared.Written.{Written}
 use Rattle.meaning.specs.Refusals.{short}
 use Rattle.meaning.specs.Files.{Judged, good, bad}
@@ -30,7 +31,7 @@ left-short bytes buf h = rw (lt-leb (length bytes) (length buf) h) refl
 
 -- a length that was answered is that of bytes that were judged good, and they stand in front
 pub left-length : (j : Judged (List ℕ)) (buf : List ℕ) (m : ℕ) → left j buf .answer ≡ Written.Length m → j ≡ good (take m (left j buf .buffer))
-left-length (bad e) buf m h = absurd (let z : _≡_ {A = ℕ} 0 1 = cc in omega arith)
+left-length (bad e) buf m h = never cc
 left-length (good bytes) buf m h = go (leb (length bytes) (length buf)) refl h
   where
     given : Bool → Left
@@ -40,4 +41,4 @@ left-length (good bytes) buf m h = go (leb (length bytes) (length buf)) refl h
     go true q e =
         let n : length bytes ≡ m = cc in
         ap good (sym (rw (in-front bytes buf (leb-true (length bytes) (length buf) q)) (take-at bytes (drop (length bytes) buf) m n)))
-    go false q e = absurd (let z : _≡_ {A = ℕ} 0 1 = cc in omega arith)
+    go false q e = never cc

@@ -9,7 +9,7 @@ use native.Mathlib.Omega.{arith}
 use lib.ListN.{length, take, drop, getD}
 use lib.IntN.{ℤ}
 use Rattle.laws.specs.Standing.{Stands, stand-back, at-cons}
-use Rattle.laws.specs.Tests.{guard-passed}
+use Rattle.laws.specs.Tests.{never, guard-passed}
 use Rattle.meaning.specs.declared.Refusal.{Refusal}
 use Rattle.meaning.specs.declared.Plant.{Plant}
 use Rattle.meaning.specs.declared.State.{State}
@@ -131,7 +131,7 @@ pub record Unread (plant table : List ℕ) (x : List ℤ) (u : ℕ) (then : Stat
   pub same : (other : List ℕ) → take (from + length modes) table ≡ take (from + length modes) other → controlled plant other idle x ≡ Answer.Mode u then
 
 refused-mode : {e : Refusal} {u : ℕ} {then : State} → Answer.Refused e ≡ Answer.Mode u then → ⊥
-refused-mode q = let z : _≡_ {A = ℕ} 0 1 = cc in omega arith
+refused-mode q = never cc
 
 found-tile : (s : List ℕ) (f : Found) (u : ℕ) (then : State) → onFound s f ≡ Answer.Mode u then → (from k : ℕ) × (f ≡ Found.Tile from k)
 found-tile s (Found.Refused e) u then q = absurd (refused-mode q)

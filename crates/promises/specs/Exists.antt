@@ -5,7 +5,7 @@ use mathlib.Core.Path.{_≡_, refl, sym, _∙_}
 use mathlib.Core.Logic.{_↔_}
 use mathlib.Core.List.{List, [], _∷_}
 use mathlib.Core.Option.{Option, none, some}
-use native.Mathlib.Omega.{arith}
+use Rattle.laws.specs.Tests.{never}
 use Rattle.meaning.specs.declared.Verdict.{Verdict}
 use Rattle.meaning.specs.Rules.{Rules, rule}
 use Rattle.meaning.specs.Trees.{Tree, Forest, split, tile, leaf, more, tableOf, Over, Overs}
@@ -14,7 +14,7 @@ use Rattle.meaning.specs.Defined.{orElse, mapSome, andAlso, allOf, splitOf, fir
 use Rattle.promises.specs.Laws.{Sizes}
 use Rattle.promises.specs.Shapes.{Good, Working}
 use Rattle.promises.specs.Accept.{accepted-exactly}
-use Rattle.promises.specs.First.{none-some, none-exactly, first-exactly}
+use Rattle.promises.specs.First.{none-exactly, first-exactly}
 
 -- there is a value
 data Some {A : Type 0} : Option A → Type 0 where
@@ -27,7 +27,7 @@ both-some : {x : Option Tree} (rest : Unit {0} → Option Forest) → Some x →
 both-some rest (is t) h = map-some (more t) h
 
 some-none : {A : Type 0} {x : Option A} → Some x → x ≡ none → ⊥
-some-none (is a) e = none-some (sym e)
+some-none (is a) e = never cc
 
 module _ (r : Rules) where
   open Rules r using (Box, children, root, D)
@@ -61,8 +61,8 @@ module _ (r : Rules) where
       go : (x : Option Tree) (y : Option Forest) → treeOf r d b ≡ x → allOf (λ c. treeOf r d c) bs ≡ y → andAlso x (λ _. y) ≡ some f
           → ((g : Forest) → allOf (λ c. treeOf r d c) bs ≡ some g → ForestWorks g d bs) → ForestWorks f d (b ∷ bs)
       go (some t) (some g) p q e h = let z : f ≡ more t g = cc in rw z (ih b t p, h g q)
-      go (some t) none p q e h = absurd (none-some e)
-      go none y p q e h = absurd (none-some e)
+      go (some t) none p q e h = never cc
+      go none y p q e h = never cc
 
   split-works : (d : ℕ) (b : Box) (t : Tree) → ((f : Forest) → allOf (λ c. treeOf r d c) (children b) ≡ some f → ForestWorks f d (children b))
       → splitOf (λ c. treeOf r d c) (children b) ≡ some t → TreeWorks t (suc d) b
@@ -72,15 +72,15 @@ module _ (r : Rules) where
       joined : (bs : List Box) → children b ≡ bs → (bs ≡ [] → ⊥) → (o : Option Forest) → allOf (λ c. treeOf r d c) bs ≡ o → mapSome split o ≡ some t
           → TreeWorks t (suc d) b
       joined bs p z (some f) q e = let y : t ≡ split f = cc in rw y ((λ w. z (sym p ∙ w)), h f (rw p q))
-      joined bs p z none q e = absurd (none-some e)
+      joined bs p z none q e = never cc
 
       go : (bs : List Box) → children b ≡ bs → splitOf (λ c. treeOf r d c) bs ≡ some t → TreeWorks t (suc d) b
-      go [] p e = absurd (none-some e)
-      go (c ∷ cs) p e = joined (c ∷ cs) p (λ w. let x : _≡_ {A = ℕ} 0 1 = cc in omega arith) (allOf (λ c. treeOf r d c) (c ∷ cs)) refl e
+      go [] p e = never cc
+      go (c ∷ cs) p e = joined (c ∷ cs) p (λ w. never cc) (allOf (λ c. treeOf r d c) (c ∷ cs)) refl e
 
   tree-works : (d : ℕ) (b : Box) (t : Tree) → treeOf r d b ≡ some t → TreeWorks t d b
   unfolding treeOf
-  tree-works zero b t e = first-works zero b t (λ _. none) (λ p. absurd (none-some p)) (rw e refl)
+  tree-works zero b t e = first-works zero b t (λ _. none) (λ p. never cc) (rw e refl)
   tree-works (suc d) b t e =
       first-works (suc d) b t (λ _. splitOf (λ c. treeOf r d c) (children b)) (λ p. split-works d b t (λ f q. all-work d (λ c. tree-works d c) (children b) f q) p) e
 

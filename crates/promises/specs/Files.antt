@@ -15,7 +15,7 @@ use lib.IntN.{ℤ, pos, natAbs}
 use borrow.Author.Tests.{lt-ltb, le-ltb, eqb-true, eq-eqb}
 use Rattle.laws.specs.Guards.{guard}
 use Rattle.laws.specs.Standing.{Stands, stand-nil, stand-join, stand-front, stand-back}
-use Rattle.laws.specs.Tests.{guard-passed}
+use Rattle.laws.specs.Tests.{never, guard-passed}
 use Rattle.meaning.specs.declared.Number.{Number}
 use Rattle.meaning.specs.declared.Refusal.{Refusal}
 use Rattle.meaning.specs.Refusals.{broken}
@@ -65,9 +65,6 @@ record Was (k : Kind) (v : ℤ) (s : List ℕ) (i next : ℕ) : Type 0 where
   short : fiveBytes k v ≡ true
   stands : Stands s i (bytesAs k v) next
 
-none-taken : {v : ℤ} {next : ℕ} → none ≡ taken v next → ⊥
-none-taken e = let z : _≡_ {A = ℕ} 0 1 = cc in omega arith
-
 taken-was : (k : Kind) (v : ℤ) (i next : ℕ) (s : List ℕ) → takenAs k s i ≡ taken v next → Was k v s i next
 taken-was plain v i next s e = go (numberAt s i) refl e
   where
@@ -77,7 +74,7 @@ taken-was plain v i next s e = go (numberAt s i) refl e
         let b : next ≡ m = cc in
         let w = was u i m s q in
         rw (a, b) (record { storable = refl; short = lt-ltb u (2 ^ 35) (w .0); stands = w .1 })
-    go Number.Broken q e = absurd (none-taken e)
+    go Number.Broken q e = never cc
 taken-was signed v i next s e = go (numberAt s i) refl e
   where
     go : (n : Number) → numberAt s i ≡ n → signedTaken (asSigned n) ≡ taken v next → Was signed v s i next
@@ -87,7 +84,7 @@ taken-was signed v i next s e = go (numberAt s i) refl e
         let w = was u i m s q in
         let c = stored-restored u in
         rw (a, b) (record { storable = tt; short = rw c (lt-ltb u (2 ^ 35) (w .0)); stands = rw c (w .1) })
-    go Number.Broken q e = absurd (none-taken e)
+    go Number.Broken q e = never cc
 taken-was float v i next s e =
     let w = float-was v i next s e in
     rw (w .1) (record { storable = (refl, w .2); short = refl; stands = w .3 })
@@ -131,11 +128,11 @@ reads-back (field f rest) (v ∷ vs) s i next h p =
 -- ---- what was read: a value came before the others
 
 refused-read : {r : Refusal} {ws : List ℤ} {m : ℕ} → refused r ≡ read ws m → ⊥
-refused-read e = let z : _≡_ {A = ℕ} 0 1 = cc in omega arith
+refused-read e = never cc
 
 before-read : {ws : List ℤ} {m : ℕ} (v : ℤ) (t : Read (List ℤ)) → before v t ≡ read ws m → (more : List ℤ) × (ws ≡ v ∷ more) × (t ≡ read more m)
 before-read v (read more n) e = (more, cc, cc)
-before-read v (refused r) e = absurd (refused-read e)
+before-read v (refused r) e = never cc
 
 -- values that were judged right are the values themselves, and the place behind them is that behind their bytes
 pub judged-back : (form : Form) (vs : List ℤ) (i : ℕ) {ws : List ℤ} {m : ℕ} → Shaped form vs → judgedValues form vs i ≡ read ws m
@@ -169,7 +166,7 @@ field-read f rest s i {vs} {next} e = go (takenAs (f .kind) s i) refl e
   where
     go : (t : Taken) → takenAs (f .kind) s i ≡ t → onTaken t i (λ v m. guard (f .right v) (refused (f .wrong i)) λ _. before v (valuesAt (rest v) s m)) ≡ read vs next
         → FieldRead f rest s i vs next
-    go none q e = absurd (refused-read e)
+    go none q e = never cc
     go (taken v mid) q e =
         let a = guard-passed (f .right v) _ refused-read e in
         let b = before-read v (valuesAt (rest v) s mid) (a .1) in
@@ -212,7 +209,7 @@ file-writes form s {vs} {next} e = go (valuesAt form s 0) refl e
   where
     go : (t : Read (List ℤ)) → valuesAt form s 0 ≡ t → ended s t ≡ read vs next
         → (valuesAt form s 0 ≡ read vs next) × (next ≡ length s) × (fileOf form vs ≡ s)
-    go (refused r) q e = absurd (refused-read e)
+    go (refused r) q e = never cc
     go (read ws m) q e =
         let a = guard-passed (eqb m (length s)) _ refused-read e in
         let r : valuesAt form s 0 ≡ read vs next = q ∙ a .1 in

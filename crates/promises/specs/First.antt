@@ -10,14 +10,12 @@ use native.Mathlib.Omega.{arith}
 use native.Mathlib.Decide.{ℕ-discrete, decLt}
 use lib.ListN.{length}
 use Rattle.laws.specs.Guards.{guard}
+use Rattle.laws.specs.Tests.{never}
 use Rattle.meaning.specs.declared.Rule.the-variants.{Works}
 use Rattle.meaning.specs.Rules.{Rules, rule, ruleFrom}
 use Rattle.meaning.specs.Trees.{below, Pattern}
 use Rattle.meaning.specs.Defined.{orElse, mapSome, firstMode, exactly, shortest, firstPattern}
 use Rattle.promises.specs.Patterns.{goal-works, safe-works}
-
-pub none-some : {A : Type 0} {a : A} → none ≡ some a → ⊥
-none-some e = let z : _≡_ {A = ℕ} 0 1 = cc in omega arith
 
 -- in mode order, compared from the first mode: us stands before vs or is vs
 pub data NotAfter : List ℕ → List ℕ → Type 0 where
@@ -46,7 +44,7 @@ record Tried (try : ℕ → Option (List ℕ)) (m u : ℕ) (us : List ℕ) : Typ
 
 tried : (try : ℕ → Option (List ℕ)) (m u : ℕ) (us : List ℕ) → firstMode try m u ≡ some us → Tried try m u us
 unfolding firstMode
-tried try zero u us e = absurd (none-some e)
+tried try zero u us e = never cc
 tried try (suc m) u us e = go (try u) refl e (λ q. tried try m (suc u) us q)
   where
     here : try u ≡ none → (v y : ℕ) → (suc u ≤ y → y < v → try y ≡ none) → u ≤ y → y < v → Dec (u ≡ y) → try y ≡ none
@@ -77,7 +75,7 @@ untried try (suc m) u e v l h = go (try u) refl e (λ q y. untried try m (suc u)
   where
     go : (o : Option (List ℕ)) → try u ≡ o → orElse (mapSome (λ us. u ∷ us) o) (λ _. firstMode try m (suc u)) ≡ none
         → (firstMode try m (suc u) ≡ none → suc u ≤ v → try v ≡ none) → Dec (u ≡ v) → try v ≡ none
-    go (some vs) q e k c = absurd (none-some (sym e))
+    go (some vs) q e k c = never cc
     go none q e k (yes c) = rw (← c) q
     go none q e k (no c) = k e (omega arith)
 
@@ -108,7 +106,7 @@ module _ (r : Rules) where
     where
       go : (t : Bool) → within (kept k) goal ≡ t → guard t none (λ _. some []) ≡ some us → FirstOf zero k us
       go true q e = let z : us ≡ [] = cc in rw z (record { count = refl; modes = tt; works = λ i. rw q refl })
-      go false q e = absurd (none-some e)
+      go false q e = never cc
   exactly-works (suc m) k us e = go (tried (behind m k) N 0 us e) (λ c vs q. exactly-works m c vs q)
     where
       inside : (t : Tried (behind m k) N 0 us) → (c : Bool) → within (kept (image (t .v) k)) safe ≡ c
@@ -117,14 +115,14 @@ module _ (r : Rules) where
       inside t true q e ih =
           let h = ih (image (t .v) k) (t .vs) e in
           record { count = ap suc (h .count); modes = (omega (arith, t .under), h .modes); works = λ i. rw q (h .works (suc i)) }
-      inside t false q e ih = absurd (none-some e)
+      inside t false q e ih = never cc
 
       go : Tried (behind m k) N 0 us → ((c : Kept) (vs : List ℕ) → exactly r m c ≡ some vs → FirstOf m c vs) → FirstOf (suc m) k us
       go t ih = let z : us ≡ t .v ∷ t .vs = t .is in rw z (inside t (within (kept (image (t .v) k)) safe) refl (t .found-it) ih)
 
   exactly-none : (m : ℕ) (k : Kept) (us : List ℕ) (i : ℕ) → exactly r m k ≡ none → length us ≡ m → below N us → ruleFrom r i k us ≡ Works → ⊥
   unfolding exactly ruleFrom below
-  exactly-none zero k [] i e l h w = none-some {a = []} (sym e ∙ rw (goal-works (within (kept k) goal) i .0 w) refl)
+  exactly-none zero k [] i e l h w = let q : none ≡ some [] = sym e ∙ rw (goal-works (within (kept k) goal) i .0 w) refl in never cc
   exactly-none zero k (u ∷ us) i e l h w = omega arith
   exactly-none (suc m) k [] i e l h w = omega arith
   exactly-none (suc m) k (u ∷ us) i e l h w =
@@ -138,7 +136,7 @@ module _ (r : Rules) where
     where
       go : (t : Bool) → guard t none (λ _. some []) ≡ some us → NotAfter us []
       go true e = let z : us ≡ [] = cc in rw z end
-      go false e = absurd (none-some e)
+      go false e = never cc
   exactly-foremost zero k us (v ∷ vs) i e l h w = absurd (omega arith)
   exactly-foremost (suc m) k us [] i e l h w = absurd (omega arith)
   exactly-foremost (suc m) k us (v ∷ vs) i e l h w =
@@ -168,7 +166,7 @@ module _ (r : Rules) where
 
   shortest-first : (j m : ℕ) (b : Box) (us : List ℕ) → shortest r j m b ≡ some us → FirstFrom j m b us
   unfolding shortest
-  shortest-first zero m b us e = absurd (none-some e)
+  shortest-first zero m b us e = never cc
   shortest-first (suc j) m b us e = go (exactly r m (begin b)) refl e (λ q. shortest-first j (suc m) b us q)
     where
       here : exactly r m (begin b) ≡ none → (y : ℕ) → (suc m ≤ y → exactly r y (begin b) ≡ none) → m ≤ y → Dec (m ≡ y) → exactly r y (begin b) ≡ none
@@ -198,7 +196,7 @@ module _ (r : Rules) where
     where
       go : (o : Option (List ℕ)) → exactly r m (begin b) ≡ o → orElse o (λ _. shortest r j (suc m) b) ≡ none
           → (shortest r j (suc m) b ≡ none → suc m ≤ y → exactly r y (begin b) ≡ none) → Dec (m ≡ y) → exactly r y (begin b) ≡ none
-      go (some vs) q e k c = absurd (none-some (sym e))
+      go (some vs) q e k c = never cc
       go none q e k (yes c) = rw (← c) q
       go none q e k (no c) = k e (omega arith)
 

@@ -12,6 +12,7 @@ use lib.IntN.{ℤ, pos}
 use borrow.Author.Tests.{lt-ltb, ltb-true, eqb-true, eq-eqb}
 use Rattle.laws.specs.Lists.{all}
 use Rattle.laws.specs.Standing.{Stands}
+use Rattle.laws.specs.Tests.{never}
 use Rattle.meaning.specs.Files.{taken, none, little, lowFirst, floatAt}
 
 -- ---- a list of bytes and its value
@@ -81,5 +82,5 @@ float-was z i next s e = go (eqb (length cs) 8) (all (map (λ c. ltb c 256) cs))
         let small : little cs < 256 ^ 8 = rw long at (little-less cs b) in
         let same : lowFirst 8 (little cs) ≡ cs = rw long at (low-little cs b) in
         (little cs, cc, small, rw same (record { end = omega arith; bytes = sym (take-append-drop 8 (drop i s)) ∙ rw (n, drop-drop 8 i s) refl }))
-    go true false a b e = absurd (let z : _≡_ {A = ℕ} 0 1 = cc in omega arith)
-    go false b c d e = absurd (let z : _≡_ {A = ℕ} 0 1 = cc in omega arith)
+    go true false a b e = never cc
+    go false b c d e = never cc

@@ -12,7 +12,7 @@ use lib.Dec.{ltb, eqb}
 use borrow.Author.Tests.{ltb-true, eqb-true, lt-ltb, eq-eqb}
 use Rattle.laws.specs.Guards.{guard}
 use Rattle.laws.specs.Standing.{Stands, stand-nil, stand-join, stand-front, stand-back}
-use Rattle.laws.specs.Tests.{guard-passed}
+use Rattle.laws.specs.Tests.{never, guard-passed}
 use Rattle.meaning.specs.declared.Refusal.{Refusal}
 use Rattle.meaning.specs.declared.Number.{Number}
 use Rattle.meaning.specs.declared.Rule.{Rule}
@@ -30,10 +30,10 @@ use Rattle.promises.specs.Shapes.{Good}
 use Rattle.promises.specs.Walking.{number-read, walk-went, NodeWas, was-split, was-tile, node-was, walk-split, walk-tile}
 
 refused-read : {A : Type 0} {e : Refusal} {a : A} {m : ℕ} → refused e ≡ read a m → ⊥
-refused-read e = let z : _≡_ {A = ℕ} 0 1 = cc in omega arith
+refused-read e = never cc
 
 refused-next : {e : Refusal} {m : ℕ} → Walk.Refused e ≡ Walk.Next m → ⊥
-refused-next e = let z : _≡_ {A = ℕ} 0 1 = cc in omega arith
+refused-next e = never cc
 
 -- a split's number
 pub split-read : (f : Forest) (s : List ℕ) (at m : ℕ) → Stands s at (bytesOf 0 ++ layouts f) m → numberAt s at ≡ Number.Value 0 (at + length (bytesOf 0))
@@ -125,7 +125,7 @@ module _ (r : Rules) where
             let f = ih (c ∷ cs) e in
             record {
               tree = split (f .forest);
-              over = ((λ z. let x : _≡_ {A = ℕ} 0 1 = cc in omega arith), rw p (f .over));
+              over = ((λ z. never cc), rw p (f .over));
               stand = stand-join (was 0 at from s q .1) (f .stand);
             }
 

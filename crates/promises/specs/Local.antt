@@ -27,9 +27,10 @@ use Rattle.promises.specs.Bytes.{bytes-some}
 use Rattle.promises.specs.Walking.{walk-went, NodeWas, was-split, was-tile, node-was, lookAmong, find-split, find-tile}
 use Rattle.promises.specs.Layouts.{ModesStand, modes-stand, modes-read, walk-stands, walk-reads, header-stands, header-read}
 use Rattle.laws.specs.Standing.{stand-agreed}
+use Rattle.laws.specs.Tests.{never}
 
 refused-tile : {e : Refusal} {from k : ℕ} → Found.Refused e ≡ Found.Tile from k → ⊥
-refused-tile e = let z : _≡_ {A = ℕ} 0 1 = cc in omega arith
+refused-tile e = never cc
 
 -- what was read before e is read in every list that agrees up to e
 number-agreed : (v i m e : ℕ) (s z : List ℕ) → numberAt s i ≡ Number.Value v m → m ≤ e → take e s ≡ take e z → numberAt z i ≡ Number.Value v m
@@ -145,7 +146,7 @@ module _ (r : Rules) where
           go [] w e = absurd (refused-tile e)
           go (c ∷ cs) w e =
               let o = was 0 at next s q .1 .end in
-              let some : children b ≡ [] → ⊥ = λ y. let v : _≡_ {A = ℕ} 0 1 = cc in omega arith in
+              let some : children b ≡ [] → ⊥ = λ y. never cc in
               back-to (omega arith) (λ z g l t. find-split r x (suc d) z at b next d (number-agreed 0 at next g s z q l t) refl some ∙ rw w refl) (ih (c ∷ cs) e)
 
       find-reach : (d : ℕ) (s : List ℕ) (at : ℕ) (b : Box) (from k : ℕ) → find r d s at b x ≡ Found.Tile from k → Reach (λ z. find r d z at b x) s at from k

