@@ -1,5 +1,5 @@
 -- A plant whose file was judged good is sound (page Sound): what document 01 says of a plant's numbers, from the form that its file was
--- read by (pages Forms and Framed) and the two tests behind it (page Related). That its arrays are 0 beyond n is left out.
+-- read by (pages Forms and Framed) and the two tests behind it (page Related); page PlantShapes tells how many coefficients there can be. That its arrays are 0 beyond n is left out.
 use Prim.Native.Nat.{ℕ, _+_, _*_, _≤_, _<_}
 use mathlib.Core.Path.{_≡_, refl, _∙_, subst}
 use mathlib.Core.Bool.{true}
@@ -18,6 +18,7 @@ use Rattle.meaning.specs.Plants.{entryLimit, offsetLimit, limited, row, times, 
 use Rattle.promises.specs.Files.{file-writes}
 use Rattle.promises.specs.Forms.{Right, values-right, times-right}
 use Rattle.promises.specs.Framed.{limited-right, wide-bands, framed}
+use Rattle.promises.specs.PlantShapes.{numbers-few}
 use Rattle.promises.specs.Related.{good-was}
 use Rattle.promises.specs.Sound.{Sound}
 
@@ -45,10 +46,7 @@ module _ (vs : List ℤ) (n modes : ℕ) where
 
   coefs-size : n ≤ 4 → modes ≤ 16 → length coefs ≡ 320
   unfolding coefs
-  coefs-size few m =
-      let a : modes * n ≤ 16 * 4 = mul-le-mul m few in
-      let b : n + 1 ≤ 5 = omega arith in
-      padded-size (λ i. at vs (6 + 6 * n + i)) 320 (coefCount modes n) (omega (arith, mul-le-mul a b))
+  coefs-size few m = padded-size (λ i. at vs (6 + 6 * n + i)) 320 (coefCount modes n) (numbers-few modes n few m)
 
   -- entry j of row i of mode u, its b_i being entry n
   coefs-at : (u i j : ℕ) → u < modes → i < n → j ≤ n → at coefs (rowStart n u i + j) ≡ at vs (6 + 4 * n + 2 * n + (n + 1) * (u * n + i) + 1 * j)

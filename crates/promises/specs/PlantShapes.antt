@@ -49,6 +49,10 @@ plant-shaped p = (refl, (refl, (refl, (refl, (refl, (refl, body-shape (p .n) (p 
         let c = length-tab (at (p .coef)) (coefCount (p .modes) (p .n)) 0 in
         omega (arith, length-append edges (bands ++ coefs), length-append bands coefs)
 
+-- a plant has at most 320 coefficients
+pub numbers-few : (modes n : ℕ) → n ≤ 4 → modes ≤ 16 → coefCount modes n ≤ 320
+numbers-few modes n few many = let a : modes * n ≤ 16 * 4 = mul-le-mul many few in let b : n + 1 ≤ 5 = omega arith in omega (arith, mul-le-mul a b)
+
 -- ---- numbers that were read, as many as n rooms and N modes call for
 
 module _ (n modes q k d : ℕ) (body : List ℤ) (few : n ≤ 4) (many : modes ≤ 16) (long : length body ≡ 6 * n + coefCount modes n) where
@@ -72,9 +76,6 @@ module _ (n modes q k d : ℕ) (body : List ℤ) (few : n ≤ 4) (many : modes �
           let e : 6 + 6 * n + i ≡ 6 + (6 * n + i) = omega arith in
           ap (at numbers) e ∙ getD-append-add front body (6 * n + i) (pos 0) ∙ sym (getD-drop (6 * n) body i (pos 0))
 
-  numbers-few : coefCount modes n ≤ 320
-  numbers-few = let a : modes * n ≤ 16 * 4 = mul-le-mul many few in let b : n + 1 ≤ 5 = omega arith in omega (arith, mul-le-mul a b)
-
   numbers-back : numbersOf (plantOf numbers) ≡ numbers
   unfolding front numbers plantOf numbersOf
   numbers-back = ap (λ (t : List ℤ). front ++ t) (rw coefs-back (body-back front refl body n (omega arith)))
@@ -83,14 +84,14 @@ module _ (n modes q k d : ℕ) (body : List ℤ) (few : n ≤ 4) (many : modes �
   unfolding front numbers plantOf
   numbers-tidy = record {
     rooms = few;
-    numbers = numbers-few;
+    numbers = numbers-few modes n few many;
     rlo-filled = columns 6 4;
     rhi-filled = columns 7 4;
     slo-filled = columns 8 4;
     shi-filled = columns 9 4;
     wlo-filled = columns (6 + 4 * n) 2;
     whi-filled = columns (7 + 4 * n) 2;
-    coef-filled = padded-filled (λ i. at numbers (6 + 6 * n + i)) 320 (coefCount modes n) numbers-few;
+    coef-filled = padded-filled (λ i. at numbers (6 + 6 * n + i)) 320 (coefCount modes n) (numbers-few modes n few many);
   }
     where
       columns : (first by : ℕ) → Filled 4 n (column numbers first by n)

@@ -1,5 +1,5 @@
 -- The coefficients of a plant one by one: each is that of its column, row and mode, so that they are the definition's rows; and how many there are. Relies on
--- promises' page SheetPlants for how many emitters there are.
+-- promises' pages SheetPlants, for how many emitters there are, and PlantShapes.
 use Prim.Native.Nat.{ℕ, zero, suc, _+_, _*_, _/_, _%_, _≤_, _<_}
 use mathlib.Core.Path.{_≡_, refl, sym, ap, _∙_, subst}
 use mathlib.Core.Bool.{cond}
@@ -18,6 +18,7 @@ use Rattle.meaning.specs.declared.Sheet.{Sheet}
 use Rattle.meaning.specs.declared.Whole.{Whole}
 use Rattle.meaning.specs.Plants.{entryLimit, offsetLimit, coefCount}
 use Rattle.meaning.specs.Sheets.{wholeOf, coefficient, offset, madeRow, madeModes, nearValue}
+use Rattle.promises.specs.PlantShapes.{numbers-few}
 use Rattle.promises.specs.SheetPlants.{emitters-few}
 use Rattle.sheets.specs.declared.made.Entries.{Entries}
 use Rattle.sheets.specs.Sizes.{Sized}
@@ -111,7 +112,7 @@ module _ (h : Sheet) (s : Sized h) where
   rows-few = mul-le-mul modes-few (s .few)
 
   pub count-few : coefCount (madeModes h) (h .n) ≤ 320
-  count-few = let w : h .n + 1 ≤ 5 = omega (arith, s .few) in mul-le-mul rows-few w
+  count-few = numbers-few (madeModes h) (h .n) (s .few) modes-few
 
   pub scaled : (1 ≤ h .q * h .r) × (h .q * h .r ≤ 10000000)
   scaled = (one-le-mul (s .counts .0) (s .degrees .0), mul-le-mul (s .counts .1) (s .degrees .1))
