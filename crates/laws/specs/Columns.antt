@@ -4,9 +4,10 @@ use mathlib.Core.Path.{_≡_, refl, sym, ap, _∙_}
 use mathlib.Core.List.{List, [], _∷_, _++_}
 use native.Mathlib.Omega.{arith}
 use native.Mathlib.Nat.{zero-add, mul-zero}
+use native.Mathlib.Numerals.{add-one}
 use native.Mathlib.Decide.{decLt}
 use lib.ListN.{length, getD, drop, replicate, List·getD-eq-default, getD-replicate}
-use lib.Seq.{getD-append-add, ext-getD}
+use lib.Seq.{drop-cons, getD-append-add, ext-getD}
 use lib.IntN.{ℤ, pos}
 use Rattle.laws.specs.Lists.{at, tab, tabs, padded}
 use Rattle.laws.specs.Tabs.{length-tab, getD-tab, padding-size, FilledBy, Filled}
@@ -53,12 +54,8 @@ unfolding tab
 tab-drop l zero i h = let e : i + 0 ≡ i = omega arith in rw e refl
 tab-drop l (suc m) i h =
     let e : i + suc m ≡ i + 1 + m = omega arith in
-    rw (e, tab-drop l m (i + 1) (omega arith)) (sym (drop-cons l i (omega arith)))
-  where
-    drop-cons : (l : List ℤ) (i : ℕ) → i < length l → drop i l ≡ at l i ∷ drop (i + 1) l
-    drop-cons [] i h = absurd (omega arith)
-    drop-cons (x ∷ l) zero h = refl
-    drop-cons (x ∷ l) (suc i) h = let e : suc i + 1 ≡ suc (i + 1) = omega arith in drop-cons l i (omega arith) ∙ rw e refl
+    rw (e, tab-drop l m (i + 1) (omega arith))
+    (sym (drop-cons l i (pos 0) (omega arith) ∙ ap (λ (k : ℕ). at l i ∷ drop k l) (sym (add-one i))))
 
 -- the same lists, counted from one further on
 pub tabs-later : {A : Type 0} (f g : ℕ → List A) (m i : ℕ) → ((k : ℕ) → f (k + 1) ≡ g k) → tabs f m (i + 1) ≡ tabs g m i

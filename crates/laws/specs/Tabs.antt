@@ -1,7 +1,7 @@
 -- Laws of lists by their entries: `tab`, `tabs`, `padded`, and arrays that are filled from the front. Assumes nothing.
 use Prim.Native.Nat.{ℕ, zero, suc, _+_, _-_, _*_, _≤_, _<_}
 use mathlib.Core.Path.{_≡_, refl, sym, ap, _∙_}
-use mathlib.Core.List.{List, [], _∷_, _++_, map, append-assoc, append-nil}
+use mathlib.Core.List.{List, [], _∷_, _++_, map, append-assoc, append-nil, map-append}
 use native.Mathlib.Omega.{arith}
 use native.Mathlib.Nat.{add-zero, sub-zero, zero-add, add-comm, mul-zero, mul-suc}
 use native.Mathlib.Numerals.{add-one}
@@ -54,10 +54,6 @@ pub map-tab : {A B : Type 0} (g : A → B) (f : ℕ → A) (m i : ℕ) → map g
 unfolding tab
 map-tab g f zero i = refl
 map-tab g f (suc m) i = rw (map-tab g f m (i + 1)) refl
-
-pub map-append : {A B : Type 0} (g : A → B) (front back : List A) → map g (front ++ back) ≡ map g front ++ map g back
-map-append g [] back = refl
-map-append g (a ∷ front) back = rw (map-append g front back) refl
 
 -- ---- tabs
 

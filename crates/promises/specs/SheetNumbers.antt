@@ -2,14 +2,14 @@
 -- Relies on page Bodies. Any sheet, also one whose numbers a plant cannot hold (0 stands for such a number).
 use Prim.Native.Nat.{ℕ, suc, _+_, _*_, _≤_, _<_}
 use mathlib.Core.Path.{_≡_, refl, ap, _∙_}
-use mathlib.Core.List.{List, [], _∷_, _++_, map}
+use mathlib.Core.List.{List, [], _∷_, _++_, map, map-append}
 use native.Mathlib.Omega.{arith}
 use native.Mathlib.Nat.{mul-le-mul, le-refl, zero-add}
 use lib.ListN.{length, getD, length-map, length-append, List·getD-append, List·getD-map}
 use lib.Seq.{getD-append-add}
 use lib.IntN.{ℤ, pos, _+ℤ_, _-ℤ_}
 use Rattle.laws.specs.Lists.{at, tab, tabs, padded}
-use Rattle.laws.specs.Tabs.{length-tab, length-tabs, getD-tab, getD-tabs, tab-same, tabs-same, padded-at, map-append, map-tabs}
+use Rattle.laws.specs.Tabs.{length-tab, length-tabs, getD-tab, getD-tabs, tab-same, tabs-same, padded-at, map-tabs}
 use Rattle.meaning.specs.declared.Whole.{Whole}
 use Rattle.meaning.specs.declared.Sheet.{Sheet}
 use Rattle.meaning.specs.declared.Plant.{Plant}

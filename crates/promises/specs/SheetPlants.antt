@@ -1,17 +1,17 @@
 -- The plant made of a sheet that was judged good is one that the plant's reader takes, so what is written of it is what the plant's writer writes.
 -- Relies on pages Passing, SheetSound, SheetNumbers and SheetNear; what the plant allows is page SheetSteps.
-use Prim.Native.Nat.{ℕ, zero, suc, _+_, _*_, _^_, _≤_, _<_}
+use Prim.Native.Nat.{ℕ, zero, suc, _+_, _*_, _≤_, _<_}
 use mathlib.Core.Path.{_≡_, refl, sym, ap, _∙_}
 use mathlib.Core.Bool.{true}
-use mathlib.Core.List.{List, [], _∷_, _++_, map, append-nil, append-assoc}
+use mathlib.Core.List.{List, [], _∷_, _++_, map, append-nil, append-assoc, map-append}
 use native.Mathlib.Omega.{arith}
-use lib.Pow.{pow-pos}
+use lib.Pow.{pow-pos, pow-mono}
 use lib.IntN.{ℤ, pos, _+ℤ_, _-ℤ_}
 use lib.Signed.{_≤ℤ_}
 use Rattle.laws.specs.Columns.{tab-tabs}
 use Rattle.laws.specs.Integers.{zarith, add, sub}
 use Rattle.laws.specs.Lists.{at, tab, tabs, all}
-use Rattle.laws.specs.Tabs.{tab-same, padded-at, map-tab, map-append}
+use Rattle.laws.specs.Tabs.{tab-same, padded-at, map-tab}
 use Rattle.laws.specs.Tests.{true-leZ, tab-holds}
 use Rattle.meaning.specs.declared.Emitter.{Emitter}
 use Rattle.meaning.specs.declared.Refusal.{Refusal}
@@ -45,17 +45,9 @@ unfolding S.emitters
 emitters-few h zero = omega arith
 emitters-few h (suc m) = omega (arith, emitters-few h m, has-one (roomAt h m .emitter))
 
-powers : (m : ℕ) → m ≤ 4 → 2 ^ m ≤ 16
-powers zero l = omega arith
-powers (suc zero) l = omega arith
-powers (suc (suc zero)) l = omega arith
-powers (suc (suc (suc zero))) l = omega arith
-powers (suc (suc (suc (suc zero)))) l = omega arith
-powers (suc (suc (suc (suc (suc m))))) l = absurd (omega arith)
-
 module _ (h : Sheet) (s : SoundSheet h) where
   modes-few : madeModes h ≤ 16
-  modes-few = powers (emitters h (h .n)) (omega (arith, emitters-few h (h .n), s .ranges .n-high))
+  modes-few = pow-mono {j = 4} (omega (arith, emitters-few h (h .n), s .ranges .n-high))
 
   -- ---- the numbers pass, group by group
 
