@@ -106,6 +106,12 @@ module _ {ℓ} {A : Type ℓ} (f : ℕ → List A) (w : ℕ) (even : (k : ℕ) �
       let z : b + 1 + i ≡ b + suc i = omega arith in
       rw q (getD-append-add (f b) (tabs f m (b + 1)) (w * i + j) d) ∙ getD-tabs d m (b + 1) i j (omega arith) l ∙ rw z refl
 
+-- within a list, what stands behind its end does not matter
+pub any-default {ℓ} : {A : Type ℓ} (l : List A) (i : ℕ) (d e : A) → i < length l → getD l i d ≡ getD l i e
+any-default [] i d e h = absurd (omega arith)
+any-default (x ∷ l) zero d e h = refl
+any-default (x ∷ l) (suc i) d e h = any-default l i d e (omega arith)
+
 -- ---- the first k of m entries, made up
 
 module _ {A : Type 0} (z : A) (f : ℕ → A) (m k : ℕ) where
@@ -138,27 +144,38 @@ pub record FilledBy {A : Type 0} (z : A) (m i : ℕ) (l : List A) : Type 0 where
 abbrev pub Filled : ℕ → ℕ → List ℤ → Type 0
 Filled m i l = FilledBy (pos 0) m i l
 
-pub filled-none : (m : ℕ) → Filled m 0 (replicate m (pos 0))
-filled-none m = record { size = length-replicate m (pos 0); rest = λ k h. zeros m k }
-  where
-    zeros : (m k : ℕ) → at (replicate m (pos 0)) k ≡ pos 0
-    zeros zero k = refl
-    zeros (suc m) zero = refl
-    zeros (suc m) (suc k) = zeros m k
+module _ {A : Type 0} (z : A) where
+  pub filling-none : (m : ℕ) → FilledBy z m 0 (replicate m z)
+  filling-none m = record { size = length-replicate m z; rest = λ k h. same m k }
+    where
+      same : (m k : ℕ) → getD (replicate m z) k z ≡ z
+      same zero k = refl
+      same (suc m) zero = refl
+      same (suc m) (suc k) = same m k
 
--- below the place of a store nothing changes
+  -- below the place of a store nothing changes
+  pub getD-below : (l : List A) (i : ℕ) (v : A) (k : ℕ) → k < i → getD (set l i v) k z ≡ getD l k z
+  getD-below l i v k h = getD-set-other l i k v z (λ e. absurd (omega arith))
+
+  -- one more is filled
+  pub filling-more : {m i : ℕ} {l : List A} (v : A) → FilledBy z m i l → FilledBy z m (i + 1) (set l i v)
+  filling-more {m} {i} {l} v f = record {
+    size = length-set l i v ∙ f .size;
+    rest = λ k h. getD-set-other l i k v z (λ e. absurd (omega arith)) ∙ f .rest k (omega arith);
+  }
+
+-- the same of signed numbers
+pub filled-none : (m : ℕ) → Filled m 0 (replicate m (pos 0))
+filled-none m = filling-none (pos 0) m
+
 pub at-below : (l : List ℤ) (i : ℕ) (v : ℤ) (k : ℕ) → k < i → at (set l i v) k ≡ at l k
-at-below l i v k h = getD-set-other l i k v (pos 0) (λ e. absurd (omega arith))
+at-below l i v k h = getD-below (pos 0) l i v k h
+
+pub filled-more : {m i : ℕ} {l : List ℤ} (v : ℤ) → Filled m i l → Filled m (i + 1) (set l i v)
+filled-more v f = filling-more (pos 0) v f
 
 pub at-stored : (l : List ℤ) (i : ℕ) (v : ℤ) → i < length l → at (set l i v) i ≡ v
 at-stored l i v h = getD-set-same l i v (pos 0) h
-
--- one more is filled
-pub filled-more : {m i : ℕ} {l : List ℤ} (v : ℤ) → Filled m i l → Filled m (i + 1) (set l i v)
-filled-more {m} {i} {l} v f = record {
-  size = length-set l i v ∙ f .size;
-  rest = λ k h. getD-set-other l i k v (pos 0) (λ e. absurd (omega arith)) ∙ f .rest k (omega arith);
-}
 
 pub tab-stored : (l : List ℤ) (i : ℕ) (v : ℤ) → i < length l → tab (at (set l i v)) (i + 1) 0 ≡ tab (at l) i 0 ++ v ∷ []
 tab-stored l i v h =

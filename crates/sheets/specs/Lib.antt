@@ -1,4 +1,3 @@
-pub mod Filling
 pub mod Floats
 pub mod Rooms
 pub mod Wholes

@@ -1,10 +1,8 @@
--- The equations step by step, and what the code reads of a room's and a sheet's arrays. Relies on promises' page SheetPlants for how many emitters there are.
-use Prim.Native.Nat.{ℕ, zero, suc, _+_, _-_, _/_, _%_, _^_, _≤_, _<_}
+-- The equations step by step. Relies on promises' page SheetPlants for how many emitters there are.
+use Prim.Native.Nat.{ℕ, _+_, _-_, _/_, _%_, _^_, _≤_, _<_}
 use mathlib.Core.Path.{_≡_, refl, ap}
-use mathlib.Core.List.{List, [], _∷_}
 use native.Mathlib.Omega.{arith}
 use native.Mathlib.Numerals.{add-one}
-use lib.ListN.{length, getD}
 use borrow.Author.Tests.{lt-ltb, le-ltb, eq-eqb, ne-eqb}
 use lib.Ieee.{Float, binary64, add, sub, mul}
 use Rattle.laws.specs.Lists.{tab}
@@ -12,12 +10,6 @@ use Rattle.laws.specs.Tabs.{tab-step, tab-done}
 use Rattle.meaning.specs.declared.Sheet.{Sheet}
 use Rattle.meaning.specs.Sheets.{oneF, roomAt, exchangeAt, sumFrom, lossSum, coefficient, pushed, hasEmitter, emitters, offset}
 use Rattle.promises.specs.SheetPlants.{emitters-few}
-
--- within a list it does not matter what would stand behind its end
-pub same-entry {ℓ} : {A : Type ℓ} (l : List A) (i : ℕ) (d e : A) → i < length l → getD l i d ≡ getD l i e
-same-entry [] i d e h = absurd (omega arith)
-same-entry (x ∷ l) zero d e h = refl
-same-entry (x ∷ l) (suc i) d e h = same-entry l i d e (omega arith)
 
 -- ---- the sum of losses, j of m exchanges being added
 

@@ -11,7 +11,7 @@ use lib.IntN.{pos}
 use lib.Ieee.{Float}
 use borrow.Author.Tests.{le-leb, lt-leb}
 use Rattle.laws.specs.Columns.{tab-tabs}
-use Rattle.laws.specs.Tabs.{FilledBy}
+use Rattle.laws.specs.Tabs.{any-default, FilledBy, filling-none, filling-more, getD-below}
 use Rattle.laws.specs.Writing.{Put}
 use Rattle.meaning.specs.declared.Refusal.{Refusal}
 use Rattle.meaning.specs.declared.Number.{Number}
@@ -27,7 +27,6 @@ use Rattle.promises.specs.SheetRooms.{Held, HeldRoom, TidyRoom}
 use Rattle.files.specs.FieldLaws.{taken-right, taken-wrong, not-taken}
 use Rattle.files.specs.Parts.{behind, Fails, holds-then, holds-fails, fails-then, Rows, rows-none, rows-more, rows-fails, rows-all}
 use Rattle.sheets.specs.declared.rooms.EmitterRead.{EmitterRead}
-use Rattle.sheets.specs.Filling.{none-filled, one-filled, same-below, any-default}
 use Rattle.sheets.specs.Floats.{Floated}
 use Rattle.sheets.specs.Rooms.{exchangeBits, ExchangesRead, kindOf, ownValues, ownPart, emitterPart, OwnRead, OwnTold, EmitterHeld, EmitterTold, restPart, RestRead, RestAs, valuesOfRoom, RoomHeld, RoomAs, RoomsHeld, roomBytes, bytesOfRoom}
 
@@ -41,15 +40,15 @@ pub record ExchangesUpTo (s : List ℕ) (start m j p : ℕ) (xs : List Float) : 
 pub exchanges-none : (s : List ℕ) (start m : ℕ) → ExchangesUpTo s start m 0 start (replicate 3 zeroF)
 exchanges-none s start m = record {
   rows = rows-none (floating notBelow) (exchangeBits (replicate 3 zeroF)) s start m;
-  filled = none-filled zeroF 3;
+  filled = filling-none zeroF 3;
   held = λ k h. absurd (omega arith);
 }
 
 module _ {s : List ℕ} {start m j p : ℕ} {xs : List Float} (w : ExchangesUpTo s start m j p xs) where
   pub exchanges-more : (g : Float) (next : ℕ) → j < m → m ≤ 3 → Floated notBelow s p g next → ExchangesUpTo s start m (j + 1) next (set xs j g)
   exchanges-more g next h l t = record {
-    rows = rows-more (w .rows) (exchangeBits (set xs j g)) next h (λ k a. ap (λ (x : Float). bitsOf x ∷ []) (same-below zeroF xs j g k a)) (rw new (t .part));
-    filled = one-filled zeroF g (w .filled);
+    rows = rows-more (w .rows) (exchangeBits (set xs j g)) next h (λ k a. ap (λ (x : Float). bitsOf x ∷ []) (getD-below zeroF xs j g k a)) (rw new (t .part));
+    filled = filling-more zeroF g (w .filled);
     held = λ k a. each k a (ℕ-discrete k j);
   }
     where
@@ -58,7 +57,7 @@ module _ {s : List ℕ} {start m j p : ℕ} {xs : List Float} (w : ExchangesUpTo
 
       each : (k : ℕ) → k < j + 1 → Dec (k ≡ j) → Held (getD (set xs j g) k zeroF)
       each k a (yes e) = rw (e, new) (t .held)
-      each k a (no e) = let c : k < j = omega arith in rw (same-below zeroF xs j g k c) (w .held k c)
+      each k a (no e) = let c : k < j = omega arith in rw (getD-below zeroF xs j g k c) (w .held k c)
 
   pub exchanges-fails : (e : Refusal) → j < m → Fails (floating notBelow) s p e → Fails (times m (floating notBelow)) s start e
   exchanges-fails e h t = rows-fails (w .rows) h t
@@ -176,7 +175,7 @@ pub record RoomsUpTo (s : List ℕ) (start n i p : ℕ) (rooms : List Room) : Ty
 pub rooms-none : (s : List ℕ) (start n : ℕ) → RoomsUpTo s start n 0 start (replicate 4 noRoom)
 rooms-none s start n = record {
   rows = rows-none (roomForm n) (valuesOfRoom n (replicate 4 noRoom)) s start n;
-  filled = none-filled noRoom 4;
+  filled = filling-none noRoom 4;
   tidy = λ k h. absurd (omega arith);
   held = λ k h. absurd (omega arith);
 }
@@ -184,8 +183,8 @@ rooms-none s start n = record {
 module _ {s : List ℕ} {start n i p : ℕ} {rooms : List Room} (w : RoomsUpTo s start n i p rooms) where
   pub rooms-more : (room : Room) (next : ℕ) → i < n → n ≤ 4 → RoomHeld s p n room next → RoomsUpTo s start n (i + 1) next (set rooms i room)
   rooms-more room next h l t = record {
-    rows = rows-more (w .rows) (valuesOfRoom n (set rooms i room)) next h (λ k a. ap (λ (x : Room). roomValues n x) (same-below noRoom rooms i room k a)) (rw new (t .part));
-    filled = one-filled noRoom room (w .filled);
+    rows = rows-more (w .rows) (valuesOfRoom n (set rooms i room)) next h (λ k a. ap (λ (x : Room). roomValues n x) (getD-below noRoom rooms i room k a)) (rw new (t .part));
+    filled = filling-more noRoom room (w .filled);
     tidy = λ k a. each (TidyRoom n) (t .tidy) (w .tidy) k a (ℕ-discrete k i);
     held = λ k a. each (HeldRoom n) (t .held) (w .held) k a (ℕ-discrete k i);
   }
@@ -195,7 +194,7 @@ module _ {s : List ℕ} {start n i p : ℕ} {rooms : List Room} (w : RoomsUpTo s
 
       each : (F : Room → Type 0) → F room → ((k : ℕ) → k < i → F (getD rooms k noRoom)) → (k : ℕ) → k < i + 1 → Dec (k ≡ i) → F (getD (set rooms i room) k noRoom)
       each F x more k a (yes e) = rw (e, new) x
-      each F x more k a (no e) = let c : k < i = omega arith in rw (same-below noRoom rooms i room k c) (more k c)
+      each F x more k a (no e) = let c : k < i = omega arith in rw (getD-below noRoom rooms i room k c) (more k c)
 
   pub rooms-fails : (e : Refusal) → i < n → Fails (roomForm n) s p e → Fails (times n (roomForm n)) s start e
   rooms-fails e h t = rows-fails (w .rows) h t

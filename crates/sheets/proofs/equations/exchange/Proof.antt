@@ -4,8 +4,8 @@ use native.Mathlib.Omega.{arith}
 use borrow.Author.Needs.{needs}
 use lib.ListN.{length}
 use lib.Ieee.{nan}
+use Rattle.laws.specs.Tabs.{any-default}
 use Rattle.meaning.specs.Sheets.{zeroF}
-use Rattle.sheets.proofs.equations.Laws.{same-entry}
 use Rattle.sheets.proofs.equations.exchange.Statement.{statement}
 use Rattle.sheets.proofs.equations.exchange.Tie as tie
 
@@ -20,7 +20,7 @@ returns c =
     let s = c .before in
     let g = s .args .room .exchange in
     let long : length g ≡ 3 = search needs in
-    same-entry g (s .args .j) nan zeroF (omega arith)
+    any-default g (s .args .j) nan zeroF (omega arith)
 
 pub exchange-spec : {M : Type 1} → statement M
 exchange-spec = tie.close (tie.spec mul-result array-read-result returns)

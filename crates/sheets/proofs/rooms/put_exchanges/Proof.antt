@@ -6,9 +6,8 @@ use denote.Ref.{now}
 use lib.ListN.{length, getD}
 use lib.Ieee.{nan}
 use Rattle.meaning.specs.Sheets.{zeroF}
-use Rattle.sheets.specs.Filling.{any-default}
 use Rattle.laws.specs.Lists.{tabs}
-use Rattle.laws.specs.Tabs.{tabs-step, tabs-done}
+use Rattle.laws.specs.Tabs.{any-default, tabs-step, tabs-done}
 use Rattle.laws.specs.Writing.{Under, under-none, under-more, under-done}
 use Rattle.sheets.specs.Rooms.{exchangeBytes}
 use Rattle.sheets.proofs.rooms.put_exchanges.Statement.{statement}
