@@ -1,7 +1,7 @@
 -- What plant and sheet files share: the header, the edges of R and S, and the bands, as facts from the form that they were read by (page Forms).
 use Prim.Native.Nat.{ℕ, _+_, _*_, _≤_, _<_}
 use mathlib.Core.Path.{_≡_, refl, _∙_}
-use mathlib.Core.Bool.{true, _&&_}
+use mathlib.Core.Bool.{true}
 use mathlib.Core.List.{List, map}
 use native.Mathlib.Omega.{arith}
 use native.Mathlib.Nat.{zero-add}
@@ -20,7 +20,7 @@ use Rattle.meaning.specs.Plants as P
 use Rattle.meaning.specs.Plants.{edgeLimit, bandLimit, limited, span, times, edgesAndBands, headed, column, wide}
 use Rattle.promises.specs.Forms as F
 use Rattle.promises.specs.Forms.{Right, times-right}
-use Rattle.promises.specs.Headers.{most-of}
+use Rattle.promises.specs.Headers.{least-of, most-of}
 use Rattle.promises.specs.Sound.{Edges}
 
 -- ---- the parts of the form, as facts
@@ -90,9 +90,6 @@ wide-bands q n lo hi e i h =
 
 -- ---- header, edges and bands
 
-at-least : (least most v : ℕ) → (leb least v && leb v most) ≡ true → least ≤ v
-at-least least most v e = leb-true least v (first (leb least v) (leb v most) e)
-
 -- the third number of the header is in 1..most
 pub record Framed (most : ℕ) (vs : List ℤ) (n m q k d : ℕ) : Type 0 where
   pub n-low : 1 ≤ n
@@ -124,13 +121,13 @@ framed most rest vs h =
     let edges = times-right vs (λ more. span edgeLimit (span edgeLimit more)) 4 (EdgesAt vs) (edges-right vs) n (times n (span bandLimit) (rest n m)) 6 (h .1 .1 .1 .1 .1 .1) in
     let bands = times-right vs (span bandLimit) 2 (λ i. Spans bandLimit (at vs i) (at vs (i + 1))) (span-right vs bandLimit) n (rest n m) (6 + 4 * n) (edges .1) in (
       record {
-        n-low = at-least 1 4 n (h .1 .0);
+        n-low = least-of 1 4 n (h .1 .0);
         n-high = few;
-        m-low = at-least 1 most m (h .1 .1 .0);
+        m-low = least-of 1 most m (h .1 .1 .0);
         m-high = most-of 1 most m (h .1 .1 .0);
-        q-low = at-least 1 10_000 q (h .1 .1 .1 .0);
+        q-low = least-of 1 10_000 q (h .1 .1 .1 .0);
         q-high = most-of 1 10_000 q (h .1 .1 .1 .0);
-        k-low = at-least 1 6 k (h .1 .1 .1 .1 .0);
+        k-low = least-of 1 6 k (h .1 .1 .1 .1 .0);
         k-high = most-of 1 6 k (h .1 .1 .1 .1 .0);
         d-high = leb-true d 6 (first (leb d 6) (leb (n * d) 12) (h .1 .1 .1 .1 .1 .0));
         nd-high = leb-true (n * d) 12 (second (leb d 6) (leb (n * d) 12) (h .1 .1 .1 .1 .1 .0));

@@ -1,14 +1,29 @@
--- The header that plant and sheet files begin with, as it was read: form 1, n, a number in 1..most, q, K, D. Relies on page Files.
+-- The header that plant and sheet files begin with, as it was read: form 1, n, a number in 1..most, q, K, D; and the test of a range by its halves.
+-- Relies on page Files.
 use Prim.Native.Nat.{ℕ, _≤_}
 use mathlib.Core.Path.{_≡_, refl, sym, ap, _∙_}
-use mathlib.Core.Bool.{true, and-eq-true-iff}
+use mathlib.Core.Bool.{true}
 use mathlib.Core.List.{List, _∷_}
 use lib.Dec.{leb}
 use lib.IntN.{ℤ, pos, natAbs}
-use borrow.Author.Tests.{leb-true, eqb-true}
+use borrow.Author.Tests.{leb-true, le-leb, eqb-true}
+use Rattle.laws.specs.Tests.{first, second, both}
 use Rattle.meaning.specs.Files.{Form, read, valuesAt}
 use Rattle.meaning.specs.Plants.{from, headed}
 use Rattle.promises.specs.Files.{field-read}
+
+-- ---- a number in its range
+
+pub least-of : (least most v : ℕ) → from least most v ≡ true → least ≤ v
+least-of least most v e = leb-true least v (first (leb least v) (leb v most) e)
+
+pub most-of : (least most v : ℕ) → from least most v ≡ true → v ≤ most
+most-of least most v e = leb-true v most (second (leb least v) (leb v most) e)
+
+pub from-holds : (least most v : ℕ) → least ≤ v → v ≤ most → from least most v ≡ true
+from-holds least most v a b = both (le-leb least v a) (le-leb v most b)
+
+-- ---- the header
 
 -- its values, what was read behind it and where that begins
 pub record Headed (most : ℕ) (rest : ℕ → ℕ → Form) (s : List ℕ) (i : ℕ) (vs : List ℤ) (next : ℕ) : Type 0 where
@@ -30,9 +45,6 @@ given a rest = rest a
 
 next-is : {vs us ws : List ℤ} {u v : ℤ} → vs ≡ v ∷ us → u ≡ v → us ≡ ws → vs ≡ u ∷ ws
 next-is e p q = rw (e, p, q) refl
-
-pub most-of : (least most v : ℕ) → from least most v ≡ true → v ≤ most
-most-of least most v e = leb-true v most (and-eq-true-iff (leb least v) (leb v most) .0 e .1)
 
 pub headed-read : (most : ℕ) (rest : ℕ → ℕ → Form) (s : List ℕ) (i : ℕ) {vs : List ℤ} {next : ℕ}
     → valuesAt (headed most rest) s i ≡ read vs next → Headed most rest s i vs next

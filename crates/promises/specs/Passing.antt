@@ -15,9 +15,10 @@ use Rattle.meaning.specs.Numbers.{stored}
 use Rattle.meaning.specs.Files as F
 use Rattle.meaning.specs.Files.{signed, Form, end, field, bytesAs, read, valuesAt, valuesOf, fileOf}
 use Rattle.meaning.specs.Plants as P
-use Rattle.meaning.specs.Plants.{from, limited, span, times, headed}
+use Rattle.meaning.specs.Plants.{limited, span, times, headed}
 use Rattle.promises.specs.Files as J
 use Rattle.promises.specs.Files.{Storable, fiveBytes, Shaped, judgedValues, file-reads, field-read}
+use Rattle.promises.specs.Headers.{from-holds}
 use Rattle.promises.specs.Lengths.{stored-most}
 
 unfoldable pub Passes : Form → List ℤ → Type 0
@@ -91,9 +92,6 @@ times-times part (suc m) n rest =
     rw e (times-more part n (m * n) rest ∙ rw (times-times part m n rest) refl)
 
 -- ---- the header
-
-from-holds : (least most v : ℕ) → least ≤ v → v ≤ most → from least most v ≡ true
-from-holds least most v a b = both (le-leb least v a) (le-leb v most b)
 
 pub headed-passes : (most : ℕ) (rest : ℕ → ℕ → Form) (n m q k d : ℕ) (vs : List ℤ) → most < 2 ^ 35 → 1 ≤ n → n ≤ 4 → 1 ≤ m → m ≤ most → 1 ≤ q → q ≤ 10_000
     → 1 ≤ k → k ≤ 6 → d ≤ 6 → n * d ≤ 12 → Passes (rest n m) vs → Passes (headed most rest) (pos 1 ∷ pos n ∷ pos m ∷ pos q ∷ pos k ∷ pos d ∷ vs)
