@@ -1,4 +1,5 @@
 -- One number of a file, judged, as the code takes it: in range with the place behind it, or broken, and then the fault.
+-- Relies on meaning's page Numbers for how a number is read. Leaves out the form that the number is a field of (page FieldLaws).
 use Prim.Native.Nat.{ℕ}
 use mathlib.Core.Bool.{cond}
 use mathlib.Core.List.{List}

@@ -1,5 +1,5 @@
 -- A header whose n is over 4, or whose m is over its most, is refused there, whatever stands behind it: what a writer drafts of such values may end with
--- the header. Assumes nothing.
+-- the header. Relies on page HeaderLaws, and on promises' pages Numbers and Files.
 use Prim.Native.Nat.{ℕ, _+_, _^_, _≤_, _<_}
 use mathlib.Core.Path.{_≡_, refl, ap, _∙_}
 use mathlib.Core.Bool.{Bool, true, false, cond}

@@ -1,5 +1,5 @@
 // R, S and w of each dimension, which plants and sheets hold alike: read, written, and judged against one another. Relies on fields.
-// Leaves out in which order the judgements are told (plants).
+// Leaves out in which order the judgements are told (beginnings).
 use crate::fields;
 use crate::numbers;
 use meaning::Refusal;

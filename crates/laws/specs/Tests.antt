@@ -1,5 +1,5 @@
--- Tests: what one says that holds, by its halves and as an order of ℤ, and one that was passed; and lists of tests, the first that does not hold, found in a loop, and what
--- it says of all. Relies on the order of page Integers.
+-- Tests: what one says that holds, by its halves and as an order of ℤ, and one that was passed; and lists of tests, the first that does not hold,
+-- found in a loop, and what it says of all. Relies on the order of page Integers.
 use Prim.Native.Nat.{ℕ, zero, suc, _+_, _-_, _≤_, _<_}
 use mathlib.Core.Path.{_≡_, refl, sym, ap, _∙_}
 use mathlib.Core.Bool.{Bool, true, false, _&&_}

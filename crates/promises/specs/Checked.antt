@@ -1,6 +1,6 @@
 -- S6 over bytes: the checker's verdict on a plant's and a table's bytes is "accepted" exactly where the plant is judged good and the table is the
--- layout of a tree of sound shape whose tiles all work; and a table is the layout of at most one tree of sound shape. Relies on pages Accept and Unique, at document 01's rules.
--- What a refusal tells is left out: that is the definition `checked` itself.
+-- layout of a tree of sound shape whose tiles all work; and a table is the layout of at most one tree of sound shape. Relies on pages Accept and
+-- Unique, at document 01's rules. What a refusal tells is left out: that is the definition `checked` itself.
 use Prim.Native.Nat.{ℕ}
 use mathlib.Core.Path.{_≡_, refl, sym, _∙_}
 use mathlib.Core.Logic.{_↔_}

@@ -1,5 +1,5 @@
 -- S7, a box's first pattern: the one found works, no shorter one does, and none of its length that stands before it in mode order;
--- and where none is found, no pattern works. Over any rules; assumes nothing.
+-- and where none is found, no pattern works. Over any rules. Relies on page Patterns.
 use Prim.Native.Nat.{ℕ, zero, suc, _+_, _≤_, _<_}
 use mathlib.Core.Path.{_≡_, refl, sym, ap, _∙_}
 use mathlib.Core.Logic.{_↔_}

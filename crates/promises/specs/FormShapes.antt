@@ -1,5 +1,5 @@
 -- The shapes (page Files) that the parts of plant and sheet forms ask for: so many signed values, and then what comes behind. And parts that are
--- repeated, whatever is asked of the values. Assumes nothing.
+-- repeated, whatever is asked of the values. Relies on page Files.
 use Prim.Native.Nat.{ℕ, zero, suc, _+_, _*_, _≤_, _<_}
 use mathlib.Core.Path.{_≡_, ap}
 use mathlib.Core.List.{List, [], _∷_, _++_, append-assoc}

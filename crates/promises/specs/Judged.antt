@@ -1,5 +1,6 @@
 -- A plant whose file was judged good is sound (page Sound): what document 01 says of a plant's numbers, from the form that its file was
--- read by (pages Forms and Framed) and the two tests behind it (page Related); page PlantShapes tells how many coefficients there can be. That its arrays are 0 beyond n is left out.
+-- read by (pages Forms and Framed) and the two tests behind it (page Related). How many coefficients there can be is page PlantShapes. That its
+-- arrays are 0 beyond n is left out.
 use Prim.Native.Nat.{ℕ, _+_, _*_, _≤_, _<_}
 use mathlib.Core.Path.{_≡_, refl, _∙_, subst}
 use mathlib.Core.Bool.{true}

@@ -1,5 +1,5 @@
 -- What the theorems over tables ask of the rules, each theorem naming only what it needs. Definitions alone: that document 01's rules of a sound
--- plant are so is page PlantMotion.
+-- plant are so is pages PlantRules (Sizes, OneByte) and PlantMotion (Splits, Motion).
 use Prim.Native.Nat.{ℕ, _^_, _≤_, _<_}
 use mathlib.Core.Path.{_≡_}
 use mathlib.Core.Bool.{true}

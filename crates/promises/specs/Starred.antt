@@ -1,5 +1,6 @@
 -- The starred lines of document 01 ("Readings and tables on both sides"), one statement about the definitions: the checker computes each line.
--- Relies on crates/meaning alone. Lines 10 and 12 are not starred: the second program's tests run them.
+-- Relies on crates/meaning alone. Lines 10 and 12 are not starred: crates/examples, page Worked, computes them, and the second
+-- program's tests run them.
 use Prim.Native.Nat.{ℕ}
 use mathlib.Core.Path.{_≡_, refl}
 use mathlib.Core.List.{List, [], _∷_, _++_}

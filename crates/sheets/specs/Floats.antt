@@ -1,4 +1,4 @@
--- A float of a sheet as the code reads it: its pattern, what is asked of it, and the part of a form that it is. Assumes nothing.
+-- A float of a sheet as the code reads it: its pattern, what is asked of it, and the part of a form that it is. Relies on promises' page SheetRooms.
 use Prim.Native.Nat.{ℕ}
 use mathlib.Core.Bool.{Bool}
 use mathlib.Core.List.{List, [], _∷_}

@@ -1,5 +1,5 @@
 -- Rooms of a sheet as the code reads them: the parts of the form that they are, with their values; that these give
--- them back is promises' page Sheets. Assumes nothing.
+-- them back is promises' page Sheets. Relies on promises' page SheetRooms.
 use Prim.Native.Nat.{ℕ, _-_, _<_}
 use mathlib.Core.Path.{_≡_}
 use mathlib.Core.List.{List, [], _∷_, _++_}

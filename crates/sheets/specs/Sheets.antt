@@ -1,5 +1,5 @@
 -- A sheet's file as the code reads it: all but 14, which the reader tells last; the parts behind the beginning, and the bytes as they are drafted.
--- Assumes nothing.
+-- Relies on promises' page SheetRooms.
 use Prim.Native.Nat.{ℕ}
 use mathlib.Core.Path.{_≡_, refl}
 use mathlib.Core.Bool.{Bool, true, false, cond}

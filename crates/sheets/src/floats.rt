@@ -38,7 +38,7 @@ fn wide(x: u8) -> u64
     x as u64
 }
 
-// Eight bytes that are there, the highest first.
+// The value of eight bytes that are there, low byte first; taken from the highest down.
 fn low_first(s: &[u8], at: usize) -> u64
     requires { ⌜ at + 8 ≤ length (now s) ⌝ }
     ensures { λ r. ⌜ floatAt (now (s .entry)) at ≡ taken (pos r) (at + 8) ⌝ }

@@ -53,7 +53,7 @@ fn refused(e: Refusal) -> SheetRead
     }
 }
 
-// The same, of a part that was refused.
+// The same, of a part's walk that was refused: `let else` keeps no refusal, so the walk is handed on whole. Next does not occur.
 fn refused_by(w: Walk) -> SheetRead
     ensures { λ r. ⌜ r ≡ sheetReadOf (bad (refusalOf w)) ⌝ }
 {

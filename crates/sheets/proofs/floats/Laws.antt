@@ -1,4 +1,5 @@
--- A float of a sheet against its definition: its bytes, its exponent's field, what is asked of it; and its bytes written. Assumes nothing.
+-- A float of a sheet against its definition: its bytes, its exponent's field, what is asked of it; and its bytes written.
+-- Relies on promises' pages Floats and SheetRooms, and on wholes' page Fields.
 use Prim.Native.Nat.{ℕ, suc, _+_, _-_, _*_, _/_, _%_, _^_, _≤_, _<_}
 use mathlib.Core.Path.{_≡_, refl, sym, subst}
 use mathlib.Core.Bool.{Bool, true, false, not, _&&_}

@@ -1,4 +1,5 @@
--- Rooms read against the form: exchanges by their loop, an emitter by its number, a room by its parts, rooms by their loop. Assumes nothing.
+-- Rooms read against the form: exchanges by their loop, an emitter by its number, a room by its parts, rooms by their loop.
+-- Relies on promises' page SheetRooms, and on files' pages FieldLaws and Parts.
 use Prim.Native.Nat.{ℕ, _+_, _-_, _≤_, _<_}
 use mathlib.Core.Path.{_≡_, refl, ap, _∙_}
 use mathlib.Core.Bool.{true}
