@@ -10,7 +10,6 @@ use tables::makes;
 ghost use mathlib.Core.Path.{_≡_};
 ghost use Rattle.meaning.specs.Plants.{plantRead};
 ghost use mathlib.Core.List.{[], _∷_};
-ghost use Rattle.meaning.specs.declared.State.{State};
 ghost use Rattle.meaning.specs.Refusals.{verdictShown, writtenShown, answerShown};
 ghost use Rattle.meaning.specs.Sheets.{madeLeft};
 ghost use Rattle.meaning.specs.Tables.{checked, makerLeft, controlled};
