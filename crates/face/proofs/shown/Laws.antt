@@ -1,4 +1,4 @@
--- One answer shown as another that it equals; and a mode that a byte carries. Assumes nothing.
+-- One answer shown as another that it equals; and a mode that a byte carries. Relies on promises' page ModeBytes.
 use Prim.Native.Nat.{ℕ, _<_}
 use mathlib.Core.Path.{_≡_, refl, ap}
 use mathlib.Core.List.{List}
