@@ -13,7 +13,7 @@ ghost use mathlib.Core.List.{[], _∷_};
 ghost use Rattle.meaning.specs.Refusals.{verdictShown, writtenShown, answerShown};
 ghost use Rattle.meaning.specs.Sheets.{madeLeft};
 ghost use Rattle.meaning.specs.Tables.{checked, makerLeft, controlled};
-ghost use Rattle.face.specs.Numbers.{placeAndStep, lengthOrPlace, mode, numberAndState, stateOf};
+ghost use Rattle.face.specs.Shown.{placeAndStep, lengthOrPlace, mode, numberAndState, stateOf};
 
 // A plant file: 0, or the number that it is refused by; out holds place and step.
 #[no_mangle]

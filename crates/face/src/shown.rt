@@ -5,7 +5,7 @@ use meaning::Written;
 ghost use mathlib.Core.Path.{_≡_};
 ghost use Prim.Native.Nat.{_<_};
 ghost use Rattle.meaning.specs.Refusals.{verdictShown, writtenShown, answerShown};
-ghost use Rattle.face.specs.Numbers.{placeAndStep, lengthOrPlace, mode, numberAndState};
+ghost use Rattle.face.specs.Shown.{placeAndStep, lengthOrPlace, mode, numberAndState};
 
 // The number of a verdict; out holds place and step.
 pub fn verdict(v: Verdict, out: &mut [u64; 2]) -> u8

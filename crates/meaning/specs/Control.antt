@@ -19,6 +19,11 @@ use Rattle.meaning.specs.Verdicts.{onWalk, splitAt, modesAt, nodeAt, wal
 abbrev pub idle : State
 idle = record { place = 0; left = 0 }
 
+-- the state with these modes to come, the next of them at that place
+abbrev pub stateWith : List ℕ → ℕ → State
+stateWith [] place = idle
+stateWith (u ∷ us) place = record { place = place; left = suc (length us) }
+
 -- a tile's modes were read: it is found
 abbrev pub tileFound : Read (List ℕ) → ℕ → ℕ → Found
 tileFound (refused e) from k = Found.Refused e

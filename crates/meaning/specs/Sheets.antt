@@ -11,14 +11,15 @@ use Rattle.laws.specs.Guards.{guard}
 use Rattle.laws.specs.Lists.{at, tab, tabs, padded, all, firstFalse}
 use Rattle.meaning.specs.declared.Verdict.{Verdict}
 use Rattle.meaning.specs.declared.Emitter.{Emitter}
+use Rattle.meaning.specs.declared.Plant.{Plant}
 use Rattle.meaning.specs.declared.Room.{Room}
 use Rattle.meaning.specs.declared.Sheet.{Sheet}
 use Rattle.meaning.specs.declared.SheetRead.{SheetRead}
 use Rattle.meaning.specs.declared.Whole.{Whole}
 use Rattle.meaning.specs.Refusals.{badFloat, badResult}
 use Rattle.meaning.specs.Files.{float, Form, end, field, Read, read, refused, valuesOf, fileOf, Judged, good, bad, fileJudged}
-use Rattle.meaning.specs.Boxes.{sidesOf}
-use Rattle.meaning.specs.Plants.{entryLimit, offsetLimit, bandLimit, counted, from, headed, times, edgesAndBands, edgesOf, bandOf, column, plantForm, related}
+use Rattle.meaning.specs.Boxes.{Side, sidesOf}
+use Rattle.meaning.specs.Plants.{entryLimit, offsetLimit, bandLimit, counted, from, headed, times, edgesAndBands, edgesOf, bandOf, column, plantOf, plantForm, related}
 use Rattle.meaning.specs.Images.{Row, Step}
 use Rattle.meaning.specs.Buffers.{Left, left}
 
@@ -273,6 +274,13 @@ abbrev pub nearValue : Whole → ℤ
 nearValue (Whole.Near v) = v
 nearValue Whole.Out = pos 0
 
+-- the plant's numbers as values, and the plant
+abbrev pub madeValues : Sheet → List ℤ
+madeValues h = map nearValue (madeNumbers h)
+
+abbrev pub madePlant : Sheet → Plant
+madePlant h = plantOf (madeValues h)
+
 -- 14 at the first number, in plant order, that the plant cannot hold
 abbrev pub fitting : {A : Type 0} → Sheet → (Unit {0} → Judged A) → Judged A
 fitting h rest =
@@ -281,11 +289,21 @@ fitting h rest =
 
 -- ---- judged: the values in file order, leftover bytes, 4, 5 on the sheet's own band, then 14
 
+-- R, S and the bands of a sheet
+abbrev pub rootSheet : Sheet → List Side
+rootSheet h = sidesOf (h .n) (h .rlo) (h .rhi)
+
+abbrev pub safeSheet : Sheet → List Side
+safeSheet h = sidesOf (h .n) (h .slo) (h .shi)
+
+abbrev pub bandsSheet : Sheet → List Side
+bandsSheet h = sidesOf (h .n) (h .wlo) (h .whi)
+
 abbrev pub sheetRelated : Read (List ℤ) → Judged Sheet
 sheetRelated (refused r) = bad r
 sheetRelated (read vs next) =
     let h = sheetOf vs in
-    related (h .q) (sidesOf (h .n) (h .rlo) (h .rhi)) (sidesOf (h .n) (h .slo) (h .shi)) (sidesOf (h .n) (h .wlo) (h .whi)) λ _.
+    related (h .q) (rootSheet h) (safeSheet h) (bandsSheet h) λ _.
     fitting h λ _. good h
 
 unfoldable pub sheetJudged : List ℕ → Judged Sheet
@@ -306,7 +324,7 @@ sheetLeft h buf = let bytes = fileOf sheetForm (sheetValues h) in left (fileJudg
 -- sheet to plant bytes
 abbrev pub plantFileMade : Judged Sheet → Judged (List ℕ)
 plantFileMade (bad r) = bad r
-plantFileMade (good h) = good (fileOf plantForm (map nearValue (madeNumbers h)))
+plantFileMade (good h) = good (fileOf plantForm (madeValues h))
 
 unfoldable pub madeLeft : List ℕ → List ℕ → Left
 madeLeft sheet buf = left (plantFileMade (sheetJudged sheet)) buf

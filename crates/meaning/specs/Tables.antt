@@ -20,7 +20,7 @@ use Rattle.meaning.specs.Trees.{Tree, tableOf}
 use Rattle.meaning.specs.Verdicts.{verdict}
 use Rattle.meaning.specs.Defined.{definedTree}
 use Rattle.meaning.specs.Control.{call}
-use Rattle.meaning.specs.Runs.{Run}
+use Rattle.meaning.specs.Runs.{Run, Samples}
 use Rattle.meaning.specs.Buffers.{Left, left}
 
 -- a reading is the first n of four numbers; those beyond n are ignored
@@ -73,11 +73,19 @@ controlled plant table st x = onPlant (plantJudged plant) Answer.Refused λ p. c
 
 -- ---- the runs of a table on a plant, by the controller's own answers: none where the plant is refused
 
+-- whether a reading lies in R, in which a run starts, and in S
 abbrev pub startsIn : List ℕ → List ℤ → Bool
 startsIn plant x = onPlant (plantJudged plant) (λ _. false) λ p. holds (rulesOf p) (rootOf p) x
+
+abbrev pub safeIn : List ℕ → List ℤ → Bool
+safeIn plant x = onPlant (plantJudged plant) (λ _. false) λ p. holds (rulesOf p) (safeOf p) x
 
 abbrev pub mayFollow : List ℕ → ℕ → List ℤ → List ℤ → Bool
 mayFollow plant u x y = onPlant (plantJudged plant) (λ _. false) λ p. rulesOf p .follows u x y
 
 abbrev pub TableRun : List ℕ → List ℕ → State → List ℤ → Type 0
 TableRun plant table = Run (controlled plant table) (startsIn plant) (mayFollow plant)
+
+-- so many samples of a run lead from one state and reading to another
+abbrev pub TableSamples : List ℕ → List ℕ → ℕ → State → List ℤ → State → List ℤ → Type 0
+TableSamples plant table = Samples (controlled plant table) (startsIn plant) (mayFollow plant)

@@ -1,10 +1,11 @@
 -- Trees of tiles (document 01, "Table file"): their bytes, their tiles, and what it is to keep the file's rules.
 use Prim.Native.Nat.{ℕ, zero, suc, _+_, _≤_, _<_, max}
 use mathlib.Core.Path.{_≡_}
+use mathlib.Core.Bool.{cond}
 use mathlib.Core.List.{List, [], _∷_, _++_}
 use lib.ListN.{length}
 use Rattle.meaning.specs.Numbers.{bytesOf}
-use Rattle.meaning.specs.Rules.{Rules}
+use Rattle.meaning.specs.Rules.{Rules, holds}
 
 mutual
   pub data Tree : Type 0 where
@@ -50,7 +51,7 @@ pub record Pattern (K N : ℕ) (us : List ℕ) : Type 0 where
   pub modes : below N us
 
 module _ (r : Rules) where
-  open Rules r using (Box, children, n)
+  open Rules r using (Box, Reading, children, n)
 
   -- form 1, n, then the tree
   abbrev pub tableOf : Tree → List ℕ
@@ -86,3 +87,8 @@ module _ (r : Rules) where
     tilesIn leaf bs at = []
     tilesIn (more t f) [] at = []
     tilesIn (more t f) (b ∷ bs) at = tilesOf t b at ++ tilesIn f bs (at + length (layout t))
+
+  -- those of them whose box holds a reading
+  unfoldable pub having : Reading → List Tile → List Tile
+  having x [] = []
+  having x (t ∷ ts) = cond (holds r (t .box) x) (t ∷ having x ts) (having x ts)

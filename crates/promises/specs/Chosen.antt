@@ -17,7 +17,7 @@ use Rattle.meaning.specs.declared.Answer.{Answer}
 use Rattle.meaning.specs.declared.Walk.{Walk}
 use Rattle.meaning.specs.declared.Found.{Found}
 use Rattle.meaning.specs.Control as C
-use Rattle.meaning.specs.Control.{idle, modeAt, onFound, find, idleCall, call}
+use Rattle.meaning.specs.Control.{idle, modeAt, onFound, find, idleCall, call, stateWith}
 use Rattle.meaning.specs.Files.{Judged, good, bad, read}
 use Rattle.meaning.specs.Numbers.{bytesOf}
 use Rattle.meaning.specs.Plants.{plantJudged, rootOf}
@@ -25,11 +25,11 @@ use Rattle.meaning.specs.Rules.{rule, holds}
 use Rattle.meaning.specs.Tables as T
 use Rattle.meaning.specs.Tables.{rulesOf, onPlant, controlled, startsIn}
 use Rattle.meaning.specs.Trees as Y
-use Rattle.meaning.specs.Trees.{modesBytes, Pattern, tableOf, Tile, tilesOf}
+use Rattle.meaning.specs.Trees.{modesBytes, Pattern, tableOf, Tile, tilesOf, having}
 use Rattle.meaning.specs.Verdicts.{modesAt, header}
 use Rattle.promises.specs.Bytes.{one-byte}
 use Rattle.promises.specs.Checked.{Tiled}
-use Rattle.promises.specs.Finds.{having, firstMode, OneTile, finds, call-finds}
+use Rattle.promises.specs.Finds.{firstPlace, OneTile, finds, call-finds}
 use Rattle.promises.specs.Judged.{judged-sound}
 use Rattle.promises.specs.Layouts.{modes-stand, header-stands, headed, table-stands, tile-read, header-read}
 use Rattle.promises.specs.Local.{unseen}
@@ -37,7 +37,7 @@ use Rattle.promises.specs.PlantMotion.{splits}
 use Rattle.promises.specs.PlantRules.{sizes, one-byte-modes, header-size, number-size, tile-size, controlled-as}
 use Rattle.promises.specs.Shapes.{Good}
 use Rattle.promises.specs.Sound.{Sound}
-use Rattle.promises.specs.Underway.{stateOf, mode-is, modes-length}
+use Rattle.promises.specs.Underway.{mode-is, modes-length}
 use Rattle.promises.specs.Walking.{walk-went}
 
 -- ---- of an accepted table
@@ -52,7 +52,7 @@ pub record Chosen (plant table : List ℕ) (t : Tiled plant table) (x : List ℤ
   pub first : ℕ
   pub later : List ℕ
   pub modes-are : the .modes ≡ first ∷ later
-  pub answered : controlled plant table idle x ≡ Answer.Mode first (stateOf later (the .place + 2))
+  pub answered : controlled plant table idle x ≡ Answer.Mode first (stateWith later (the .place + 2))
   -- and the answer is the same on every table that agrees with this one up to the tile's last mode
   pub unread : (other : List ℕ) → take (the .place + 1 + length (the .modes)) table ≡ take (the .place + 1 + length (the .modes)) other
       → controlled plant other idle x ≡ controlled plant table idle x
@@ -63,7 +63,7 @@ module _ (p : Plant) (s : Sound p) where
     u : ℕ
     vs : List ℕ
     are : us ≡ u ∷ vs
-    told : modeAt table (place + length (bytesOf (length us))) (length us) ≡ Answer.Mode u (stateOf vs (place + 2))
+    told : modeAt table (place + length (bytesOf (length us))) (length us) ≡ Answer.Mode u (stateWith vs (place + 2))
 
   first-told : (table : List ℕ) (place end : ℕ) (us : List ℕ) → Pattern (p .k) (p .modes) us
       → Stands table place (bytesOf (length us) ++ modesBytes us) end → Told table place us
@@ -82,7 +82,7 @@ tile-chosen : (plant table : List ℕ) (t : Tiled plant table) (x : List ℤ)
     (f : OneTile (rulesOf (t .p)) (Good (rulesOf (t .p)) (rule (rulesOf (t .p)))) x table (headed (rulesOf (t .p)))
     (tilesOf (rulesOf (t .p)) (t .tree) (rootOf (t .p)) (headed (rulesOf (t .p))))
     (find (rulesOf (t .p)) (t .p .d) table (headed (rulesOf (t .p))) (rootOf (t .p)) x))
-    → call (rulesOf (t .p)) table idle x ≡ modeAt table (firstMode (rulesOf (t .p)) (f .the)) (length (f .the .modes)) → Chosen plant table t x
+    → call (rulesOf (t .p)) table idle x ≡ modeAt table (firstPlace (rulesOf (t .p)) (f .the)) (length (f .the .modes)) → Chosen plant table t x
 tile-chosen plant table t x f c =
     let p = t .p in
     let r = rulesOf p in
@@ -90,7 +90,7 @@ tile-chosen plant table t x f c =
     let g = f .known .shape in
     let first = first-told p s table (f .the .place) (f .end) (f .the .modes) g (f .stand) in
     let head = table-stands r table [] (t .tree) (t .is ∙ sym (append-nil (tableOf r (t .tree)))) .0 in
-    let w = unseen r (sizes p s) x table (headed r) (firstMode r (f .the)) (length (f .the .modes)) (header-read r (sizes p s) table (headed r) head) (f .told) in
+    let w = unseen r (sizes p s) x table (headed r) (firstPlace r (f .the)) (length (f .the .modes)) (header-read r (sizes p s) table (headed r) head) (f .told) in
     let same : w .end ≡ f .end = cc (tile-read r (sizes p s) (f .the .modes) table (f .the .place) (f .end) g (f .stand) .1, w .are) in
     let end : w .end ≡ f .the .place + 1 + length (f .the .modes) = omega (arith, same, f .stand .end, tile-size p s (f .the .modes) g) in
     record {

@@ -17,7 +17,7 @@ use Rattle.meaning.specs.Numbers.{bytesOf}
 use Rattle.meaning.specs.Rules.{Rules, rule, holds}
 use Rattle.meaning.specs.Trees.{Tree, modesBytes, longest, Pattern, tableOf, Over}
 use Rattle.meaning.specs.Verdicts.{verdict, header}
-use Rattle.meaning.specs.Control.{idle, modeAt, call}
+use Rattle.meaning.specs.Control.{idle, modeAt, call, stateWith}
 use Rattle.meaning.specs.Runs.{Run, start, sample, Samples, none, next}
 use Rattle.promises.specs.Laws.{Sizes, OneByte, Splits, Motion}
 use Rattle.promises.specs.Bytes.{bytes-some}
@@ -25,7 +25,7 @@ use Rattle.promises.specs.Shapes.{Good, Working, over-short}
 use Rattle.promises.specs.Layouts.{header-read, headed, table-stands}
 use Rattle.promises.specs.Accept.{accepted-exactly}
 use Rattle.promises.specs.Finds.{finds, call-finds}
-use Rattle.promises.specs.Underway.{stateOf, Ready, Pending, ready-mode, ready-next, ready-told}
+use Rattle.promises.specs.Underway.{Ready, Pending, ready-mode, ready-next, ready-told}
 
 module _ (r : Rules) where
   open Rules r using (Reading, root, goal, safe, follows)
@@ -98,7 +98,7 @@ module _ (r : Rules) (sizes : Sizes r) (one : OneByte r) (splits : Splits r) (mo
     u : ℕ
     vs : List ℕ
     place : ℕ
-    told : call r table st x ≡ Answer.Mode u (stateOf vs place)
+    told : call r table st x ≡ Answer.Mode u (stateWith vs place)
     then : (y : Reading) → follows u x y ≡ true → Pending r motion table goal vs place y
 
   -- a call on a reading in R, by the tile that holds it
@@ -141,7 +141,7 @@ module _ (r : Rules) (sizes : Sizes r) (one : OneByte r) (splits : Splits r) (mo
       let c = call-finds r sizes splits Known shape table [] t (sym (append-nil table)) known x h in
       tile-goes x (f .the .box) (f .the .modes) (f .the .place) (f .end) (f .known) (f .behind) (f .stand) (f .holds-it) c
 
-  pending-goes : (us : List ℕ) (place : ℕ) (x : Reading) → Pending r motion table root us place x → Goes (stateOf us place) x
+  pending-goes : (us : List ℕ) (place : ℕ) (x : Reading) → Pending r motion table root us place x → Goes (stateWith us place) x
   pending-goes [] place x h = idle-goes x h .goes
   pending-goes (u ∷ us) place x h = record {
     u = u;
@@ -156,11 +156,11 @@ module _ (r : Rules) (sizes : Sizes r) (one : OneByte r) (splits : Splits r) (mo
   record Fine (st : State) (x : Reading) : Type 0 where
     us : List ℕ
     place : ℕ
-    state : st ≡ stateOf us place
+    state : st ≡ stateWith us place
     pending : Pending r motion table root us place x
 
   fine-goes : (st : State) (x : Reading) → Fine st x → Goes st x
-  fine-goes st x f = let q : st ≡ stateOf (f .us) (f .place) = f .state in rw q (pending-goes (f .us) (f .place) x (f .pending))
+  fine-goes st x f = let q : st ≡ stateWith (f .us) (f .place) = f .state in rw q (pending-goes (f .us) (f .place) x (f .pending))
 
   -- the goal lies in R
   home : (us : List ℕ) (place : ℕ) (x : Reading) → Pending r motion table goal us place x → Pending r motion table root us place x
@@ -169,7 +169,7 @@ module _ (r : Rules) (sizes : Sizes r) (one : OneByte r) (splits : Splits r) (mo
 
   -- what a call answers is what it does
   as-told : {st : State} {x : Reading} {u : ℕ} {then : State} {y : Reading} (g : Goes st x) → call r table st x ≡ Answer.Mode u then → follows u x y ≡ true
-      → (then ≡ stateOf (g .vs) (g .place)) × Pending r motion table goal (g .vs) (g .place) y
+      → (then ≡ stateWith (g .vs) (g .place)) × Pending r motion table goal (g .vs) (g .place) y
   as-told {u} {y} g e f =
       let a : u ≡ g .u = cc (g .told, e) in
       (cc (g .told, e), g .then y (rw a at f))
@@ -185,7 +185,7 @@ module _ (r : Rules) (sizes : Sizes r) (one : OneByte r) (splits : Splits r) (mo
   fine-safe [] place x h = motion .root-safe x h
   fine-safe (u ∷ us) place x h = h .1
 
-  idle-root : (us : List ℕ) (place : ℕ) (x : Reading) → idle ≡ stateOf us place → Pending r motion table root us place x → holds r root x ≡ true
+  idle-root : (us : List ℕ) (place : ℕ) (x : Reading) → idle ≡ stateWith us place → Pending r motion table root us place x → holds r root x ≡ true
   idle-root [] place x e h = h
   idle-root (u ∷ us) place x e h = absurd (omega (arith, ap (λ (st : State). st .left) e))
 
@@ -193,14 +193,14 @@ module _ (r : Rules) (sizes : Sizes r) (one : OneByte r) (splits : Splits r) (mo
 
   -- a call, and then what is pending
   step-home : {st v : State} {x z : Reading} {m : ℕ} (g : Goes st x) → m ≡ length (g .vs)
-      → ((y : Reading) → Pending r motion table goal (g .vs) (g .place) y → Sampled r table (length (g .vs)) (stateOf (g .vs) (g .place)) y v z → Home r v z)
+      → ((y : Reading) → Pending r motion table goal (g .vs) (g .place) y → Sampled r table (length (g .vs)) (stateWith (g .vs) (g .place)) y v z → Home r v z)
       → Stepped r table m st x v z → Home r v z
   step-home g e ih k =
       let w = as-told {y = k .y} g (k .told) (k .may) in
       ih (k .y) (w .1) (rw (w .0, e) at (k .rest))
 
   pending-home : (us : List ℕ) (place : ℕ) (x : Reading) → Pending r motion table goal us place x → (v : State) (z : Reading)
-      → Sampled r table (length us) (stateOf us place) x v z → Home r v z
+      → Sampled r table (length us) (stateWith us place) x v z → Home r v z
   unfolding pending-goes
   pending-home [] place x h v z k =
       let w = stopped r table k refl in
@@ -211,7 +211,7 @@ module _ (r : Rules) (sizes : Sizes r) (one : OneByte r) (splits : Splits r) (mo
 
   demanded : Demand r table (longest t)
   demanded = record {
-    answered = λ {st} {x} run. let g = fine-goes st x (run-fine run) in (g .u, stateOf (g .vs) (g .place), g .told);
+    answered = λ {st} {x} run. let g = fine-goes st x (run-fine run) in (g .u, stateWith (g .vs) (g .place), g .told);
     in-safe = λ {st} {x} run. let f = run-fine run in fine-safe (f .us) (f .place) x (f .pending);
     in-root = λ {x} run. let f = run-fine run in idle-root (f .us) (f .place) x (f .state) (f .pending);
     returns = λ {x} run.

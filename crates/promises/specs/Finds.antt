@@ -14,7 +14,7 @@ use Rattle.meaning.specs.declared.Walk.{Walk}
 use Rattle.meaning.specs.declared.Found.{Found}
 use Rattle.meaning.specs.Numbers.{bytesOf}
 use Rattle.meaning.specs.Rules.{Rules, holds}
-use Rattle.meaning.specs.Trees.{Tree, Forest, split, tile, leaf, more, modesBytes, layout, layouts, Pattern, tableOf, Over, Overs, Tile, tilesOf, tilesIn}
+use Rattle.meaning.specs.Trees.{Tree, Forest, split, tile, leaf, more, modesBytes, layout, layouts, Pattern, tableOf, Over, Overs, Tile, tilesOf, tilesIn, having}
 use Rattle.meaning.specs.Verdicts.{walk}
 use Rattle.meaning.specs.Control.{among, find, idle, modeAt, call}
 use Rattle.promises.specs.Laws.{Sizes, holding, Splits}
@@ -29,20 +29,15 @@ bit-zero false e = refl
 module _ (r : Rules) where
   open Rules r using (Box, Reading, children, root, D, K, N)
 
-  -- the tiles whose box holds a reading
-  unfoldable pub having : Reading → List (Tile r) → List (Tile r)
-  having x [] = []
-  having x (t ∷ ts) = cond (holds r (t .box) x) (t ∷ having x ts) (having x ts)
-
   -- the place of a tile's first mode
-  abbrev pub firstMode : Tile r → ℕ
-  firstMode t = t .place + length (bytesOf (length (t .modes)))
+  abbrev pub firstPlace : Tile r → ℕ
+  firstPlace t = t .place + length (bytesOf (length (t .modes)))
 
   -- The tile was found, and is the only one of ts that holds the reading. Its bytes stand in s, not before lo.
   pub record OneTile (P : Box → List ℕ → Type 0) (x : Reading) (s : List ℕ) (lo : ℕ) (ts : List (Tile r)) (found : Found) : Type 0 where
     pub the : Tile r
-    pub only : having x ts ≡ the ∷ []
-    pub told : found ≡ Found.Tile (firstMode the) (length (the .modes))
+    pub only : having r x ts ≡ the ∷ []
+    pub told : found ≡ Found.Tile (firstPlace the) (length (the .modes))
     pub holds-it : holds r (the .box) x ≡ true
     pub known : P (the .box) (the .modes)
     pub behind : lo ≤ the .place
@@ -53,10 +48,10 @@ module _ (r : Rules) where
   keep-append true t a b = refl
   keep-append false t a b = refl
 
-  having-append : (x : Reading) (a b : List (Tile r)) → having x (a ++ b) ≡ having x a ++ having x b
+  having-append : (x : Reading) (a b : List (Tile r)) → having r x (a ++ b) ≡ having r x a ++ having r x b
   unfolding having
   having-append x [] b = refl
-  having-append x (t ∷ a) b = rw (having-append x a b) (keep-append (holds r (t .box) x) t (having x a) (having x b))
+  having-append x (t ∷ a) b = rw (having-append x a b) (keep-append (holds r (t .box) x) t (having r x a) (having r x b))
 
   module _ (sizes : Sizes r) (splits : Splits r) (P : Box → List ℕ → Type 0) (shape : (b : Box) (us : List ℕ) → P b us → Pattern K N us) (x : Reading) where
     -- ---- no tile holds a reading that its box does not
@@ -64,12 +59,12 @@ module _ (r : Rules) where
     mutual
       unfolding Over count tilesOf having
 
-      none-tree : (t : Tree) (d : ℕ) (b : Box) (at : ℕ) → Over r P t d b → holds r b x ≡ false → having x (tilesOf r t b at) ≡ []
+      none-tree : (t : Tree) (d : ℕ) (b : Box) (at : ℕ) → Over r P t d b → holds r b x ≡ false → having r x (tilesOf r t b at) ≡ []
       none-tree (tile us) d b at o h = simp h
       none-tree (split f) zero b at o h = absurd o
       none-tree (split f) (suc d) b at o h = none-forest f d (children b) (at + length (bytesOf 0)) (o .1) (splits b x (o .0) ∙ ap bit h)
 
-      none-forest : (f : Forest) (d : ℕ) (bs : List Box) (at : ℕ) → Overs r P f d bs → holding r bs x ≡ 0 → having x (tilesIn r f bs at) ≡ []
+      none-forest : (f : Forest) (d : ℕ) (bs : List Box) (at : ℕ) → Overs r P f d bs → holding r bs x ≡ 0 → having r x (tilesIn r f bs at) ≡ []
       none-forest leaf d bs at o h = refl
       none-forest (more t f) d [] at o h = refl
       none-forest (more t f) d (b ∷ bs) at o h =
@@ -84,7 +79,7 @@ module _ (r : Rules) where
         walk-reads r sizes (λ _ _. Works) t d s at b m (over-map r P (Good r (λ _ _. Works)) (λ c us g. record { shape = shape c us g; works = refl }) t d b o) p
 
     -- the same tile, of a longer list and a longer look
-    seen : {s : List ℕ} {lo hi : ℕ} {ts us : List (Tile r)} {f g : Found} → lo ≤ hi → having x us ≡ having x ts → g ≡ f → OneTile P x s hi ts f
+    seen : {s : List ℕ} {lo hi : ℕ} {ts us : List (Tile r)} {f g : Found} → lo ≤ hi → having r x us ≡ having r x ts → g ≡ f → OneTile P x s hi ts f
         → OneTile P x s lo us g
     seen l p q k = record {
       the = k .the;
@@ -106,14 +101,14 @@ module _ (r : Rules) where
     unfolding count tilesOf among
     first-or-later t f d s node at b bs o os p h first later true c =
         let z : holding r bs x ≡ 0 = let g : bit (holds r b x) ≡ 1 = ap bit c in omega arith in
-        let w : having x (tilesIn r (more t f) (b ∷ bs) at) ≡ having x (tilesOf r t b at) =
+        let w : having r x (tilesIn r (more t f) (b ∷ bs) at) ≡ having r x (tilesOf r t b at) =
         having-append x (tilesOf r t b at) (tilesIn r f bs (at + length (layout t)))
-        ∙ rw (none-forest f d bs (at + length (layout t)) os z) (append-nil (having x (tilesOf r t b at))) in
+        ∙ rw (none-forest f d bs (at + length (layout t)) os z) (append-nil (having r x (tilesOf r t b at))) in
         seen (omega arith) w (rw c refl) (first c)
     first-or-later t f d s node at b bs o os p h first later false c =
         let z : holding r bs x ≡ 1 = let g : bit (holds r b x) ≡ 0 = ap bit c in omega arith in
         let m = at + length (layout t) in
-        let w : having x (tilesIn r (more t f) (b ∷ bs) at) ≡ having x (tilesIn r f bs m) =
+        let w : having r x (tilesIn r (more t f) (b ∷ bs) at) ≡ having r x (tilesIn r f bs m) =
         having-append x (tilesOf r t b at) (tilesIn r f bs m) ∙ rw (none-tree t d b at o c) refl in
         seen (omega arith) w (rw (c, pass t d s at b m o p) refl) (later z)
 
@@ -160,6 +155,6 @@ module _ (r : Rules) (sizes : Sizes r) (splits : Splits r) (P : r .Box → List 
   finds = tree-finds r sizes splits P shape x t (r .D) s (headed r) (r .root) (length (tableOf r t)) over (table-stands r s rest t is .1) held
 
   -- and a call, idle, answers that tile's first mode
-  pub call-finds : call r s idle x ≡ modeAt s (firstMode r (finds .the)) (length (finds .the .modes))
+  pub call-finds : call r s idle x ≡ modeAt s (firstPlace r (finds .the)) (length (finds .the .modes))
   unfolding call
   call-finds = simp (header-read r sizes s (headed r) (table-stands r s rest t is .0), held, finds .told)

@@ -20,7 +20,7 @@ use Rattle.promises.specs.Files.{file-writes}
 use Rattle.promises.specs.Forms.{Right, values-right, times-right}
 use Rattle.promises.specs.Framed.{limited-right, wide-bands, framed}
 use Rattle.promises.specs.PlantShapes.{numbers-few}
-use Rattle.promises.specs.Related.{good-was}
+use Rattle.promises.specs.Related.{good-plant}
 use Rattle.promises.specs.Sound.{Sound}
 
 -- ---- a row of the form, as facts
@@ -96,6 +96,6 @@ right-sound vs h inSafe allWide =
 pub judged-sound : (s : List ℕ) (p : Plant) → plantJudged s ≡ good p → Sound p
 unfolding P.plantJudged
 judged-sound s p e =
-    let g = good-was (valuesOf plantForm s) p e in
+    let g = good-plant (valuesOf plantForm s) p e in
     let w = file-writes plantForm s (g .was) in
     subst Sound (g .plant) (right-sound (g .values) (values-right plantForm s 0 (g .values) (g .next) (w .0)) (g .root-safe) (g .bands-wide))

@@ -16,7 +16,7 @@ use Rattle.meaning.specs.Plants.{plantForm, plantOf, numbersOf, plantRelated, p
 use Rattle.promises.specs.Files.{judgedValues, judged-back, file-reads, file-writes}
 use Rattle.promises.specs.Buffers.{wrote}
 use Rattle.promises.specs.Plants.{Tidy, plant-back}
-use Rattle.promises.specs.Related.{good-was}
+use Rattle.promises.specs.Related.{good-plant}
 use Rattle.promises.specs.PlantShapes.{plant-shaped, plant-read}
 use Rattle.promises.specs.Writers.{refuses, too-short, long-enough, was-written}
 
@@ -34,7 +34,7 @@ judged-by-values p = ap plantRelated (file-reads plantForm (numbersOf p) (plant-
 -- a plant's file says the plant that its numbers make
 judged-itself : (p p′ : Plant) → plantJudged (plantFile p) ≡ good p′ → plantOf (numbersOf p) ≡ p′
 judged-itself p p′ e =
-    let g = good-was (judgedValues plantForm (numbersOf p) 0) p′ (sym (judged-by-values p) ∙ e) in
+    let g = good-plant (judgedValues plantForm (numbersOf p) 0) p′ (sym (judged-by-values p) ∙ e) in
     ap plantOf (sym (judged-back plantForm (numbersOf p) 0 (plant-shaped p) (g .was) .0)) ∙ g .plant
 
 abbrev accepted : Plant → PlantRead
@@ -73,7 +73,7 @@ alike-fits p p′ h buf l = long-enough plantJudged (plantFile p) buf p′ h l
 pub read-tidy : (s : List ℕ) (p : Plant) → plantJudged s ≡ good p → Tidy p × (plantFile p ≡ s)
 unfolding plantJudged
 read-tidy s p e =
-    let g = good-was (valuesOf plantForm s) p e in
+    let g = good-plant (valuesOf plantForm s) p e in
     let w = file-writes plantForm s (g .was) in
     let r = plant-read s (w .0) in
     (subst Tidy (g .plant) (r .0), ap plantFile (sym (g .plant)) ∙ ap (fileOf plantForm) (r .1) ∙ w .2)

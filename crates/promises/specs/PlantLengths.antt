@@ -15,7 +15,7 @@ use Rattle.meaning.specs.Computing.{computing}
 use Rattle.promises.specs.Files.{file-writes}
 use Rattle.promises.specs.Lengths.{Longest, longer, Adds, end-longest, limited-adds, then-adds, times-adds, edges-adds, headed-longest}
 use Rattle.promises.specs.PlantShapes.{plantBody}
-use Rattle.promises.specs.Related.{good-was}
+use Rattle.promises.specs.Related.{good-plant}
 
 -- ---- at most
 
@@ -37,7 +37,7 @@ plant-longest = headed-longest 16 0 _ (omega arith) body-longest
 pub at-most : (s : List ℕ) (p : Plant) → plantJudged s ≡ good p → length s ≤ 1183
 unfolding plantJudged
 at-most s p e =
-    let w = file-writes plantForm s (good-was (valuesOf plantForm s) p e .was) in
+    let w = file-writes plantForm s (good-plant (valuesOf plantForm s) p e .was) in
     omega (arith, plant-longest .most s 0 (w .0), w .1)
 
 -- ---- and one that has them

@@ -4,7 +4,7 @@
 -- accepted, is page Checked.
 use Prim.Native.Nat.{ℕ, _≤_}
 use mathlib.Core.Path.{_≡_, sym, _∙_}
-use mathlib.Core.Bool.{Bool, true, false}
+use mathlib.Core.Bool.{true}
 use mathlib.Core.List.{List}
 use lib.IntN.{ℤ}
 use Rattle.meaning.specs.declared.Plant.{Plant}
@@ -13,10 +13,9 @@ use Rattle.meaning.specs.declared.State.{State}
 use Rattle.meaning.specs.declared.Answer.{Answer}
 use Rattle.meaning.specs.Control.{idle}
 use Rattle.meaning.specs.Files.{good}
-use Rattle.meaning.specs.Plants.{plantJudged, safeOf}
-use Rattle.meaning.specs.Rules.{holds}
-use Rattle.meaning.specs.Runs.{start, sample, Samples, none, next}
-use Rattle.meaning.specs.Tables.{rulesOf, onPlant, checked, controlled, startsIn, mayFollow, TableRun}
+use Rattle.meaning.specs.Plants.{plantJudged}
+use Rattle.meaning.specs.Runs.{start, sample, none, next}
+use Rattle.meaning.specs.Tables.{rulesOf, checked, controlled, startsIn, safeIn, mayFollow, TableRun, TableSamples}
 use Rattle.meaning.specs.Trees.{longest}
 use Rattle.promises.specs.Checked.{Tiled, accepted-judged}
 use Rattle.promises.specs.Demand.{Meets, Sampled, Demand, demand}
@@ -24,14 +23,6 @@ use Rattle.promises.specs.Judged.{judged-sound}
 use Rattle.promises.specs.PlantMotion.{splits, motion, plant-follows}
 use Rattle.promises.specs.PlantRules.{sizes, one-byte-modes, checked-as, controlled-as}
 use Rattle.promises.specs.Sound.{Sound}
-
--- whether a reading lies in a plant's S; where the plant is refused, none does
-abbrev pub safeIn : List ℕ → List ℤ → Bool
-safeIn plant x = onPlant (plantJudged plant) (λ _. false) λ p. holds (rulesOf p) (safeOf p) x
-
--- so many samples of a run lead from one state and reading to another
-abbrev pub TableSamples : List ℕ → List ℕ → ℕ → State → List ℤ → State → List ℤ → Type 0
-TableSamples plant table = Samples (controlled plant table) (startsIn plant) (mayFollow plant)
 
 -- What demand 3 says of a plant and a table whose longest pattern has so many modes. A tile is chosen where the controller is idle.
 pub record Promised (plant table : List ℕ) (most : ℕ) : Type 0 where

@@ -10,10 +10,10 @@ use Rattle.laws.specs.Tests.{never, guard-passed}
 use Rattle.meaning.specs.declared.Plant.{Plant}
 use Rattle.meaning.specs.declared.Refusal.{Refusal}
 use Rattle.meaning.specs.declared.Sheet.{Sheet}
-use Rattle.meaning.specs.Boxes.{Side, sidesOf, lies, within}
+use Rattle.meaning.specs.Boxes.{Side, lies, within}
 use Rattle.meaning.specs.Files.{Read, read, refused, Judged, good, bad}
 use Rattle.meaning.specs.Plants.{plantOf, rootOf, safeOf, bandsOf, wide, related, plantRelated}
-use Rattle.meaning.specs.Sheets.{sheetOf, madeNumbers, isNear, sheetRelated}
+use Rattle.meaning.specs.Sheets.{rootSheet, safeSheet, bandsSheet, sheetOf, madeNumbers, isNear, sheetRelated}
 
 bad-good : {A : Type 0} {r : Refusal} {a : A} → bad r ≡ good a → ⊥
 bad-good e = never cc
@@ -33,7 +33,7 @@ related-holds q root safe bands rest a b = rw (a, b) refl
 
 -- ---- plants
 
-pub record Good (t : Read (List ℤ)) (p : Plant) : Type 0 where
+pub record GoodPlant (t : Read (List ℤ)) (p : Plant) : Type 0 where
   pub values : List ℤ
   pub next : ℕ
   pub was : t ≡ read values next
@@ -41,24 +41,14 @@ pub record Good (t : Read (List ℤ)) (p : Plant) : Type 0 where
   pub root-safe : within (rootOf (plantOf values)) (safeOf (plantOf values)) ≡ true
   pub bands-wide : all (map (wide (plantOf values .q)) (bandsOf (plantOf values))) ≡ true
 
-pub good-was : (t : Read (List ℤ)) (p : Plant) → plantRelated t ≡ good p → Good t p
-good-was (refused r) p e = never (cc)
-good-was (read vs next) p e =
+pub good-plant : (t : Read (List ℤ)) (p : Plant) → plantRelated t ≡ good p → GoodPlant t p
+good-plant (refused r) p e = never (cc)
+good-plant (read vs next) p e =
     let q = plantOf vs in
     let w = related-was (q .q) (rootOf q) (safeOf q) (bandsOf q) _ e in
     record { values = vs; next = next; was = refl; plant = (let k = w .2 in cc); root-safe = w .0; bands-wide = w .1 }
 
 -- ---- sheets
-
--- R, S and the bands of a sheet
-abbrev pub rootSheet : Sheet → List Side
-rootSheet h = sidesOf (h .n) (h .rlo) (h .rhi)
-
-abbrev pub safeSheet : Sheet → List Side
-safeSheet h = sidesOf (h .n) (h .slo) (h .shi)
-
-abbrev pub bandsSheet : Sheet → List Side
-bandsSheet h = sidesOf (h .n) (h .wlo) (h .whi)
 
 pub record GoodSheet (t : Read (List ℤ)) (h : Sheet) : Type 0 where
   pub values : List ℤ

@@ -12,20 +12,12 @@ use Rattle.laws.specs.Lists.{at, tab, tabs, padded}
 use Rattle.laws.specs.Tabs.{length-tab, length-tabs, getD-tab, getD-tabs, tab-same, tabs-same, padded-at, map-tabs}
 use Rattle.meaning.specs.declared.Whole.{Whole}
 use Rattle.meaning.specs.declared.Sheet.{Sheet}
-use Rattle.meaning.specs.declared.Plant.{Plant}
 use Rattle.meaning.specs.Images.{Row}
 use Rattle.meaning.specs.Plants as P
 use Rattle.meaning.specs.Plants.{entryLimit, offsetLimit, bandLimit, column, coefCount, edgesOf, plantOf, rowStart, rowOf}
 use Rattle.meaning.specs.Sheets as S
-use Rattle.meaning.specs.Sheets.{sheetEdges, coefficient, offset, wholeOf, limitedTo, widening, madeBand, madeRow, madeModes, madeNumbers, nearValue}
+use Rattle.meaning.specs.Sheets.{sheetEdges, coefficient, offset, wholeOf, limitedTo, widening, madeBand, madeRow, madeModes, madeNumbers, nearValue, madeValues, madePlant}
 use Rattle.promises.specs.Bodies.{edge-column, band-column, rest-at}
-
--- the plant's numbers, and the plant
-abbrev pub made : Sheet → List ℤ
-made h = map nearValue (madeNumbers h)
-
-abbrev pub madePlant : Sheet → Plant
-madePlant h = plantOf (made h)
 
 -- numbers that are taken over as they are
 pub map-values : (l : List ℤ) → map nearValue (map Whole.Near l) ≡ l
@@ -53,7 +45,7 @@ module _ (h : Sheet) where
   abbrev pub rows : List ℤ
   rows = tabs modeRows (madeModes h) 0
 
-  pub made-groups : made h ≡ header ++ (tabs edges (h .n) 0 ++ (tabs ends (h .n) 0 ++ rows))
+  pub made-groups : madeValues h ≡ header ++ (tabs edges (h .n) 0 ++ (tabs ends (h .n) 0 ++ rows))
   unfolding S.madeNumbers
   made-groups = ap (λ (t : List ℤ). header ++ t) (step₁ ∙ ap (λ (t : List ℤ). tabs edges (h .n) 0 ++ t) step₂)
     where
@@ -75,10 +67,10 @@ module _ (h : Sheet) where
 
   -- ---- the arrays of edges and bands
 
-  pub edge-made : (j : ℕ) → j < 4 → column (made h) (6 + j) 4 (h .n) ≡ padded 4 (pos 0) (tab (λ i. at (edges i) j) (h .n) 0)
+  pub edge-made : (j : ℕ) → j < 4 → column (madeValues h) (6 + j) 4 (h .n) ≡ padded 4 (pos 0) (tab (λ i. at (edges i) j) (h .n) 0)
   edge-made j l = rw made-groups (edge-column header refl (h .n) edges ends (λ i. refl) (λ i. refl) rows j l)
 
-  band-made : (j : ℕ) → j < 2 → column (made h) (6 + j + 4 * h .n) 2 (h .n) ≡ padded 4 (pos 0) (tab (λ i. at (ends i) j) (h .n) 0)
+  band-made : (j : ℕ) → j < 2 → column (madeValues h) (6 + j + 4 * h .n) 2 (h .n) ≡ padded 4 (pos 0) (tab (λ i. at (ends i) j) (h .n) 0)
   band-made j l = rw made-groups (band-column header refl (h .n) edges ends (λ i. refl) (λ i. refl) rows j l)
 
   -- ---- the coefficients
@@ -110,7 +102,7 @@ module _ (h : Sheet) where
       let n = h .n in
       let t : suc (u * n + i) ≤ madeModes h * n = omega (arith, mul-le-mul a (le-refl n)) in
       let l : rowStart n u i + j < coefCount (madeModes h) n = omega (arith, mul-le-mul t (le-refl (n + 1))) in
-      padded-at (λ k. at (made h) (6 + 6 * n + k)) 320 (coefCount (madeModes h) n) (rowStart n u i + j) l
+      padded-at (λ k. at (madeValues h) (6 + 6 * n + k)) 320 (coefCount (madeModes h) n) (rowStart n u i + j) l
       ∙ rw made-groups (rest-at header refl n edges ends (λ i. refl) (λ i. refl) rows (rowStart n u i + j)) ∙ row-at u i j a b c
 
   -- ---- a row of the plant
@@ -135,7 +127,7 @@ module _ (h : Sheet) where
       List·getD-map nearValue (es ++ offsetAt u i ∷ []) (h .n) (Whole.Near (pos 0))
       ∙ ap nearValue (ap (λ (k : ℕ). getD (es ++ offsetAt u i ∷ []) k (Whole.Near (pos 0))) e ∙ getD-append-add es (offsetAt u i ∷ []) 0 (Whole.Near (pos 0)))
 
-  pub end-at : (j i : ℕ) → j < 2 → i < h .n → at (column (made h) (6 + j + 4 * h .n) 2 (h .n)) i ≡ at (ends i) j
+  pub end-at : (j i : ℕ) → j < 2 → i < h .n → at (column (madeValues h) (6 + j + 4 * h .n) 2 (h .n)) i ≡ at (ends i) j
   end-at j i l k = rw (band-made j l) (padded-at (λ i. at (ends i) j) 4 (h .n) i k)
 
   pub row-made : (u i : ℕ) → u < madeModes h → i < h .n → rowOf (madePlant h) u i ≡ record {

@@ -22,15 +22,15 @@ use Rattle.meaning.specs.Files.{Form, end, Judged, good, bad, fileOf, fileJudge
 use Rattle.meaning.specs.Plants as P
 use Rattle.meaning.specs.Plants.{edgeLimit, bandLimit, entryLimit, offsetLimit, limited, span, times, row, column, plantForm, plantOf, numbersOf, rootOf, safeOf, bandsOf, wide, plantRelated, plantJudged, plantLeft}
 use Rattle.meaning.specs.Sheets as S
-use Rattle.meaning.specs.Sheets.{emitters, hasEmitter, roomAt, widening, limitedTo, madeModes, nearValue, plantFileMade, sheetJudged, madeLeft}
+use Rattle.meaning.specs.Sheets.{emitters, hasEmitter, roomAt, widening, limitedTo, madeModes, nearValue, madeValues, madePlant, rootSheet, safeSheet, plantFileMade, sheetJudged, madeLeft}
 use Rattle.promises.specs.Files.{file-writes}
 use Rattle.promises.specs.FormShapes.{times-each}
 use Rattle.promises.specs.Passing as Q
 use Rattle.promises.specs.Passing.{Passes, passes-read, limited-passes, span-passes, times-times, headed-passes}
 use Rattle.promises.specs.PlantShapes.{plantBody, plant-read}
-use Rattle.promises.specs.Related.{rootSheet, safeSheet, related-holds}
+use Rattle.promises.specs.Related.{related-holds}
 use Rattle.promises.specs.SheetNear.{entry-few, offset-few, low-is, high-is, low-few, high-few}
-use Rattle.promises.specs.SheetNumbers.{made, madePlant, edges, ends, numbersRow, modeRows, rows, made-groups, entryAt, offsetAt, edge-made, end-at}
+use Rattle.promises.specs.SheetNumbers.{edges, ends, numbersRow, modeRows, rows, made-groups, entryAt, offsetAt, edge-made, end-at}
 use Rattle.promises.specs.SheetSound.{SoundSheet, judged-sound}
 
 -- ---- at most 16 modes
@@ -91,7 +91,7 @@ module _ (h : Sheet) (s : SoundSheet h) where
       (times-each Passes (times (h .n) (row (h .n))) (modeRows h) (madeModes h) 0 end []
       (λ u a b rest vs p. times-each Passes (row (h .n)) (numbersRow h u) (h .n) 0 rest vs (λ i c d. row-pass u i (omega arith) (omega arith)) p) refl)
 
-  made-pass : Passes plantForm (made h)
+  made-pass : Passes plantForm (madeValues h)
   unfolding P.plantForm P.edgesAndBands
   made-pass =
       let r = s .ranges in
@@ -109,16 +109,16 @@ module _ (h : Sheet) (s : SoundSheet h) where
       → sidesOf (h .n) lo hi ≡ tab (λ i. side (f i) (g i)) (h .n) 0
   sides-made lo hi f g p q = tab-same (sideAt lo hi) (λ i. side (f i) (g i)) (h .n) 0 (λ i a b. rw (p i (omega arith), q i (omega arith)) refl)
 
-  edge-is : (j i : ℕ) → j < 4 → i < h .n → at (column (made h) (6 + j) 4 (h .n)) i ≡ at (edges h i) j
+  edge-is : (j i : ℕ) → j < 4 → i < h .n → at (column (madeValues h) (6 + j) 4 (h .n)) i ≡ at (edges h i) j
   edge-is j i l k = rw (edge-made h j l) (padded-at (λ i. at (edges h i) j) 4 (h .n) i k)
 
   pub root-made : rootOf (madePlant h) ≡ rootSheet h
   unfolding P.plantOf S.madeNumbers
-  root-made = sides-made (column (made h) 6 4 (h .n)) (column (made h) 7 4 (h .n)) (at (h .rlo)) (at (h .rhi)) (λ i l. edge-is 0 i (omega arith) l) (λ i l. edge-is 1 i (omega arith) l)
+  root-made = sides-made (column (madeValues h) 6 4 (h .n)) (column (madeValues h) 7 4 (h .n)) (at (h .rlo)) (at (h .rhi)) (λ i l. edge-is 0 i (omega arith) l) (λ i l. edge-is 1 i (omega arith) l)
 
   pub safe-made : safeOf (madePlant h) ≡ safeSheet h
   unfolding P.plantOf S.madeNumbers
-  safe-made = sides-made (column (made h) 8 4 (h .n)) (column (made h) 9 4 (h .n)) (at (h .slo)) (at (h .shi)) (λ i l. edge-is 2 i (omega arith) l) (λ i l. edge-is 3 i (omega arith) l)
+  safe-made = sides-made (column (madeValues h) 8 4 (h .n)) (column (madeValues h) 9 4 (h .n)) (at (h .slo)) (at (h .shi)) (λ i l. edge-is 2 i (omega arith) l) (λ i l. edge-is 3 i (omega arith) l)
 
   widely : ℕ → Side
   widely i = side (at (h .wlo) i -ℤ pos (widening h)) (at (h .whi) i +ℤ pos (widening h))
@@ -126,7 +126,7 @@ module _ (h : Sheet) (s : SoundSheet h) where
   bands-made : bandsOf (madePlant h) ≡ tab widely (h .n) 0
   unfolding P.plantOf S.madeNumbers widely
   bands-made =
-      sides-made (column (made h) (6 + 4 * h .n) 2 (h .n)) (column (made h) (7 + 4 * h .n) 2 (h .n)) (λ i. at (h .wlo) i -ℤ pos (widening h)) (λ i. at (h .whi) i +ℤ pos (widening h))
+      sides-made (column (madeValues h) (6 + 4 * h .n) 2 (h .n)) (column (madeValues h) (7 + 4 * h .n) 2 (h .n)) (λ i. at (h .wlo) i -ℤ pos (widening h)) (λ i. at (h .whi) i +ℤ pos (widening h))
       (λ i l. end-at h 0 i (omega arith) l ∙ low-is h (s .fit) i l) (λ i l. end-at h 1 i (omega arith) l ∙ high-is h (s .fit) i l)
 
   wide-enough : (i : ℕ) → i < h .n → wide (h .q) (widely i) ≡ true
@@ -144,20 +144,20 @@ module _ (h : Sheet) (s : SoundSheet h) where
 
   -- ---- so the plant's reader takes it, and its numbers are just these
 
-  pub made-judged : plantJudged (fileOf plantForm (made h)) ≡ good (madePlant h)
+  pub made-judged : plantJudged (fileOf plantForm (madeValues h)) ≡ good (madePlant h)
   unfolding P.plantJudged P.plantOf S.madeNumbers
   made-judged =
       let p = madePlant h in
-      ap plantRelated (passes-read plantForm (made h) made-pass)
+      ap plantRelated (passes-read plantForm (madeValues h) made-pass)
       ∙ related-holds (h .q) (rootOf p) (safeOf p) (bandsOf p) _ (rw (root-made, safe-made) (s .root-safe)) bands-wide
 
-  pub made-numbers : numbersOf (madePlant h) ≡ made h
-  made-numbers = let f = fileOf plantForm (made h) in plant-read f (file-writes plantForm f (passes-read plantForm (made h) made-pass) .0) .1
+  pub made-numbers : numbersOf (madePlant h) ≡ madeValues h
+  made-numbers = let f = fileOf plantForm (madeValues h) in plant-read f (file-writes plantForm f (passes-read plantForm (madeValues h) made-pass) .0) .1
 
 -- ---- from the sheet's file
 
 -- document 01's plant of a sheet
-pub plant-taken : (s : List ℕ) (h : Sheet) → sheetJudged s ≡ good h → plantJudged (fileOf plantForm (made h)) ≡ good (madePlant h)
+pub plant-taken : (s : List ℕ) (h : Sheet) → sheetJudged s ≡ good h → plantJudged (fileOf plantForm (madeValues h)) ≡ good (madePlant h)
 plant-taken s h e = made-judged h (judged-sound s h e)
 
 -- what sheet to plant leaves is what the writer of that plant leaves; or the sheet's refusal
@@ -165,7 +165,7 @@ pub made-left : (s : List ℕ) (h : Sheet) → sheetJudged s ≡ good h → (buf
 unfolding S.madeLeft P.plantLeft
 made-left s h e buf =
     let k = judged-sound s h e in
-    let bytes = fileOf plantForm (made h) in
+    let bytes = fileOf plantForm (madeValues h) in
     let there : madeLeft s buf ≡ left (good bytes) buf = ap (λ (j : Judged Sheet). left (plantFileMade j) buf) e in
     let here : plantLeft (madePlant h) buf ≡ left (good bytes) buf =
     ap (λ (vs : List ℤ). let b = fileOf plantForm vs in left (fileJudged b (plantJudged b)) buf) (made-numbers h k) ∙ rw (made-judged h k) refl in

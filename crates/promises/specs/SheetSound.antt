@@ -12,11 +12,11 @@ use Rattle.meaning.specs.Boxes.{within}
 use Rattle.meaning.specs.Files.{end, valuesOf, good}
 use Rattle.meaning.specs.Plants.{edgeLimit, bandLimit, times, wide}
 use Rattle.meaning.specs.Sheets as S
-use Rattle.meaning.specs.Sheets.{floating, above, anyFloat, roomForm, sheetForm, sheetOf, madeNumbers, isNear, sheetJudged}
+use Rattle.meaning.specs.Sheets.{floating, above, anyFloat, roomForm, sheetForm, sheetOf, madeNumbers, isNear, rootSheet, safeSheet, sheetJudged}
 use Rattle.promises.specs.Files.{file-writes}
 use Rattle.promises.specs.Forms.{Right, values-right}
 use Rattle.promises.specs.Framed.{wide-bands, framed}
-use Rattle.promises.specs.Related.{rootSheet, safeSheet, good-sheet}
+use Rattle.promises.specs.Related.{good-sheet}
 use Rattle.promises.specs.Sound.{Edges}
 
 -- the whole numbers, from the form that the sheet was read by

@@ -31,11 +31,11 @@ use Rattle.meaning.specs.Images.{Row, reached, reachedAll, follows}
 use Rattle.meaning.specs.Plants as P
 use Rattle.meaning.specs.Plants.{entryLimit, offsetLimit, rowOf, stepOf}
 use Rattle.meaning.specs.Sheets as S
-use Rattle.meaning.specs.Sheets.{roomAt, lossSum, oneF, coefficient, pushed, switchedOn, offset, wholeOf, largestEdge, widening, units, unitsOf, exactRow, exactStep, madeModes, madeNumbers, isNear, nearValue, sheetForm, sheetJudged}
+use Rattle.meaning.specs.Sheets.{roomAt, lossSum, oneF, coefficient, pushed, switchedOn, offset, wholeOf, largestEdge, widening, units, unitsOf, exactRow, exactStep, madeModes, madeNumbers, isNear, nearValue, madePlant, safeSheet, sheetForm, sheetJudged}
 use Rattle.promises.specs.Nearest.{Nearest, whole-nearest}
-use Rattle.promises.specs.Related.{safeSheet, good-sheet}
+use Rattle.promises.specs.Related.{good-sheet}
 use Rattle.promises.specs.SheetNear.{Near, near-is, entry-near, offset-near, low-is, high-is}
-use Rattle.promises.specs.SheetNumbers.{entryAt, offsetAt, madePlant, row-made}
+use Rattle.promises.specs.SheetNumbers.{entryAt, offsetAt, row-made}
 use Rattle.promises.specs.Widening as W
 use Rattle.promises.specs.Widening.{Close, Halves, widely, widened}
 

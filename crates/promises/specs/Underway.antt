@@ -10,22 +10,16 @@ use borrow.Author.Tests.{lt-ltb, le-leb}
 use Rattle.laws.specs.Standing.{Stands, stand-back, at-cons, stand-within}
 use Rattle.meaning.specs.declared.Rule.the-variants.{Works}
 use Rattle.meaning.specs.declared.Walk.{Walk}
-use Rattle.meaning.specs.declared.State.{State}
 use Rattle.meaning.specs.declared.Answer.{Answer}
 use Rattle.meaning.specs.Rules.{Rules, ruleFrom, holds}
 use Rattle.meaning.specs.Trees.{modesBytes, below}
 use Rattle.meaning.specs.Verdicts.{header}
-use Rattle.meaning.specs.Control.{idle, modeAt, call}
+use Rattle.meaning.specs.Control.{stateWith, modeAt, call}
 use Rattle.promises.specs.Laws.{OneByte, Motion}
 use Rattle.promises.specs.Bytes.{one-byte}
 use Rattle.promises.specs.Patterns.{goal-works, safe-works}
 
--- the state with these modes to come, the next of them at that place
-abbrev pub stateOf : List ℕ → ℕ → State
-stateOf [] place = idle
-stateOf (v ∷ vs) place = record { place = place; left = suc (length vs) }
-
-pub mode-is : (vs s : List ℕ) (place : ℕ) → modeAt s place (suc (length vs)) ≡ Answer.Mode (getD s place 0) (stateOf vs (place + 1))
+pub mode-is : (vs s : List ℕ) (place : ℕ) → modeAt s place (suc (length vs)) ≡ Answer.Mode (getD s place 0) (stateWith vs (place + 1))
 mode-is [] s place = refl
 mode-is (v ∷ vs) s place = refl
 
@@ -69,8 +63,8 @@ module _ (r : Rules) (one : OneByte r) (motion : Motion r) (s : List ℕ) where
     ready-byte : getD s place 0 ≡ u
     ready-byte = at-cons s place u (modesBytes vs ++ drop (h .end) s) (ready-stand .bytes) .1
 
-    pub ready-mode : modeAt s place (suc (length vs)) ≡ Answer.Mode u (stateOf vs (place + 1))
-    ready-mode = mode-is vs s place ∙ ap (λ (m : ℕ). Answer.Mode m (stateOf vs (place + 1))) ready-byte
+    pub ready-mode : modeAt s place (suc (length vs)) ≡ Answer.Mode u (stateWith vs (place + 1))
+    ready-mode = mode-is vs s place ∙ ap (λ (m : ℕ). Answer.Mode m (stateWith vs (place + 1))) ready-byte
 
     ready-works : (within (kept (image u (h .k))) safe ≡ true) × (ruleFrom r (suc (h .i)) (image u (h .k)) vs ≡ Works)
     unfolding ruleFrom
@@ -104,7 +98,7 @@ module _ (r : Rules) (one : OneByte r) (motion : Motion r) (s : List ℕ) where
 
   pub ready-told : (at : ℕ) → header r s ≡ Walk.Next at → (u : ℕ) (vs : List ℕ) (place : ℕ) (x : Reading) → Ready r motion s (u ∷ vs) place x
       → holds r safe x ≡ true
-      → call r s (stateOf (u ∷ vs) place) x ≡ Answer.Mode u (stateOf vs (place + 1))
+      → call r s (stateWith (u ∷ vs) place) x ≡ Answer.Mode u (stateWith vs (place + 1))
   unfolding call
   ready-told at q u vs place x h w =
       let l = modes-length N (u ∷ vs) one (h .modes) in

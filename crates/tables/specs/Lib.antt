@@ -4,7 +4,7 @@ pub mod Frames
 pub mod Tiles
 pub mod Modes
 pub mod Trees
-pub mod Calls
+pub mod Control
 pub mod Search
 pub mod Limits
 pub mod Makes

@@ -25,7 +25,7 @@ ghost use Rattle.meaning.specs.Control.{idleCall, runningCall, call};
 ghost use Rattle.meaning.specs.Tables.{readingOf, rulesOf, controlled};
 ghost use Rattle.tables.specs.Boxes.{boxOf};
 ghost use Rattle.tables.specs.Frames.{plantFrom};
-ghost use Rattle.tables.specs.Calls.{admission};
+ghost use Rattle.tables.specs.Control.{admission};
 ghost use Rattle.tables.specs.Trees.{Ready};
 
 // Whether a call may go on: the state can be, and then the box holds the reading; 12 before 11.

@@ -10,7 +10,7 @@ use Rattle.meaning.specs.declared.Answer.{Answer}
 use Rattle.meaning.specs.declared.State.{State}
 use Rattle.meaning.specs.Refusals.{verdictShown, writtenShown, answerShown}
 use Rattle.promises.specs.ModeBytes.{Stands}
-use Rattle.face.specs.Numbers.{placeAndStep, lengthOrPlace, mode, numberAndState}
+use Rattle.face.specs.Shown.{placeAndStep, lengthOrPlace, mode, numberAndState}
 
 pub of-case : {v w : Verdict} → v ≡ w → (verdictShown v .number ≡ verdictShown w .number) × (placeAndStep (verdictShown v) ≡ placeAndStep (verdictShown w))
 of-case e = (ap (λ (v : Verdict). verdictShown v .number) e, ap (λ (v : Verdict). placeAndStep (verdictShown v)) e)

@@ -27,7 +27,7 @@ use Rattle.promises.specs.Judged.{judged-sound}
 use Rattle.promises.specs.Sound.{Sound}
 use Rattle.tables.specs.declared.frames.Frame.{Frame}
 use Rattle.tables.specs.Frames.{plantFrom}
-use Rattle.tables.specs.Calls.{admission}
+use Rattle.tables.specs.Control.{admission}
 use Rattle.tables.specs.Trees.{Ready}
 use Rattle.tables.proofs.finds.Laws.{held, not-held}
 use Rattle.tables.proofs.frames.Laws.{rooms, longest, root-small}

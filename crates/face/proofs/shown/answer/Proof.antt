@@ -5,7 +5,7 @@ use native.Mathlib.Omega.{arith}
 use borrow.Author.Needs.{needs}
 use Rattle.meaning.specs.declared.Answer.{Answer}
 use Rattle.meaning.specs.Refusals.{answerShown}
-use Rattle.face.specs.Numbers.{mode}
+use Rattle.face.specs.Shown.{mode}
 use Rattle.face.proofs.shown.Laws.{of-answer}
 use Rattle.face.proofs.shown.answer.Statement.{statement}
 use Rattle.face.proofs.shown.answer.Tie as tie
