@@ -1,7 +1,10 @@
-//! Links the proved library, which `rt staticlib face` writes.
+//! Links the proved library, which `rt staticlib face` writes; tests/batch links the one of `rt staticlib batch` from the same folder.
 fn main() {
     let here = std::env::var("CARGO_MANIFEST_DIR").unwrap();
-    println!("cargo:rustc-link-search=native={here}/../target/staticlib");
+    let libraries = format!("{here}/../target/staticlib");
+    println!("cargo:rustc-link-search=native={libraries}");
     println!("cargo:rustc-link-lib=static=face");
-    println!("cargo:rerun-if-changed={here}/../target/staticlib/libface.a");
+    for library in ["face", "batch"] {
+        println!("cargo:rerun-if-changed={libraries}/lib{library}.a");
+    }
 }

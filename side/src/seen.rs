@@ -6,6 +6,7 @@ use crate::common::{marked, told};
 use crate::Told;
 use second::control::State;
 use second::refusal::Refusal;
+use std::fmt::Debug;
 
 /// How often each number came, 0 for done.
 pub type Numbers = [usize; 15];
@@ -23,11 +24,11 @@ pub struct Seen {
 const BEHIND: usize = 16;
 
 /// Both writers on marked buffers of one length.
-fn written(
-    input: &[u8],
+pub fn written<Input: Debug + ?Sized>(
+    input: &Input,
     length: usize,
-    ours: fn(&[u8], &mut [u8]) -> Told,
-    theirs: fn(&[u8], &mut [u8]) -> Result<usize, Refusal>,
+    ours: fn(&Input, &mut [u8]) -> Told,
+    theirs: fn(&Input, &mut [u8]) -> Result<usize, Refusal>,
 ) -> Told {
     let (mut left, mut wanted) = (marked(length + BEHIND), marked(length + BEHIND));
     let answer = ours(input, &mut left[..length]);

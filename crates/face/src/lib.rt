@@ -1,6 +1,7 @@
 // The C face (include/hoachulim.h): each function hands its bytes to a library and sets out the answer as numbers. Relies on the libraries for
 // everything else. Leaves out nothing that they answer, keeps no state, and asks nothing of its caller.
-mod shown;
+mod answers;
+pub mod shown;
 
 use files::plants;
 use meaning::State;
@@ -13,7 +14,8 @@ ghost use mathlib.Core.List.{[], _∷_};
 ghost use Rattle.meaning.specs.Refusals.{verdictShown, writtenShown, answerShown};
 ghost use Rattle.meaning.specs.Sheets.{madeLeft};
 ghost use Rattle.meaning.specs.Tables.{checked, makerLeft, controlled};
-ghost use Rattle.face.specs.Shown.{placeAndStep, lengthOrPlace, mode, numberAndState, stateOf};
+ghost use Rattle.face.specs.Answers.{mode, numberAndState, stateOf};
+ghost use Rattle.face.specs.Shown.{placeAndStep, lengthOrPlace};
 
 // A plant file: 0, or the number that it is refused by; out holds place and step.
 #[no_mangle]
@@ -87,5 +89,5 @@ pub extern "C" fn hoachulim_control(
         },
         [x0, x1, x2, x3],
     );
-    shown::answer(answer, out)
+    answers::answer(answer, out)
 }

@@ -1,11 +1,10 @@
-// Answers as numbers, the way C takes them. Relies on crates/meaning, page Refusals. Leaves out where the answer comes from.
-use meaning::Answer;
+// Verdicts and what a writer answers as numbers, the way C takes them. Relies on crates/meaning, page Refusals. Leaves out where they come from, and the
+// controller (answers).
 use meaning::Verdict;
 use meaning::Written;
 ghost use mathlib.Core.Path.{_≡_};
-ghost use Prim.Native.Nat.{_<_};
-ghost use Rattle.meaning.specs.Refusals.{verdictShown, writtenShown, answerShown};
-ghost use Rattle.face.specs.Shown.{placeAndStep, lengthOrPlace, mode, numberAndState};
+ghost use Rattle.meaning.specs.Refusals.{verdictShown, writtenShown};
+ghost use Rattle.face.specs.Shown.{placeAndStep, lengthOrPlace};
 
 // The number of a verdict; out holds place and step.
 pub fn verdict(v: Verdict, out: &mut [u64; 2]) -> u8
@@ -37,27 +36,5 @@ pub fn written(w: Written, out: &mut [u64; 2]) -> u8
             0
         }
         Written::Refused(e) => verdict(Verdict::Refused(e), out),
-    }
-}
-
-// The mode of a controller's answer, 255 where it is refused; out holds number and place of the refusal, then the next state.
-pub fn answer(a: Answer, out: &mut [u64; 4]) -> u8
-    requires { ⌜ mode (answerShown a) < 256 ⌝ }
-    ensures mode { λ r. ⌜ r ≡ mode (answerShown a) ⌝ }
-    ensures state { λ r. ⌜ now (out .exit) ≡ numberAndState (answerShown a) ⌝ }
-{
-    match a {
-        Answer::Mode(u, next) => {
-            let place = next.place as u64;
-            let left = next.left as u64;
-            *out = [0, 0, place, left];
-            u as u8
-        }
-        Answer::Refused(e) => {
-            let number = e.number as u64;
-            let place = e.place as u64;
-            *out = [number, place, 0, 0];
-            255
-        }
     }
 }

@@ -115,8 +115,8 @@ fn tree(shown: bool, n: usize, table: &[u8], d: usize, b: Bx, t: Tally) -> Tally
     };
     let mut c: usize = 0;
     while c < count {
-        let kid = boxes::child(n, b, c);
-        past = tree(shown, n, table, d - 1, kid, past);
+        let child = boxes::child(n, b, c);
+        past = tree(shown, n, table, d - 1, child, past);
         c += 1;
     }
     past

@@ -70,8 +70,8 @@ fn walk(f: Frame, coef: &[i64], table: &[u8], d: usize, at: usize, b: Bx) -> Wal
     let mut place = next;
     let mut c: usize = 0;
     while c < count {
-        let kid = boxes::child(n, b, c);
-        let past = walk(f, coef, table, d - 1, place, kid);
+        let child = boxes::child(n, b, c);
+        let past = walk(f, coef, table, d - 1, place, child);
         let Walk::Next(m) = past else {
             return past;
         };

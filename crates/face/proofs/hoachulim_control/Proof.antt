@@ -7,8 +7,8 @@ use denote.Ref.{now}
 use mir.Facts.{toZ-ofZ}
 use Rattle.meaning.specs.Tables.{controlled}
 use Rattle.promises.specs.ModeBytes.{mode-stands}
-use Rattle.face.specs.Shown.{stateOf}
-use Rattle.face.proofs.shown.Laws.{of-answer, mode-small}
+use Rattle.face.specs.Answers.{stateOf}
+use Rattle.face.proofs.answers.Laws.{of-answer, mode-small}
 use Rattle.face.proofs.hoachulim_control.Statement.{statement}
 use Rattle.face.proofs.hoachulim_control.Tie as tie
 

@@ -1,14 +1,14 @@
--- `shown::answer`: what is answered and stored is that of the case that the answer is. Assumes nothing.
+-- `answers::answer`: what is answered and stored is that of the case that the answer is. Assumes nothing.
 use Prim.Native.Nat.{_<_}
 use mathlib.Core.Path.{sym, subst}
 use native.Mathlib.Omega.{arith}
 use borrow.Author.Needs.{needs}
 use Rattle.meaning.specs.declared.Answer.{Answer}
 use Rattle.meaning.specs.Refusals.{answerShown}
-use Rattle.face.specs.Shown.{mode}
-use Rattle.face.proofs.shown.Laws.{of-answer}
-use Rattle.face.proofs.shown.answer.Statement.{statement}
-use Rattle.face.proofs.shown.answer.Tie as tie
+use Rattle.face.specs.Answers.{mode}
+use Rattle.face.proofs.answers.Laws.{of-answer}
+use Rattle.face.proofs.answers.answer.Statement.{statement}
+use Rattle.face.proofs.answers.answer.Tie as tie
 
 enum-known-a : tie.Need-enum-known-a
 enum-known-a c = search needs

@@ -1,0 +1,18 @@
+-- What is answered and put into `out` of a controller's call, and the state that it takes. Definitions alone.
+use Prim.Native.Nat.{ℕ}
+use mathlib.Core.List.{List, [], _∷_}
+use lib.IntN.{natAbs}
+use Rattle.laws.specs.Lists.{at}
+use Rattle.meaning.specs.declared.State.{State}
+use Rattle.meaning.specs.Refusals.{Shown}
+
+-- the mode; and number, place, next place, next left
+abbrev pub mode : Shown → ℕ
+mode a = natAbs (at (a .values) 0)
+
+abbrev pub numberAndState : Shown → List ℕ
+numberAndState a = a .number ∷ a .place ∷ natAbs (at (a .values) 1) ∷ natAbs (at (a .values) 2) ∷ []
+
+-- the state that place and left are
+abbrev pub stateOf : ℕ → ℕ → State
+stateOf place left = record { place = place; left = left }

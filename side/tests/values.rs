@@ -1,0 +1,288 @@
+//! The readers and writers that take or answer values, side by side: answer,
+//! every value and every byte of the buffer. Files read: seeded, spoiled, cut
+//! and damaged. Values written: seeded, and one at a time at its extremes, at
+//! every position, in buffers too short, just long enough and longer. Each
+//! number that a function can tell is seen, and no other.
+
+mod batch;
+
+use second::edges::Edges;
+use second::plant::Plant;
+use second::sheet::{Emitter, Room, Sheet};
+use side::common::{file, line_13, p_fields, plant_values, sheet_values, told, two_room_sheet, two_rooms, Field, S, U};
+use side::inputs::{damaged, plant_fields, random, rounds, sheet_fields, spoiled, A, B, BAND, EDGE};
+use side::seen::{written, Numbers};
+use side::Told;
+
+fn rooms(fields: &[Field]) -> usize {
+    let U(n) = fields[1] else { panic!("no n") };
+    n as usize
+}
+
+/// Each number that can be told came, no other did, and there were many comparisons.
+fn all_seen(name: &str, numbers: &Numbers, can_be: &[usize]) {
+    let total: usize = numbers.iter().sum();
+    println!("{name}: {total} comparisons, {numbers:?}");
+    for (number, times) in numbers.iter().enumerate() {
+        assert_eq!(*times > 20, can_be.contains(&number), "{name} told {number} {times} times");
+    }
+    assert!(total >= 100_000, "{name}: {total} comparisons");
+}
+
+// ---- reading
+
+fn read_plant(seen: &mut Numbers, bytes: &[u8]) -> (Told, Plant) {
+    let (answer, plant) = batch::read_plant(bytes);
+    let read = second::plant::read_plant(bytes);
+    assert_eq!(answer, told(read), "plant {bytes:?}");
+    assert_eq!(plant, read.unwrap_or(Plant::ZEROS), "plant {bytes:?}");
+    seen[usize::from(answer.0)] += 1;
+    (answer, plant)
+}
+
+#[test]
+fn plants_read() {
+    let (mut random, mut seen) = (random(10), Numbers::default());
+    let mut plants = vec![p_fields(), two_rooms()];
+    plants.extend((0..rounds(300)).map(|_| plant_fields(&mut random)));
+    for fields in plants {
+        let bytes = file(&fields);
+        assert_eq!(read_plant(&mut seen, &bytes), ((0, 0, 0), plant_values(&fields, rooms(&fields))));
+        for (other, wanted) in spoiled(&fields) {
+            assert_eq!(read_plant(&mut seen, &other), (wanted, Plant::ZEROS));
+        }
+        damaged(&mut random, &bytes, |other| {
+            read_plant(&mut seen, other);
+        });
+    }
+    all_seen("read_plant", &seen, &[0, 1, 2, 3, 4, 5]);
+}
+
+const NO_SHEET: Sheet = Sheet { n: 0, r: 0, q: 0, k: 0, d: 0, edges: Plant::ZEROS.edges, time: 0.0, outside: 0.0, rooms: [Room::ZEROS; 4] };
+
+fn read_sheet(seen: &mut Numbers, bytes: &[u8]) -> (Told, Sheet) {
+    let (answer, sheet) = batch::read_sheet(bytes);
+    let read = second::sheet::read_sheet(bytes);
+    assert_eq!(answer, told(read), "sheet {bytes:?}");
+    assert_eq!(batch::bits(&sheet), batch::bits(&read.unwrap_or(NO_SHEET)), "sheet {bytes:?}");
+    seen[usize::from(answer.0)] += 1;
+    (answer, sheet)
+}
+
+#[test]
+fn sheets_read() {
+    let (mut random, mut seen) = (random(11), Numbers::default());
+    let mut sheets = vec![line_13(), two_room_sheet()];
+    sheets.extend((0..rounds(300)).map(|_| sheet_fields(&mut random)));
+    for fields in sheets {
+        let bytes = file(&fields);
+        let (answer, sheet) = read_sheet(&mut seen, &bytes);
+        if answer.0 == 0 {
+            assert_eq!(batch::bits(&sheet), batch::bits(&sheet_values(&fields, rooms(&fields))));
+        }
+        for (other, wanted) in spoiled(&fields) {
+            assert_eq!(read_sheet(&mut seen, &other).0, wanted);
+        }
+        damaged(&mut random, &bytes, |other| {
+            read_sheet(&mut seen, other);
+        });
+    }
+    for _ in 0..rounds(5_000) {
+        read_sheet(&mut seen, &file(&sheet_fields(&mut random)));
+    }
+    all_seen("read_sheet", &seen, &[0, 1, 2, 3, 4, 5, 13, 14]);
+}
+
+// ---- writing
+
+/// What a number of the header is tried at: the end of each range and one beyond it, and where it takes more bytes than a number may have.
+fn counts() -> Vec<u64> {
+    let ends = [0, 2, 4, 6, 12, 16, 127, 1_000, 10_000, 1 << 32, (1 << 35) - 1, i64::MAX as u64, u64::MAX - 1];
+    ends.iter().flat_map(|end| [*end, end + 1]).collect()
+}
+
+/// What a signed number is tried at, in the same way.
+fn signed_counts() -> Vec<i64> {
+    let ends = [0, 1, 63, 64, A, B, BAND, EDGE, 1 << 32, (1 << 34) - 1, i64::MAX - 1];
+    let mut counts: Vec<i64> = ends.iter().flat_map(|end| [*end, end + 1, -end, -end - 1]).collect();
+    counts.push(i64::MIN);
+    counts
+}
+
+/// What a float is tried at, with either sign; the last is a signalling NaN.
+fn floats() -> Vec<f64> {
+    let signalling = f64::from_bits(0x7FF0_0000_0000_0001);
+    let floats = [0.0, 5e-324, 1e-310, f64::MIN_POSITIVE, 0.5, 1.0, 1e7, f64::MAX, f64::INFINITY, f64::NAN, signalling];
+    floats.iter().flat_map(|float| [*float, -float]).collect()
+}
+
+/// None, and each value of each kind at its extremes.
+fn emitters() -> Vec<Emitter> {
+    let mut emitters = vec![Emitter::None];
+    for float in floats() {
+        emitters.extend([
+            Emitter::Heater { p: float, water: 40.0 },
+            Emitter::Heater { p: 0.125, water: float },
+            Emitter::Heater { p: float, water: float },
+            Emitter::Steady { rate: float },
+        ]);
+    }
+    emitters
+}
+
+/// What is given with one value in a place of it, each of these in turn.
+fn each<T: Copy, Value: Copy>(of: &T, place: impl Fn(&mut T) -> &mut Value, values: &[Value], mut one: impl FnMut(&T)) {
+    for value in values {
+        let mut other = *of;
+        *place(&mut other) = *value;
+        one(&other);
+    }
+}
+
+/// Each edge of R, S and w, beyond n too, at its extremes and about the others of its dimension.
+fn edges_at_extremes(edges: &Edges, q: u64, mut one: impl FnMut(&Edges)) {
+    let sides: [fn(&mut Edges) -> &mut [i64; 4]; 6] =
+        [|e| &mut e.r_lo, |e| &mut e.r_hi, |e| &mut e.s_lo, |e| &mut e.s_hi, |e| &mut e.w_lo, |e| &mut e.w_hi];
+    for i in 0..4 {
+        let of_room = sides.map(|side| side(&mut edges.clone())[i]);
+        let mut values = signed_counts();
+        values.extend(of_room.iter().flat_map(|edge| [edge.saturating_sub(1), *edge, edge + 1]));
+        // the narrowest band there may be, and one narrower
+        let span = q.min(10_000) as i64 - 1;
+        let [w_lo, w_hi] = [edges.w_lo[i] + span, edges.w_hi[i].saturating_sub(span)];
+        values.extend([w_lo, w_lo - 1, w_hi, w_hi + 1]);
+        for side in sides {
+            each(edges, |e| &mut side(e)[i], &values, &mut one);
+        }
+    }
+}
+
+fn plants_at_extremes(plant: &Plant, mut one: impl FnMut(&Plant)) {
+    each(plant, |p| &mut p.n, &counts(), &mut one);
+    each(plant, |p| &mut p.modes, &counts(), &mut one);
+    each(plant, |p| &mut p.q, &counts(), &mut one);
+    each(plant, |p| &mut p.k, &counts(), &mut one);
+    each(plant, |p| &mut p.d, &counts(), &mut one);
+    edges_at_extremes(&plant.edges, plant.q, |edges| one(&Plant { edges: *edges, ..*plant }));
+    for at in 0..second::COEFFICIENTS {
+        each(plant, |p| &mut p.coefficients[at], &signed_counts(), &mut one);
+    }
+}
+
+fn sheets_at_extremes(sheet: &Sheet, mut one: impl FnMut(&Sheet)) {
+    each(sheet, |h| &mut h.n, &counts(), &mut one);
+    each(sheet, |h| &mut h.r, &counts(), &mut one);
+    each(sheet, |h| &mut h.q, &counts(), &mut one);
+    each(sheet, |h| &mut h.k, &counts(), &mut one);
+    each(sheet, |h| &mut h.d, &counts(), &mut one);
+    edges_at_extremes(&sheet.edges, sheet.q, |edges| one(&Sheet { edges: *edges, ..*sheet }));
+    each(sheet, |h| &mut h.time, &floats(), &mut one);
+    each(sheet, |h| &mut h.outside, &floats(), &mut one);
+    for i in 0..4 {
+        each(sheet, |h| &mut h.rooms[i].loss, &floats(), &mut one);
+        for j in 0..3 {
+            each(sheet, |h| &mut h.rooms[i].exchange[j], &floats(), &mut one);
+        }
+        each(sheet, |h| &mut h.rooms[i].emitter, &emitters(), &mut one);
+    }
+}
+
+fn write_plant(seen: &mut Numbers, plant: &Plant, length: usize) -> Told {
+    let answer = written(plant, length, batch::write_plant, second::plant::write_plant);
+    seen[usize::from(answer.0)] += 1;
+    answer
+}
+
+fn write_sheet(seen: &mut Numbers, sheet: &Sheet, length: usize) -> Told {
+    let answer = written(sheet, length, batch::write_sheet, second::sheet::write_sheet);
+    seen[usize::from(answer.0)] += 1;
+    answer
+}
+
+/// In a buffer with room; where that is written, also in one just long enough, and in one a byte shorter. The first answer.
+fn about_its_length(mut write: impl FnMut(usize) -> Told) -> Told {
+    let answer = write(second::LARGEST_PLANT + 1);
+    if answer.0 == 0 {
+        let length = answer.1 as usize;
+        assert_eq!(write(length), answer);
+        assert_eq!(write(length - 1), (10, 0, 0));
+    }
+    answer
+}
+
+const FAR: Edges =
+    Edges { r_lo: [i64::MIN; 4], r_hi: [i64::MIN; 4], s_lo: [i64::MIN; 4], s_hi: [i64::MIN; 4], w_lo: [i64::MIN; 4], w_hi: [i64::MIN; 4] };
+
+/// Numbers of ten bytes wherever they do not end the file: the longest file that a plant's values would be.
+const FAR_PLANT: Plant =
+    Plant { n: 4, modes: 16, q: u64::MAX, k: u64::MAX, d: u64::MAX, edges: FAR, coefficients: [i64::MIN; second::COEFFICIENTS] };
+
+/// The same of a sheet's.
+const FAR_SHEET: Sheet = Sheet {
+    n: 4,
+    r: u64::MAX,
+    q: u64::MAX,
+    k: u64::MAX,
+    d: u64::MAX,
+    edges: FAR,
+    time: f64::MAX,
+    outside: f64::MAX,
+    rooms: [Room { emitter: Emitter::Heater { p: f64::MAX, water: f64::MAX }, ..Room::ZEROS }; 4],
+};
+
+/// 1,183 bytes: every number as long as it can be.
+fn longest_plant() -> Vec<Field> {
+    let mut fields = [1, 4, 16, 10_000, 6, 3].map(U).to_vec();
+    fields.extend([-EDGE, EDGE].repeat(8).into_iter().map(S));
+    fields.extend([-BAND, BAND].repeat(4).into_iter().map(S));
+    fields.extend([A, -A, -A, A, -B].repeat(64).into_iter().map(S));
+    assert_eq!(file(&fields).len(), second::LARGEST_PLANT);
+    fields
+}
+
+#[test]
+fn plants_written() {
+    let (mut random, mut seen) = (random(12), Numbers::default());
+    let mut plants = vec![p_fields(), two_rooms(), longest_plant()];
+    plants.extend((0..rounds(10)).map(|_| plant_fields(&mut random)));
+    let mut values = vec![FAR_PLANT];
+    for fields in plants {
+        let (plant, made) = (plant_values(&fields, rooms(&fields)), file(&fields).len());
+        for length in 0..=made + 1 {
+            let wanted = if length < made { (10, 0, 0) } else { (0, made as u64, 0) };
+            assert_eq!(write_plant(&mut seen, &plant, length), wanted);
+        }
+        values.push(plant);
+    }
+    for plant in values {
+        plants_at_extremes(&plant, |other| {
+            about_its_length(|length| write_plant(&mut seen, other, length));
+        });
+    }
+    all_seen("write_plant", &seen, &[0, 1, 3, 4, 5, 10]);
+}
+
+#[test]
+fn sheets_written() {
+    let (mut random, mut seen) = (random(13), Numbers::default());
+    let mut sheets = vec![line_13(), two_room_sheet()];
+    sheets.extend((0..rounds(50)).map(|_| sheet_fields(&mut random)));
+    let mut values = vec![FAR_SHEET];
+    for fields in sheets {
+        let sheet = sheet_values(&fields, rooms(&fields));
+        for length in 0..=file(&fields).len() + 1 {
+            write_sheet(&mut seen, &sheet, length);
+        }
+        values.push(sheet);
+    }
+    for sheet in values {
+        sheets_at_extremes(&sheet, |other| {
+            about_its_length(|length| write_sheet(&mut seen, other, length));
+        });
+    }
+    for _ in 0..rounds(5_000) {
+        let fields = sheet_fields(&mut random);
+        about_its_length(|length| write_sheet(&mut seen, &sheet_values(&fields, rooms(&fields)), length));
+    }
+    all_seen("write_sheet", &seen, &[0, 1, 3, 4, 5, 10, 13, 14]);
+}
