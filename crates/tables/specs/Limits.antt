@@ -1,5 +1,6 @@
 -- Limits: where the sums of a row over a box have to lie for the side of the image to lie in a given side, so that no division is needed to
--- tell it; the array in which the search is lent them; and a plant of which the search is lent only a part. Definitions alone.
+-- tell it; the array in which the search is lent them, with a mark for each mode whose matrix the next one shares; and a plant of which the
+-- search is lent only a part. Definitions alone.
 use Prim.Native.Nat.{ℕ, _+_, _≤_, _<_}
 use mathlib.Core.Path.{_≡_}
 use mathlib.Core.Bool.{Bool}
@@ -15,7 +16,7 @@ use Rattle.meaning.specs.Boxes.{Side, side, sideAt, covers}
 use Rattle.meaning.specs.Images.{leastOf, greatestOf, extreme}
 use Rattle.meaning.specs.Plants.{rowStart}
 use Rattle.promises.specs.Sound.{Sound}
-use Rattle.tables.specs.Images.{entriesOf, RowSound}
+use Rattle.tables.specs.Images.{entriesOf, RowSound, Extremes}
 
 -- ceil(v / q) ≥ lo exactly when v ≥ q·(lo − 1) + 1, floor(v / q) ≤ hi exactly when v ≤ q·(hi + 1) − 1; v is a sum with an end of the band w
 abbrev pub limitSide : ℕ → Side → Side → Side
@@ -29,7 +30,7 @@ sumSide n coef start b = side (extreme leastOf (entriesOf n coef start) b +ℤ a
 abbrev pub divided : ℕ → Side → Side → Side
 divided q w s = side (ceilZ (s .lo +ℤ w .lo) q) (floorZ (s .hi +ℤ w .hi) q)
 
--- ---- three boxes in one array of 24, lows and highs of each in four: the limits of S at 0, those of R at 8, the band at 16
+-- ---- three boxes in the front of one array of 40, lows and highs of each in four: the limits of S at 0, those of R at 8, the band at 16
 
 abbrev pub lentSide : List ℤ → ℕ → ℕ → Side
 lentSide limits base i = side (at limits (base + i)) (at limits (base + 4 + i))
@@ -42,6 +43,20 @@ pub record Laid (n q : ℕ) (root safe band : ℕ → Side) (limits : List ℤ) 
   pub in-safe : (i : ℕ) → i < n → lentSide limits 0 i ≡ limitSide q (band i) (safe i)
   pub in-root : (i : ℕ) → i < n → lentSide limits 8 i ≡ limitSide q (band i) (root i)
   pub in-band : (i : ℕ) → i < n → lentSide limits 16 i ≡ band i
+
+-- ---- behind them, at 24 + u, a mark: 0, unless mode u + 1 has the matrix of mode u
+
+abbrev pub Alike : ℕ → List ℤ → ℕ → Type 0
+Alike n coef u = (i : ℕ) → i < n → entriesOf n coef (rowStart n u i) ≡ entriesOf n coef (rowStart n (u + 1) i)
+
+abbrev pub Marked : ℕ → ℕ → List ℤ → List ℤ → Type 0
+Marked n modes coef limits = (u : ℕ) → u + 1 < modes → (at limits (24 + u) ≡ pos 0 → ⊥) → Alike n coef u
+
+-- ---- tests of sums, and what the sums are divided to
+
+-- two arrays hold the extremes of the first k rows of mode u over box b
+abbrev pub Kept : ℕ → List ℤ → ℕ → List Side → ℕ → List ℤ → List ℤ → Type 0
+Kept n coef u b k lo hi = (i : ℕ) → i < n → i < k → Extremes (entriesOf n coef (rowStart n u i)) b (at lo i) (at hi i)
 
 -- the sums of row i of mode u over box b lie in the limits at `base`
 abbrev pub coveredAt : ℕ → List ℤ → List ℤ → ℕ → ℕ → List Side → ℕ → Bool
@@ -105,10 +120,11 @@ plantLent x n modes q coef = record {
   coef = coef;
 }
 
--- a sound plant and its limits
+-- a sound plant, its limits and its marks
 pub record Ready (p : Plant) (limits : List ℤ) : Type 0 where
   pub sound : Sound p
   pub laid : Laid (p .n) (p .q) (sideAt (p .rlo) (p .rhi)) (sideAt (p .slo) (p .shi)) (sideAt (p .wlo) (p .whi)) limits
+  pub marked : Marked (p .n) (p .modes) (p .coef) limits
 
 pub record Lent (n modes q : ℕ) (coef limits : List ℤ) : Type 0 where
   pub rest : Unlent

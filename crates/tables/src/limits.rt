@@ -1,13 +1,18 @@
-// Limits: where the sums of a row have to lie for an image to lie in S or in R. With them the search tells both without dividing.
+// Limits: where the sums of a row have to lie for an image to lie in S or in R, with which the search tells both without dividing; and marks of
+// modes that have one matrix, as those of a sheet all have, with which it makes what it needs of that matrix once for all of them.
 // Relies on frames, and on images for a pair of numbers. Leaves out the sums themselves (images) and who tests them (steps).
 use crate::frames::Frame;
 use crate::images::Span;
 ghost use mathlib.Core.Path.{_≡_};
-ghost use Prim.Native.Nat.{_≤_, _<_};
+ghost use mathlib.Core.Bool.{true};
+ghost use Prim.Native.Nat.{ℕ, _+_, _≤_, _<_};
+ghost use lib.ListN.{length};
+ghost use lib.IntN.{pos};
 ghost use Rattle.meaning.specs.Boxes.{side, sideAt};
 ghost use Rattle.meaning.specs.Plants.{edgeLimit, bandLimit};
 ghost use Rattle.tables.specs.Boxes.{boxOf, Bounded, Small};
-ghost use Rattle.tables.specs.Limits.{limitSide, stored, Laid};
+ghost use Rattle.tables.specs.Images.{entriesOf, RowSound};
+ghost use Rattle.tables.specs.Limits.{limitSide, stored, Laid, Alike, Marked, RowsSound};
 
 // The limits of side l..h with the band wl..wh: q·(l - 1) + 1 - wl, and q·(h + 1) - 1 - wh.
 fn around(q: usize, wl: i64, wh: i64, l: i64, h: i64) -> Span
@@ -21,7 +26,7 @@ fn around(q: usize, wl: i64, wh: i64, l: i64, h: i64) -> Span
 }
 
 // Side i of the box at `base`.
-fn put_side(limits: &mut [i64; 24], base: usize, i: usize, from: i64, to: i64)
+fn put_side(limits: &mut [i64; 40], base: usize, i: usize, from: i64, to: i64)
     requires { ⌜ (base ≤ 16) × (i < 4) ⌝ }
     ensures { λ _. ⌜ now (limits .exit) ≡ stored (now (limits .entry)) base i (side from to) ⌝ }
 {
@@ -29,20 +34,22 @@ fn put_side(limits: &mut [i64; 24], base: usize, i: usize, from: i64, to: i64)
     limits[base + 4 + i] = to;
 }
 
-// What the search is lent: the limits of S, those of R, and the band; of each box four lows, then four highs.
+// What the search is lent: the limits of S, those of R, and the band, of each box four lows, then four highs; then the marks of the modes.
 pub struct Limits {
-    pub of: [i64; 24],
+    pub of: [i64; 40],
 }
 
-pub fn lay(f: Frame) -> Limits
+// The three boxes.
+fn lay_boxes(f: Frame) -> Limits
     requires sizes { ⌜ (f .n ≤ 4) × (f .q ≤ 10_000) ⌝ }
     requires boxes { ⌜ Small bandLimit (boxOf (f .n) (f .band)) × Small edgeLimit (boxOf (f .n) (f .root)) × Small edgeLimit (boxOf (f .n) (f .safe)) ⌝ }
-    ensures { λ r. ⌜ Laid (f .n) (f .q) (sideAt (f .root .lo) (f .root .hi)) (sideAt (f .safe .lo) (f .safe .hi)) (sideAt (f .band .lo) (f .band .hi)) (r .of) ⌝ }
+    ensures laid { λ r. ⌜ Laid (f .n) (f .q) (sideAt (f .root .lo) (f .root .hi)) (sideAt (f .safe .lo) (f .safe .hi)) (sideAt (f .band .lo) (f .band .hi)) (r .of) ⌝ }
+    ensures size { λ r. ⌜ length (r .of) ≡ 40 ⌝ }
 {
     let band = f.band;
     let safe = f.safe;
     let root = f.root;
-    let mut of = [0i64; 24];
+    let mut of = [0i64; 40];
     let mut i: usize = 0;
     while i < f.n {
         let wl = band.lo[i];
@@ -57,6 +64,59 @@ pub fn lay(f: Frame) -> Limits
         put_side(&mut of, 8, i, r.lo, r.hi);
         put_side(&mut of, 16, i, wl, wh);
         i += 1;
+    }
+    Limits { of }
+}
+
+// Whether two rows have the same entries.
+fn same_row(n: usize, coef: &[i64], a: usize, b: usize) -> bool
+    requires { ⌜ RowSound n (now coef) a × RowSound n (now coef) b ⌝ }
+    ensures { λ r. ⌜ (r ≡ true → entriesOf n (now (coef .entry)) a ≡ entriesOf n (now (coef .entry)) b) ⌝ }
+{
+    let mut j: usize = 0;
+    while j < n {
+        let x = coef[a + j];
+        let y = coef[b + j];
+        if x == y {
+            j += 1;
+        } else {
+            return false;
+        }
+    }
+    true
+}
+
+// The mark of mode u: 1 where the mode behind it has the same matrix, else 0.
+fn mark(n: usize, coef: &[i64], u: usize) -> i64
+    requires { ⌜ (u < 16) × RowsSound n (now coef) u × RowsSound n (now coef) (u + 1) ⌝ }
+    ensures { λ r. ⌜ ((r ≡ pos 0 → ⊥) → Alike n (now (coef .entry)) u) ⌝ }
+{
+    let mut i: usize = 0;
+    while i < n {
+        if same_row(n, coef, (u * n + i) * (n + 1), ((u + 1) * n + i) * (n + 1)) {
+            i += 1;
+        } else {
+            return 0;
+        }
+    }
+    1
+}
+
+// The boxes, and behind them the marks.
+pub fn lay(f: Frame, coef: &[i64]) -> Limits
+    requires sizes { ⌜ (f .n ≤ 4) × (f .q ≤ 10_000) × (f .modes ≤ 16) ⌝ }
+    requires boxes { ⌜ Small bandLimit (boxOf (f .n) (f .band)) × Small edgeLimit (boxOf (f .n) (f .root)) × Small edgeLimit (boxOf (f .n) (f .safe)) ⌝ }
+    requires rows { ⌜ ((u : ℕ) → u < f .modes → RowsSound (f .n) (now coef) u) ⌝ }
+    ensures laid { λ r. ⌜ Laid (f .n) (f .q) (sideAt (f .root .lo) (f .root .hi)) (sideAt (f .safe .lo) (f .safe .hi)) (sideAt (f .band .lo) (f .band .hi)) (r .of) ⌝ }
+    ensures marked { λ r. ⌜ Marked (f .n) (f .modes) (now (coef .entry)) (r .of) ⌝ }
+{
+    let laid = lay_boxes(f);
+    let mut of = laid.of;
+    let mut u: usize = 0;
+    while u + 1 < f.modes {
+        let m = mark(f.n, coef, u);
+        of[24 + u] = m;
+        u += 1;
     }
     Limits { of }
 }

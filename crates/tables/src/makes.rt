@@ -53,7 +53,7 @@ fn put_tile(buf: &mut [u8], at: usize, k: usize, code: usize) -> usize
 fn tree(
     f: Frame,
     coef: &[i64],
-    limits: &[i64; 24],
+    limits: &[i64; 40],
     d: usize,
     b: Bx,
     buf: &mut [u8],
@@ -97,7 +97,7 @@ fn table(p: Plant, buf: &mut [u8]) -> Grown
 {
     let f = frames::framed(p);
     let coef = p.coef;
-    let laid = limits::lay(f);
+    let laid = limits::lay(f, &coef);
     let limits = laid.of;
     let root = f.root;
     let past_form = numbers::put_number(buf, 0, 1);

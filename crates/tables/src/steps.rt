@@ -6,17 +6,18 @@ use crate::division;
 use crate::images;
 use crate::images::Span;
 ghost use mathlib.Core.Path.{_≡_};
-ghost use mathlib.Core.Bool.{true};
-ghost use Prim.Native.Nat.{ℕ, _-_, _≤_, _<_};
+ghost use mathlib.Core.Bool.{true, false};
+ghost use mathlib.Core.Logic.{_⊎_};
+ghost use Prim.Native.Nat.{ℕ, _+_, _-_, _≤_, _<_};
 ghost use lib.ListN.{length};
-ghost use lib.IntN.{natAbs};
-ghost use Rattle.laws.specs.Lists.{tab};
+ghost use lib.IntN.{natAbs, pos};
+ghost use Rattle.laws.specs.Lists.{at, tab};
 ghost use Rattle.meaning.specs.Boxes.{side, sidesOf, covers};
 ghost use Rattle.meaning.specs.Defined.{firstMode};
-ghost use Rattle.meaning.specs.Plants.{edgeLimit, bandLimit};
+ghost use Rattle.meaning.specs.Plants.{edgeLimit, bandLimit, rowStart};
 ghost use Rattle.tables.specs.Boxes.{Small};
 ghost use Rattle.tables.specs.Images.{RowSound};
-ghost use Rattle.tables.specs.Limits.{addLimit, sumSide, sumsAt, lentSide, covered, landing, dividedIn, dividedAt, Within, RowsSound};
+ghost use Rattle.tables.specs.Limits.{addLimit, sumSide, sumsAt, lentSide, covered, landing, dividedIn, dividedAt, Within, RowsSound, Marked, Kept};
 ghost use Rattle.tables.specs.Search.{oneOf};
 
 // The least and the greatest of A·x + b over a box, by the row that starts at `start`.
@@ -36,7 +37,7 @@ fn sums(n: usize, coef: &[i64], start: usize, lo: &[i64; 4], hi: &[i64; 4]) -> S
 }
 
 // Whether sums lie in side i of the limits at `base`.
-fn inside(limits: &[i64; 24], base: usize, i: usize, least: i64, greatest: i64) -> bool
+fn inside(limits: &[i64; 40], base: usize, i: usize, least: i64, greatest: i64) -> bool
     requires { ⌜ (base ≤ 16) × (i < 4) ⌝ }
     ensures { λ r. ⌜ r ≡ covers (lentSide (now (limits .entry)) base i) (side least greatest) ⌝ }
 {
@@ -45,44 +46,109 @@ fn inside(limits: &[i64; 24], base: usize, i: usize, least: i64, greatest: i64) 
     boxes::ordered(from, least, greatest, to)
 }
 
-// Whether the image of a box under mode u lies in R.
-fn lands(n: usize, coef: &[i64], limits: &[i64; 24], u: usize, lo: &[i64; 4], hi: &[i64; 4]) -> bool
-    requires { ⌜ RowsSound n (now coef) u × Small edgeLimit (sidesOf n (now lo) (now hi)) ⌝ }
-    ensures { λ r. ⌜ r ≡ covered n (now (coef .entry)) (now (limits .entry)) 8 u (sidesOf n (now (lo .entry)) (now (hi .entry))) ⌝ }
+// The extremes of row i under mode u, put into elo and ehi unless they are among the first `have`, which stand there.
+fn keep(
+    n: usize,
+    coef: &[i64],
+    u: usize,
+    i: usize,
+    lo: &[i64; 4],
+    hi: &[i64; 4],
+    have: usize,
+    elo: &mut [i64; 4],
+    ehi: &mut [i64; 4],
+)
+    requires row { ⌜ (i < n) × RowSound n (now coef) (rowStart n u i) × Small edgeLimit (sidesOf n (now lo) (now hi)) × (length (now elo) ≡ 4) × (length (now ehi) ≡ 4) ⌝ }
+    requires kept { ⌜ Kept n (now coef) u (sidesOf n (now lo) (now hi)) have (now elo) (now ehi) × Kept n (now coef) u (sidesOf n (now lo) (now hi)) i (now elo) (now ehi) ⌝ }
+    ensures kept { λ _. ⌜ Kept n (now (coef .entry)) u (sidesOf n (now (lo .entry)) (now (hi .entry))) have (now (elo .exit)) (now (ehi .exit)) × Kept n (now (coef .entry)) u (sidesOf n (now (lo .entry)) (now (hi .entry))) (i + 1) (now (elo .exit)) (now (ehi .exit)) ⌝ }
+    ensures room { λ _. ⌜ (length (now (elo .exit)) ≡ 4) × (length (now (ehi .exit)) ≡ 4) ⌝ }
+{
+    if have <= i {
+        let e = images::extremes(n, coef, (u * n + i) * (n + 1), lo, hi);
+        let least = e.lo;
+        let greatest = e.hi;
+        elo[i] = least;
+        ehi[i] = greatest;
+    }
+}
+
+// The first row under mode u whose sums over a box leave the limits of R; n where none does, and the image lies in R. The extremes of the first
+// `have` rows stand in elo and ehi, and those of the rows up to the answer are left there.
+fn lands(
+    n: usize,
+    coef: &[i64],
+    limits: &[i64; 40],
+    u: usize,
+    lo: &[i64; 4],
+    hi: &[i64; 4],
+    have: usize,
+    elo: &mut [i64; 4],
+    ehi: &mut [i64; 4],
+) -> usize
+    requires rows { ⌜ RowsSound n (now coef) u × Small edgeLimit (sidesOf n (now lo) (now hi)) ⌝ }
+    requires kept { ⌜ Kept n (now coef) u (sidesOf n (now lo) (now hi)) have (now elo) (now ehi) × (length (now elo) ≡ 4) × (length (now ehi) ≡ 4) ⌝ }
+    ensures leaves { λ r. ⌜ (r < n → false ≡ covered n (now (coef .entry)) (now (limits .entry)) 8 u (sidesOf n (now (lo .entry)) (now (hi .entry)))) ⌝ }
+    ensures lands { λ r. ⌜ (n ≤ r → true ≡ covered n (now (coef .entry)) (now (limits .entry)) 8 u (sidesOf n (now (lo .entry)) (now (hi .entry)))) ⌝ }
+    ensures kept { λ r. ⌜ Kept n (now (coef .entry)) u (sidesOf n (now (lo .entry)) (now (hi .entry))) have (now (elo .exit)) (now (ehi .exit)) × Kept n (now (coef .entry)) u (sidesOf n (now (lo .entry)) (now (hi .entry))) (r + 1) (now (elo .exit)) (now (ehi .exit)) ⌝ }
+    ensures room { λ r. ⌜ (length (now (elo .exit)) ≡ 4) × (length (now (ehi .exit)) ≡ 4) ⌝ }
 {
     let mut i: usize = 0;
     while i < n {
-        let s = sums(n, coef, (u * n + i) * (n + 1), lo, hi);
-        let least = s.lo;
-        let greatest = s.hi;
-        if inside(limits, 8, i, least, greatest) {
+        keep(n, coef, u, i, lo, hi, have, elo, ehi);
+        let offset = coef[(u * n + i) * (n + 1) + n];
+        let least = elo[i];
+        let greatest = ehi[i];
+        if inside(limits, 8, i, least + offset, greatest + offset) {
             i += 1;
         } else {
-            return false;
+            return i;
         }
     }
-    true
+    i
 }
 
-// The first of the modes from..to under which the image of a box lies in R; `to` where there is none.
+// How many rows stand in the arrays for the mode behind mode u, where mode u came to row r: none unless it shares the matrix of mode u.
+fn left(limits: &[i64; 40], u: usize, have: usize, r: usize) -> usize
+    requires { ⌜ (u < 16) × (r < 4) ⌝ }
+    ensures { λ k. ⌜ (k ≡ 0) ⊎ ((at (now (limits .entry)) (24 + u) ≡ pos 0 → ⊥) × ((k ≡ have) ⊎ (k ≡ r + 1))) ⌝ }
+{
+    let mark = limits[24 + u];
+    if mark == 0 {
+        return 0;
+    }
+    if have <= r {
+        return r + 1;
+    }
+    have
+}
+
+// The first of the modes from..to under which the image of a box lies in R; `to` where there is none. Modes that share a matrix share the
+// extremes of its rows, each made where it is first needed.
 pub fn last(
     n: usize,
     from: usize,
     to: usize,
     coef: &[i64],
-    limits: &[i64; 24],
+    limits: &[i64; 40],
     lo: &[i64; 4],
     hi: &[i64; 4],
 ) -> usize
     requires { ⌜ (from ≤ to) × ((u : ℕ) → u < to → RowsSound n (now coef) u) × Small edgeLimit (sidesOf n (now lo) (now hi)) ⌝ }
+    requires marks { ⌜ (to ≤ 16) × Marked n to (now coef) (now limits) ⌝ }
     ensures { λ r. ⌜ oneOf to r ≡ firstMode (landing n (now (coef .entry)) (now (limits .entry)) (sidesOf n (now (lo .entry)) (now (hi .entry)))) (to - from) from ⌝ }
 {
+    let mut elo = [0i64; 4];
+    let mut ehi = [0i64; 4];
+    let mut have: usize = 0;
     let mut u = from;
     while u < to {
-        if lands(n, coef, limits, u, lo, hi) {
+        let r = lands(n, coef, limits, u, lo, hi, have, &mut elo, &mut ehi);
+        if r < n {
+            have = left(limits, u, have, r);
+            u += 1;
+        } else {
             return u;
         }
-        u += 1;
     }
     u
 }
@@ -91,7 +157,7 @@ pub fn last(
 fn stays(
     n: usize,
     coef: &[i64],
-    limits: &[i64; 24],
+    limits: &[i64; 40],
     u: usize,
     lo: &[i64; 4],
     hi: &[i64; 4],
@@ -122,7 +188,7 @@ fn stays(
 }
 
 // The sides of an image in place of its sums: with the band added, divided by q.
-fn divide(n: usize, q: usize, limits: &[i64; 24], lo: &mut [i64; 4], hi: &mut [i64; 4])
+fn divide(n: usize, q: usize, limits: &[i64; 40], lo: &mut [i64; 4], hi: &mut [i64; 4])
     requires step { ⌜ (n ≤ 4) × (1 ≤ q) × (q ≤ 10_000) × Small bandLimit (tab (lentSide (now limits) 16) n 0) ⌝ }
     requires sums { ⌜ Within addLimit n (now lo) (now hi) × (length (now lo) ≡ 4) × (length (now hi) ≡ 4) ⌝ }
     ensures sides { λ _. ⌜ sidesOf n (now (lo .exit)) (now (hi .exit)) ≡ tab (dividedIn q (now (limits .entry)) (now (lo .entry)) (now (hi .entry))) n 0 ⌝ }
@@ -148,7 +214,7 @@ pub fn step(
     n: usize,
     q: usize,
     coef: &[i64],
-    limits: &[i64; 24],
+    limits: &[i64; 40],
     u: usize,
     lo: &[i64; 4],
     hi: &[i64; 4],

@@ -1,4 +1,5 @@
--- Laws for the proof of module limits: limits fit the machine's words, and the array is laid dimension by dimension. Assumes nothing.
+-- Laws for the proof of module limits: limits fit the machine's words; the array is laid dimension by dimension, and marked mode by mode.
+-- Assumes nothing.
 use Prim.Native.Nat.{ℕ, _+_, _≤_, _<_}
 use mathlib.Core.Path.{_≡_, refl, sym, ap, _∙_}
 use mathlib.Core.List.{List}
@@ -16,7 +17,7 @@ use Rattle.laws.specs.Expressions.{Ex, var, lit, _⊕_, _⊝_, _⊗_, bound, si
 use Rattle.meaning.specs.Boxes.{Side, side}
 use Rattle.meaning.specs.Plants.{edgeLimit, bandLimit}
 use Rattle.tables.specs.Boxes.{Bounded}
-use Rattle.tables.specs.Limits.{limitSide, lentSide, stored, Laid}
+use Rattle.tables.specs.Limits.{limitSide, lentSide, stored, Laid, Alike}
 
 -- ---- what the machine holds of a side: itself, of a small one and of its limits
 
@@ -92,7 +93,7 @@ module _ (q : ℕ) (root safe band : ℕ → Side) where
   laid-none l = record { in-safe = λ i h. absurd (omega arith); in-root = λ i h. absurd (omega arith); in-band = λ i h. absurd (omega arith) }
 
   -- dimension i behind i of them
-  module _ (i : ℕ) (l : List ℤ) (s r w : Side) (z : length l ≡ 24) (h : i < 4) where
+  module _ (i : ℕ) (l : List ℤ) (s r w : Side) (z : length l ≡ 40) (h : i < 4) where
     abbrev first : List ℤ
     first = stored l 0 i s
 
@@ -111,9 +112,35 @@ module _ (q : ℕ) (root safe band : ℕ → Side) where
 
     -- x, y and v are the array after each side that is set
     pub laid-more : {x y v : List ℤ} → x ≡ stored l 0 i s → y ≡ stored x 8 i r → v ≡ stored y 16 i w → s ≡ limitSide q (band i) (safe i) → r ≡ limitSide q (band i) (root i) → w ≡ band i
-        → Laid i q root safe band l → (length v ≡ 24) × Laid (i + 1) q root safe band v
+        → Laid i q root safe band l → (length v ≡ 40) × Laid (i + 1) q root safe band v
     laid-more ex ey ev es er ew g =
         rw (ev, ey, ex) (length-stored second 16 i w ∙ length-stored first 8 i r ∙ length-stored l 0 i s ∙ z, laid-stored es er ew g)
+
+-- ---- behind the boxes, the marks
+
+pub laid-behind : {n q : ℕ} {root safe band : ℕ → Side} {l : List ℤ} (k : ℕ) (z : ℤ) → n ≤ 4 → 24 ≤ k → Laid n q root safe band l → Laid n q root safe band (set l k z)
+laid-behind {n} {q} {root} {safe} {band} {l} k z h m g = record {
+  in-safe = λ i o. front 0 i (omega arith) (omega arith) ∙ g .in-safe i o;
+  in-root = λ i o. front 8 i (omega arith) (omega arith) ∙ g .in-root i o;
+  in-band = λ i o. front 16 i (omega arith) (omega arith) ∙ g .in-band i o;
+}
+  where
+    front : (base i : ℕ) → base ≤ 16 → i < 4 → lentSide (set l k z) base i ≡ lentSide l base i
+    front base i f o = rw (at-other l k z (base + i) (λ e. absurd (omega arith)), at-other l k z (base + 4 + i) (λ e. absurd (omega arith))) refl
+
+-- the marks of the first m modes
+abbrev pub MarkedTo : ℕ → List ℤ → ℕ → List ℤ → Type 0
+MarkedTo n coef m l = (u : ℕ) → u < m → (at l (24 + u) ≡ pos 0 → ⊥) → Alike n coef u
+
+pub marked-none : (n : ℕ) (coef l : List ℤ) → MarkedTo n coef 0 l
+marked-none n coef l u h = absurd (omega arith)
+
+pub marked-more : (n : ℕ) (coef l : List ℤ) (m : ℕ) (z : ℤ) → 24 + m < length l → ((z ≡ pos 0 → ⊥) → Alike n coef m) → MarkedTo n coef m l → MarkedTo n coef (m + 1) (set l (24 + m) z)
+marked-more n coef l m z h new old u o k = go (ℕ-discrete u m)
+  where
+    go : Dec (u ≡ m) → Alike n coef u
+    go (yes q) = rw q (new (λ e. k (rw q (at-stored l (24 + m) z h ∙ e))))
+    go (no q) = old u (omega arith) (λ e. k (at-other l (24 + m) z (24 + u) (λ p. absurd (omega arith)) ∙ e))
 
 -- equal lists have equal entries
 pub tab-entry : (f g : ℕ → Side) (n i : ℕ) → tab f n 0 ≡ tab g n 0 → i < n → f i ≡ g i

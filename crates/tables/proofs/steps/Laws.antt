@@ -1,16 +1,20 @@
--- Laws of the search's steps: the sums of a row from its extremes; that sums lie in the limits exactly where the image's side lies in the side
--- they are of; and from there, for a plant and its limits, that what is tested is the image in R or S, and what is made is the image.
--- Assumes nothing.
+-- Laws of the search's steps: the sums of a row from its extremes; extremes that are kept from mode to mode; that sums lie in the limits exactly
+-- where the image's side lies in the side they are of; and from there, for a plant and its limits, that what is tested is the image in R or S,
+-- and what is made is the image. Assumes nothing.
 use Prim.Native.Nat.{ℕ, _+_, _≤_, _<_}
-use mathlib.Core.Path.{_≡_, refl, sym, ap, _∙_}
+use mathlib.Core.Path.{_≡_, refl, sym, ap, _∙_, subst}
 use mathlib.Core.Bool.{Bool, true, false}
 use mathlib.Core.List.{List}
+use mathlib.Core.Logic.{_⊎_, inl, inr}
 use native.Mathlib.Omega.{arith}
 use native.Mathlib.Decide.{ℕ-discrete}
 use lib.ListN.{length, set}
 use lib.Seq.{getD-set-other}
 use lib.IntN.{ℤ, pos, natAbs, _+ℤ_, _-ℤ_, _*ℤ_}
 use lib.Signed.{leZ, _≤ℤ_, _<ℤ_}
+use mir.Syntax.{w64}
+use mir.Val.{ofZ, toZ}
+use Rattle.laws.specs.Expressions.{var, exact}
 use Rattle.laws.specs.Integers.{zarith, add, sub, leZ-true, leZ-false}
 use Rattle.laws.specs.Division.{floorZ, ceilZ}
 use Rattle.laws.specs.DivisionLaws.{floor-greatest, ceil-least}
@@ -21,8 +25,8 @@ use Rattle.meaning.specs.declared.Plant.{Plant}
 use Rattle.meaning.specs.Boxes.{Side, side, sideAt, covers, within}
 use Rattle.meaning.specs.Images.{leastOf, greatestOf, extreme, image}
 use Rattle.meaning.specs.Plants.{rootOf, safeOf, rowStart, stepOf}
-use Rattle.tables.specs.Images.{Extremes}
-use Rattle.tables.specs.Limits.{limitSide, sumSide, divided, lentSide, covered, coveredAt, dividedAt, Within, Ready}
+use Rattle.tables.specs.Images.{rowLimit, entriesOf, Extremes}
+use Rattle.tables.specs.Limits.{limitSide, sumSide, divided, lentSide, covered, coveredAt, dividedAt, Within, Alike, Kept, Ready}
 use Rattle.tables.proofs.frames.Laws.{divisor}
 use Rattle.tables.proofs.boxes.Laws.{lies-tab}
 use Rattle.tables.proofs.images.Laws.{imageSideAt, image-tab}
@@ -32,7 +36,7 @@ use Rattle.tables.proofs.images.Laws.{imageSideAt, image-tab}
 pub sides-are : {es : List ℤ} {b : List Side} {lo hi : ℤ} → Extremes es b lo hi → (o : ℤ) → side (lo +ℤ o) (hi +ℤ o) ≡ side (extreme leastOf es b +ℤ o) (extreme greatestOf es b +ℤ o)
 sides-are e o = rw (e .least, e .greatest) refl
 
--- ---- arrays that are filled, or changed in place, from the front
+-- ---- arrays that are filled from the front
 
 pub within-none : (k : ℕ) (lo hi : List ℤ) → Within k 0 lo hi
 within-none k lo hi i h = absurd (omega arith)
@@ -45,6 +49,39 @@ within-more {k} {i} lo hi x y a b w f g j h = go (ℕ-discrete j i)
     go (no e) =
         let l : j < i = omega arith in
         rw (at-below lo i x j l, at-below hi i y j l) (w j l)
+
+-- ---- extremes that are kept, row by row
+
+module _ (n : ℕ) (coef : List ℤ) (u : ℕ) (b : List Side) where
+  pub kept-none : (lo hi : List ℤ) → Kept n coef u b 0 lo hi
+  kept-none lo hi j h k = absurd (omega arith)
+
+  -- row i is put behind those before it: k of them stand
+  pub kept-more : (k i : ℕ) (lo hi : List ℤ) (x y : ℤ) → k ≤ i + 1 → i < length lo → i < length hi → Kept n coef u b i lo hi → Extremes (entriesOf n coef (rowStart n u i)) b x y
+      → Kept n coef u b k (set lo i x) (set hi i y)
+  kept-more k i lo hi x y m f g e new j h l = go (ℕ-discrete j i)
+    where
+      go : Dec (j ≡ i) → Extremes (entriesOf n coef (rowStart n u j)) b (at (set lo i x) j) (at (set hi i y) j)
+      go (yes q) = rw (q, at-stored lo i x f, at-stored hi i y g) new
+      go (no q) =
+          let s : j < i = omega arith in
+          rw (at-below lo i x j s, at-below hi i y j s) (e j h s)
+
+  -- for the mode behind they stand where it is alike: those that stood before, or those up to row r
+  module _ {m : ℤ} (have r : ℕ) (lo hi : List ℤ) (f : (m ≡ pos 0 → ⊥) → Alike n coef u) (e : Kept n coef u b have lo hi) (g : Kept n coef u b (r + 1) lo hi) where
+    next : (j : ℕ) → (m ≡ pos 0 → ⊥) → Kept n coef u b j lo hi → Kept n coef (u + 1) b j lo hi
+    next j z w i h l = subst (λ (es : List ℤ). Extremes es b (at lo i) (at hi i)) (f z i h) (w i h l)
+
+    pub kept-left : (k : ℕ) → (k ≡ 0) ⊎ ((m ≡ pos 0 → ⊥) × ((k ≡ have) ⊎ (k ≡ r + 1))) → Kept n coef (u + 1) b k lo hi
+    kept-left k (inl q) i h l = absurd (omega arith)
+    kept-left k (inr (z, inl q)) i h l = next have z e i h (omega arith)
+    kept-left k (inr (z, inr q)) i h l = next (r + 1) z g i h (omega arith)
+
+-- as the machine holds them
+pub extremes-held : {es : List ℤ} {b : List Side} (lo hi : ℤ) → Extremes es b lo hi → Extremes es b (toZ w64 (ofZ w64 lo)) (toZ w64 (ofZ w64 hi))
+extremes-held lo hi e = rw (exact (var lo rowLimit (e .low)) tt, exact (var hi rowLimit (e .high)) tt) e
+
+-- ---- arrays that are changed in place
 
 -- what stands from i on is still what stood there
 pub record Unchanged (i : ℕ) (lo₀ hi₀ lo hi : List ℤ) : Type 0 where

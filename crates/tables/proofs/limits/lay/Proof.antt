@@ -1,148 +1,76 @@
--- `limits::lay`: the dimensions that are done are laid. Assumes nothing.
-use Prim.Native.Nat.{ℕ, _-_, _≤_, _<_}
-use mathlib.Core.Path.{_≡_, refl}
+-- `limits::lay`: the marks that are set are those of their modes, and the boxes stay as they were laid. Assumes nothing.
+use Prim.Native.Nat.{_+_, _-_, _≤_, _<_}
+use mathlib.Core.Path.{_≡_, _∙_}
 use native.Mathlib.Omega.{arith}
-use lib.ListN.{length}
-use Rattle.meaning.specs.Boxes.{Side, side, sideAt}
-use Rattle.meaning.specs.Plants.{edgeLimit, bandLimit}
-use Rattle.tables.specs.Boxes.{Bounded}
+use lib.ListN.{length, length-set}
+use denote.Ref.{now}
+use mir.Facts.{toZ-ofZ}
+use Rattle.laws.specs.Integers.{ok64}
+use Rattle.meaning.specs.Boxes.{sideAt}
 use Rattle.tables.specs.Limits.{Laid}
-use Rattle.tables.proofs.boxes.Laws.{small-side}
-use Rattle.tables.proofs.limits.Laws.{band-held, edge-held, limit-held, laid-none, laid-more}
+use Rattle.tables.proofs.limits.Laws.{MarkedTo, laid-behind, marked-none, marked-more}
 use Rattle.tables.proofs.limits.lay.Statement.{statement}
 use Rattle.tables.proofs.limits.lay.Tie as tie
 
 abbrev Inv-loop : tie.InvT-loop
-Inv-loop f band safe root of₀ i₀ of i =
-    (i ≤ f .n) × (length of ≡ 24) × Laid i (f .q) (sideAt (root .lo) (root .hi)) (sideAt (safe .lo) (safe .hi)) (sideAt (band .lo) (band .hi)) of
+Inv-loop f coef of₀ u₀ of u =
+    (u ≤ 16) × (length of ≡ 40) × Laid (f .n) (f .q) (sideAt (f .root .lo) (f .root .hi)) (sideAt (f .safe .lo) (f .safe .hi)) (sideAt (f .band .lo) (f .band .hi)) of × MarkedTo (f .n) coef u of
 
 abbrev μ-loop : tie.MeasureT-loop
-μ-loop f band safe root of₀ i₀ of i = f .n - i
+μ-loop f coef of₀ u₀ of u = f .modes - u
 
--- the round of dimension i, and its sides
-module _ (t : tie.Then1 Inv-loop μ-loop) where
-  abbrev began : tie.Start Inv-loop μ-loop
-  began = t .before .before .before .before .before .before
+lay-boxes-requires : tie.Need-lay-boxes-requires Inv-loop μ-loop
+lay-boxes-requires c κs = ((c .pre .0 .0, c .pre .0 .1), c .pre .1 .0)
 
-  abbrev index : ℕ
-  index = t .before .before .loop .i
-
-  few : index < 4
-  few = let h = t .if1 .taken in let n = began .pre .0 .0 in omega arith
-
-  abbrev band : Side
-  band = let f = began .args .f in sideAt (f .band .lo) (f .band .hi) index
-
-  abbrev safe : Side
-  safe = let f = began .args .f in sideAt (f .safe .lo) (f .safe .hi) index
-
-  abbrev root : Side
-  root = let f = began .args .f in sideAt (f .root .lo) (f .root .hi) index
-
-  band-small : Bounded bandLimit band
-  band-small = let f = began .args .f in small-side (f .band .lo) (f .band .hi) (f .n) index (began .pre .1 .0) (t .if1 .taken)
-
-  safe-small : Bounded edgeLimit safe
-  safe-small = let f = began .args .f in small-side (f .safe .lo) (f .safe .hi) (f .n) index (began .pre .1 .2) (t .if1 .taken)
-
-  root-small : Bounded edgeLimit root
-  root-small = let f = began .args .f in small-side (f .root .lo) (f .root .hi) (f .n) index (began .pre .1 .1) (t .if1 .taken)
-
--- where the round began
-abbrev first : tie.After-put-side Inv-loop μ-loop → tie.Then1 Inv-loop μ-loop
-first c = c .before .before .before .before .before .before .before .before .before .before .before
-
-abbrev second : tie.After-put-side2 Inv-loop μ-loop → tie.After-put-side Inv-loop μ-loop
-second c = c .before .before .before .before .before
+-- a mode with another behind it
+few : (t : tie.Then1 Inv-loop μ-loop) → t .before .before .loop .u < 15
+few t = let h = t .if1 .taken in let k = t .before .before .before .before .before .pre .0 .2 in omega arith
 
 loop-holds : tie.Need-loop-holds Inv-loop μ-loop
-loop-holds c = (omega arith, refl, laid-none _ _ _ _ _)
+loop-holds c = let b = c .before in (omega arith, b .lay-boxes .ensures .1, b .lay-boxes .ensures .0, marked-none (b .before .args .f .n) (now (b .before .args .coef)) (b .lay-boxes .result .of))
 
-mul-wl : tie.Need-mul-wl Inv-loop μ-loop
-mul-wl c = let h = few c in omega arith
+add-if1 : tie.Need-add-if1 Inv-loop μ-loop
+add-if1 c = let h = c .loop .inv .0 in omega arith
 
-element-copy-out-wl : tie.Need-element-copy-out-wl Inv-loop μ-loop
-element-copy-out-wl c = few c
+mark-requires : tie.Need-mark-requires Inv-loop μ-loop
+mark-requires c κs =
+    let s = c .before .before .before .before .before in
+    let u = c .before .before .loop .u in
+    let h = c .if1 .taken in
+    let f = few c in
+    (omega arith, s .pre .1 .1 u (omega arith), s .pre .1 .1 (u + 1) h)
 
-mul-wh : tie.Need-mul-wh Inv-loop μ-loop
-mul-wh c = let h = few (c .before) in omega arith
+add-of : tie.Need-add-of Inv-loop μ-loop
+add-of c = let f = few (c .before) in omega arith
 
-element-copy-out-wh : tie.Need-element-copy-out-wh Inv-loop μ-loop
-element-copy-out-wh c = few (c .before)
+mul-of : tie.Need-mul-of Inv-loop μ-loop
+mul-of c = let f = few (c .before) in omega arith
 
-mul-sl : tie.Need-mul-sl Inv-loop μ-loop
-mul-sl c = let h = few (c .before .before) in omega arith
+array-set-from-of : tie.Need-array-set-from-of Inv-loop μ-loop
+array-set-from-of c = let f = few (c .before) in omega arith
 
-element-copy-out-sl : tie.Need-element-copy-out-sl Inv-loop μ-loop
-element-copy-out-sl c = few (c .before .before)
-
-mul-sh : tie.Need-mul-sh Inv-loop μ-loop
-mul-sh c = let h = few (c .before .before .before) in omega arith
-
-element-copy-out-sh : tie.Need-element-copy-out-sh Inv-loop μ-loop
-element-copy-out-sh c = few (c .before .before .before)
-
-mul-rl : tie.Need-mul-rl Inv-loop μ-loop
-mul-rl c = let h = few (c .before .before .before .before) in omega arith
-
-element-copy-out-rl : tie.Need-element-copy-out-rl Inv-loop μ-loop
-element-copy-out-rl c = few (c .before .before .before .before)
-
-mul-rh : tie.Need-mul-rh Inv-loop μ-loop
-mul-rh c = let h = few (c .before .before .before .before .before) in omega arith
-
-element-copy-out-rh : tie.Need-element-copy-out-rh Inv-loop μ-loop
-element-copy-out-rh c = few (c .before .before .before .before .before)
-
-around-requires : tie.Need-around-requires Inv-loop μ-loop
-around-requires c κs =
-    let t = c .before .before .before .before .before .before in
-    (began t .pre .0 .1, rw (band-held (band t) (band-small t)) (band-small t), rw (edge-held (safe t) (safe-small t)) (safe-small t))
-
-put-side-requires : tie.Need-put-side-requires Inv-loop μ-loop
-put-side-requires c κs = (omega arith, few (c .before .before .before .before .before .before .before .before .before .before))
-
-around-requires-2 : tie.Need-around-requires-2 Inv-loop μ-loop
-around-requires-2 c κs =
-    let t = first c in
-    (began t .pre .0 .1, rw (band-held (band t) (band-small t)) (band-small t), rw (edge-held (root t) (root-small t)) (root-small t))
-
-put-side-requires-2 : tie.Need-put-side-requires-2 Inv-loop μ-loop
-put-side-requires-2 c κs = (omega arith, few (first (c .before .before .before .before)))
-
-put-side-requires-3 : tie.Need-put-side-requires-3 Inv-loop μ-loop
-put-side-requires-3 c κs = (omega arith, few (first (second (c .before))))
-
-add-i : tie.Need-add-i Inv-loop μ-loop
-add-i c = let h = few (first (second (c .before .before))) in omega arith
+add-u : tie.Need-add-u Inv-loop μ-loop
+add-u c = let f = few (c .before) in omega arith
 
 loop-less : tie.Need-loop-less Inv-loop μ-loop
-loop-less c = let h = first (second (c .before .before)) .if1 .taken in omega arith
+loop-less c = let h = c .before .if1 .taken in omega arith
 
 loop-again : tie.Need-loop-again Inv-loop μ-loop
 loop-again c =
-    let r = c .before .before in
-    let p = second r in
-    let t = first p in
-    let f = began t .args .f in
-    let q = began t .pre .0 .1 in
-    let l = t .before .before .loop in
-    let s = p .before .before .before .before .around in
-    let o = r .before .before .before .before .around2 in
-    let h = t .if1 .taken in
-    let more = laid-more (f .q) (sideAt (f .root .lo) (f .root .hi)) (sideAt (f .safe .lo) (f .safe .hi)) (sideAt (f .band .lo) (f .band .hi)) (l .i) (l .of) _ _ _ (l .inv .1) (few t)
-    (p .put-side .ensures) (r .put-side2 .ensures) (c .put-side3 .ensures)
-    (limit-held (f .q) (band t) (safe t) q (band-small t) (safe-small t) (side (s .result .lo) (s .result .hi)) (s .ensures))
-    (limit-held (f .q) (band t) (root t) q (band-small t) (root-small t) (side (o .result .lo) (o .result .hi)) (o .ensures))
-    (band-held (band t) (band-small t)) (l .inv .2) in
-    (omega arith, more .0, more .1)
+    let l = c .before .before .before .loop in
+    let s = c .before .before .before .before .before .before in
+    let f = few (c .before) in
+    let k = toZ-ofZ (ok64 (c .mark .result) (c .mark .ok)) in (
+      omega arith,
+      simp length-set (l .inv .1),
+      laid-behind (24 + l .u) _ (s .pre .0 .0) (omega arith) (l .inv .2),
+      marked-more (s .args .f .n) (now (s .args .coef)) (l .of) (l .u) _ (omega (arith, l .inv .1)) (λ z. c .mark .ensures (λ e. z (k ∙ e))) (l .inv .3),
+    )
 
 returns : tie.Need-returns Inv-loop μ-loop
 returns c =
     let l = c .before .before .loop in
-    let s = c .before .before .before .before .before .before in
-    let e : l .i ≡ s .args .f .n = omega arith in
-    rw e at (l .inv .2)
+    (l .inv .2, λ u h. l .inv .3 u (omega (arith, c .if1 .left)))
 
 pub lay-spec : {M : Type 1} → statement M
 lay-spec =
@@ -150,25 +78,14 @@ lay-spec =
     (tie.spec
     Inv-loop
     μ-loop
+    lay-boxes-requires
     loop-holds
-    mul-wl
-    element-copy-out-wl
-    mul-wh
-    element-copy-out-wh
-    mul-sl
-    element-copy-out-sl
-    mul-sh
-    element-copy-out-sh
-    mul-rl
-    element-copy-out-rl
-    mul-rh
-    element-copy-out-rh
-    around-requires
-    put-side-requires
-    around-requires-2
-    put-side-requires-2
-    put-side-requires-3
-    add-i
+    add-if1
+    mark-requires
+    add-of
+    mul-of
+    array-set-from-of
+    add-u
     loop-less
     loop-again
     returns)

@@ -4,7 +4,7 @@ use Rattle.meaning.specs.declared.Plant.{Plant}
 use Rattle.promises.specs.Sound.{Sound}
 use Rattle.tables.specs.Frames.{plantFrom}
 use Rattle.tables.specs.Limits.{Ready}
-use Rattle.tables.proofs.frames.Laws.{rooms, divisor-small, root-small, safe-small, band-small}
+use Rattle.tables.proofs.frames.Laws.{rooms, divisor-small, root-small, safe-small, band-small, step-sound}
 use Rattle.tables.proofs.makes.Laws.{table-wrote}
 use borrow.Author.Needs.{needs}
 use Rattle.tables.proofs.makes.table.Statement.{statement}
@@ -19,18 +19,21 @@ module _ (c : tie.After-framed) where
   sound = subst Sound (sym (c .framed .ensures)) (c .before .before .pre)
 
 -- and its limits
-ready : (c : tie.After-lay) → Ready (plant (c .before .before)) (c .lay .result .of)
-ready c = record { sound = sound (c .before .before); laid = c .lay .ensures }
+ready : (c : tie.After-lay) → Ready (plant (c .before .before .before)) (c .lay .result .of)
+ready c = record { sound = sound (c .before .before .before); laid = c .lay .ensures .0; marked = c .lay .ensures .1 }
 
 framed-requires : tie.Need-framed-requires
 framed-requires c κs = search needs
 
+slice-aggregate-lay : tie.Need-slice-aggregate-lay
+slice-aggregate-lay c = search needs
+
 lay-requires : tie.Need-lay-requires
 lay-requires c κs =
-    let f = c .before in
+    let f = c .before .before in
     let p = plant f in
     let g = sound f in
-    ((rooms p g, divisor-small p g), (band-small p g, root-small p g, safe-small p g))
+    ((rooms p g, divisor-small p g, g .modes-high), ((band-small p g, root-small p g, safe-small p g), λ u h. step-sound p g u h .rows))
 
 put-number-requires : tie.Need-put-number-requires
 put-number-requires c κs = search needs
@@ -42,14 +45,14 @@ slice-aggregate-tree : tie.Need-slice-aggregate-tree
 slice-aggregate-tree c = search needs
 
 tree-requires : tie.Need-tree-requires
-tree-requires c κs = let l = c .before .before .before .before .before .before .before .before .before .before .before .before .before in let f = l .before .before in (ready l, root-small (plant f) (sound f))
+tree-requires c κs = let l = c .before .before .before .before .before .before .before .before .before .before .before .before .before in let f = l .before .before .before in (ready l, root-small (plant f) (sound f))
 
 same-length : tie.Need-same-length
 same-length c = search needs
 
 returns : tie.Need-returns
 returns c =
-    let f = c .before .before .before .before .before .before .before .before .before .before .before .before .before .before .before .before .before .before in
+    let f = c .before .before .before .before .before .before .before .before .before .before .before .before .before .before .before .before .before .before .before in
     let t = c .before .before .tree in
     table-wrote (plant f) (f .before .before .args .p) (f .framed .ensures) (c .before .before .before .before .before .before .before .before .before .before .before .before .put-number .ensures) (c .before .before .before .before .before .before .before .before .put-number2 .ensures) (t .result) (t .last .1 .1 .1 .1 .1 .0) (t .ensures)
 
@@ -58,6 +61,7 @@ table-spec =
     tie.close
     (tie.spec
     framed-requires
+    slice-aggregate-lay
     lay-requires
     put-number-requires
     put-number-requires-2

@@ -145,7 +145,7 @@ modes-last-requires : (t : ℕ) → modes-lts.Need-last-requires (claims t) (mod
 modes-last-requires t c κs =
     let s = c .before in
     let h = s .pre .1 .1 .1 in
-    (s .pre .1 .1 .0, (λ u l. rows t s u (omega arith)), s .pre .1 .0 .1)
+    ((s .pre .1 .1 .0, (λ u l. rows t s u (omega arith)), s .pre .1 .0 .1), (few t s, λ u l. fits-some t s .marked u (omega arith)))
 
 modes-add-result : (t : ℕ) → modes-lts.Need-add-result (claims t) (modes-at t) modes.Post modes-Inv-loop modes-μ-loop
 modes-add-result t c = let h = c .if2 .taken in let l = few t (c .before .before .before) in omega arith
