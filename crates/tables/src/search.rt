@@ -1,9 +1,10 @@
 // The first pattern of a box (document 01, "The defined table"): the shortest that works, and among equal lengths the first in mode order.
-// Relies on steps. Leaves out what is done where a box has none (makes).
+// Relies on steps and limits. Leaves out what is done where a box has none (makes).
 // Patterns that begin alike share their images: the image under a mode is made once, and where it leaves S nothing behind it is tried.
 // The last image is not made at all. A pattern is one number, so that nothing but numbers is handed back.
 use crate::boxes::Bx;
 use crate::frames::Frame;
+use crate::limits;
 use crate::steps;
 ghost use mathlib.Core.Path.{_≡_};
 ghost use Prim.Native.Nat.{_-_, _^_, _≤_};
@@ -63,8 +64,8 @@ pub struct Sought {
     pub code: usize,
 }
 
-// The first pattern of a box: lengths from 1 on, at each length its first mode in order, and out of both with the first that works.
-// m modes stand behind the first.
+// The first pattern of a box: lengths from 1 on, at each length the modes in front in order, those that share a matrix at once, and out of both
+// loops with the first that works. m modes stand behind the first.
 pub fn first(f: Frame, coef: &[i64], limits: &[i64; 40], b: Bx) -> Sought
     requires { ⌜ Ready (plantFrom f (now coef)) (now limits) × Small edgeLimit (boxOf (f .n) b) ⌝ }
     ensures pattern { λ r. ⌜ patternBy (r .size) (r .code) ≡ firstPattern (rulesOf (plantFrom f (now (coef .entry)))) (boxOf (f .n) b) ⌝ }
@@ -78,13 +79,14 @@ pub fn first(f: Frame, coef: &[i64], limits: &[i64; 40], b: Bx) -> Sought
     'search: while m < f.k {
         let mut u: usize = 0;
         while u < f.modes {
-            let found = modes(f.n, f.modes, f.q, coef, limits, m + 1, u, u + 1, &lo, &hi);
+            let to = limits::block(limits, f.modes, u);
+            let found = modes(f.n, f.modes, f.q, coef, limits, m + 1, u, to, &lo, &hi);
             if found != 0 {
                 code = found - 1;
                 size = m + 1;
                 break 'search;
             }
-            u += 1;
+            u = to;
         }
         m += 1;
     }

@@ -6,7 +6,7 @@ use mathlib.Core.Bool.{Bool, true, false}
 use mathlib.Core.List.{List, [], _∷_}
 use mathlib.Core.Option.{Option, none, some}
 use native.Mathlib.Omega.{arith}
-use native.Mathlib.Nat.{sub-zero}
+use native.Mathlib.Nat.{sub-zero, zero-add}
 use native.Mathlib.Numerals.{add-one}
 use lib.Dec.{ltb}
 use borrow.Author.Tests.{lt-ltb, le-ltb}
@@ -88,22 +88,18 @@ module _ (try : ℕ → Option (List ℕ)) (N v : ℕ) where
     unfolding firstMode
     modes-miss e = rw (one-left, e, add-one) refl
 
--- a pattern is not none
-apart : {us : List ℕ} → some us ≡ none → ⊥
-apart e = subst there e tt
-  where
-    there : Option (List ℕ) → Type 0
-    there (some us) = Unit {0}
-    there none = ⊥
-
--- one mode alone
-pub modes-one : (try : ℕ → Option (List ℕ)) (u : ℕ) → firstMode try (u + 1 - u) u ≡ mapSome (λ us. u ∷ us) (try u)
+-- some modes, then those behind them
+first-then : (try : ℕ → Option (List ℕ)) (a b v : ℕ) → firstMode try (a + b) v ≡ orElse (firstMode try a v) λ _. firstMode try b (a + v)
 unfolding firstMode
-modes-one try u = let q : u + 1 - u ≡ 1 = omega arith in rw q (end (mapSome (λ us. u ∷ us) (try u)))
+first-then try zero b v = let q : 0 + b ≡ b = zero-add b in let w : 0 + v ≡ v = zero-add v in rw (q, w) refl
+first-then try (suc a) b v =
+    let q : suc a + b ≡ suc (a + b) = omega arith in
+    let w : suc a + v ≡ a + suc v = omega arith in
+    rw (q, w) (go (mapSome (λ us. v ∷ us) (try v)) (first-then try a b (suc v)))
   where
-    end : (o : Option (List ℕ)) → orElse o (λ _. none) ≡ o
-    end (some us) = refl
-    end none = refl
+    go : (o : Option (List ℕ)) → firstMode try (a + b) (suc v) ≡ (orElse (firstMode try a (suc v)) λ _. firstMode try b (a + suc v)) → orElse o (λ _. firstMode try (a + b) (suc v)) ≡ orElse (orElse o λ _. firstMode try a (suc v)) λ _. firstMode try b (a + suc v)
+    go (some us) e = refl
+    go none e = e
 
 module _ (try : ℕ → Option (List ℕ)) (N v : ℕ) (whole : Option (List ℕ)) (q : firstMode try (N - v) v ≡ whole) where
   pub modes-done : N ≤ v → none ≡ whole
@@ -117,21 +113,19 @@ module _ (try : ℕ → Option (List ℕ)) (N v : ℕ) (whole : Option (List ℕ
     modes-found z l =
         ap some (digits-front m v (r - 1) l) ∙ sym (modes-hit try N v h (digits m (r - 1)) (sym e ∙ some-sought m r z)) ∙ q
 
-  -- the answer has the mode in front already
-  module _ (h : v < N) (m r : ℕ) (e : soughtOf m r ≡ mapSome (λ us. v ∷ us) (try v)) where
-    pub front-next : r ≡ 0 → firstMode try (N - (v + 1)) (v + 1) ≡ whole
-    front-next z = modes-fail h (go (try v) (sym (none-sought m r z) ∙ e))
-      where
-        go : (o : Option (List ℕ)) → none ≡ mapSome (λ us. v ∷ us) o → o ≡ none
-        go (some us) k = absurd (apart (sym k))
-        go none k = refl
+  -- the modes v..to in front: r is their answer
+  module _ (to : ℕ) (l : v < to) (h : to ≤ N) (m r : ℕ) (e : soughtOf m r ≡ firstMode try (to - v) v) where
+    parts : orElse (soughtOf m r) (λ _. firstMode try (N - to) to) ≡ whole
+    parts =
+        let n : N - v ≡ (to - v) + (N - to) = omega arith in
+        let t : (to - v) + v ≡ to = omega arith in
+        rw e (sym (rw t at (first-then try (to - v) (N - to) v)) ∙ rw n at q)
 
-    pub front-found : (r ≡ 0 → ⊥) → some (digits m (r - 1)) ≡ whole
-    front-found z = go (try v) refl (sym (some-sought m r z) ∙ e)
-      where
-        go : (o : Option (List ℕ)) → try v ≡ o → some (digits m (r - 1)) ≡ mapSome (λ us. v ∷ us) o → some (digits m (r - 1)) ≡ whole
-        go (some us) k d = d ∙ sym (modes-hit try N v h us k) ∙ q
-        go none k d = absurd (apart d)
+    pub block-next : r ≡ 0 → firstMode try (N - to) to ≡ whole
+    block-next z = rw (none-sought m r z) at parts
+
+    pub block-found : (r ≡ 0 → ⊥) → some (digits m (r - 1)) ≡ whole
+    block-found z = rw (some-sought m r z) at parts
 
 -- the same answers, the same first
 first-same : (f g : ℕ → Option (List ℕ)) → ((u : ℕ) → f u ≡ g u) → (m v : ℕ) → firstMode f m v ≡ firstMode g m v

@@ -1,7 +1,7 @@
 -- `search::first`: the modes that are left of a length say what the length says, the lengths that are left what the search says. Assumes nothing.
 use Prim.Native.Nat.{ℕ, suc, _-_, _≤_}
-use mathlib.Core.Path.{_≡_, refl, _∙_}
-use mathlib.Core.List.{List, _∷_}
+use mathlib.Core.Path.{_≡_, refl}
+use mathlib.Core.List.{List}
 use mathlib.Core.Option.{Option}
 use native.Mathlib.Omega.{arith}
 use native.Mathlib.Numerals.{add-one}
@@ -9,13 +9,13 @@ use denote.Ref.{now}
 use Rattle.meaning.specs.declared.Plant.{Plant}
 use Rattle.meaning.specs.Boxes.{Side, sidesOf}
 use Rattle.meaning.specs.Tables.{rulesOf}
-use Rattle.meaning.specs.Defined.{mapSome, firstMode, exactly, shortest, firstPattern}
+use Rattle.meaning.specs.Defined.{firstMode, exactly, shortest, firstPattern}
 use Rattle.tables.specs.Boxes.{boxOf}
 use Rattle.tables.specs.Frames.{plantFrom}
 use Rattle.tables.specs.Limits.{Unlent, Lent}
 use Rattle.tables.specs.Search.{digits, soughtOf, behindMode}
 use Rattle.tables.proofs.frames.Laws.{longest}
-use Rattle.tables.proofs.search.Laws.{modes-all, modes-done, modes-one, front-next, front-found, lengths-all, lengths-done, lengths-found, lengths-next}
+use Rattle.tables.proofs.search.Laws.{modes-all, modes-done, block-next, block-found, lengths-all, lengths-done, lengths-found, lengths-next}
 use Rattle.tables.proofs.search.first.Statement.{statement}
 use Rattle.tables.proofs.search.first.Tie as tie
 
@@ -76,79 +76,60 @@ search-holds c = let s = c .before .before in (omega arith, refl, lengths-all (p
 loop-holds : tie.Need-loop-holds Inv-loop μ-loop Inv-search μ-search
 loop-holds c = let o = c .before .before in let s = start o in let l = o .search in (omega arith, l .inv .1, modes-all (plant s) (l .m) (box s))
 
--- what was found for one mode in front
-sought : (c : tie.After-modes Inv-loop μ-loop Inv-search μ-search) → (let a = c .before .before .before .before .before in let o = length-of a .search in let s = start (length-of a) in
-    soughtOf (suc (o .m)) (c .modes .result) ≡ mapSome (λ us. a .loop .u ∷ us) (behindMode (rulesOf (plant s)) (o .m) (box s) (a .loop .u)))
+-- what was found for a block of modes in front
+sought : (c : tie.After-modes Inv-loop μ-loop Inv-search μ-search) → (let a = c .before .before .before .before .before .before in let o = length-of a .search in let s = start (length-of a) in
+    soughtOf (suc (o .m)) (c .modes .result) ≡ firstMode (behindMode (rulesOf (plant s)) (o .m) (box s)) (c .before .before .before .block .result - a .loop .u) (a .loop .u))
 sought c =
-    let a = c .before .before .before .before .before in
+    let a = c .before .before .before .before .before .before in
     let o = length-of a .search in
     let s = start (length-of a) in
     let q : suc (o .m) - 1 ≡ o .m = omega arith in
-    (rw (add-one, q) at (c .modes .ensures .0 (kept s) (s .pre .0))) ∙ modes-one (behindMode (rulesOf (plant s)) (o .m) (box s)) (a .loop .u)
+    rw (add-one, q) at (c .modes .ensures .0 (kept s) (s .pre .0))
+
+block-requires : tie.Need-block-requires Inv-loop μ-loop Inv-search μ-search
+block-requires c κs = (c .if2 .taken, start (length-of (c .before .before)) .pre .0 .sound .modes-high)
 
 add-modes : tie.Need-add-modes Inv-loop μ-loop Inv-search μ-search
 add-modes c =
-    let l = c .before .before in
+    let l = c .before .before .before in
     let s = start (length-of l) in
     let few = longest (plant s) (s .pre .0 .sound) in
     let h = l .before .if1 .taken in
-    let modes = s .pre .0 .sound .modes-high in
-    omega arith
-
-add-modes-2 : tie.Need-add-modes-2 Inv-loop μ-loop Inv-search μ-search
-add-modes-2 c =
-    let l = c .before .before in
-    let s = start (length-of l) in
-    let few = longest (plant s) (s .pre .0 .sound) in
-    let h = l .before .if1 .taken in
-    let modes = s .pre .0 .sound .modes-high in
-    let u = c .if2 .taken in
     omega arith
 
 modes-requires : tie.Need-modes-requires Inv-loop μ-loop Inv-search μ-search
 modes-requires c κs =
-    let l = c .before .before .before .before in
+    let l = c .before .before .before .before .before in
     let s = start (length-of l) in
     let few = longest (plant s) (s .pre .0 .sound) in
     let h = l .before .if1 .taken in
-    let u = c .before .before .if2 .taken in
-    ((lent s, s .pre .1), (omega arith, omega arith, omega arith, omega arith))
+    let to = c .before .before .block .ensures in
+    ((lent s, s .pre .1), (omega (arith, to .0), to .1, omega arith, omega arith))
 
 sub-code : tie.Need-sub-code Inv-loop μ-loop Inv-search μ-search
-sub-code c =
-    let l = c .before .before .before .before .before .before in
-    let s = start (length-of l) in
-    let few = longest (plant s) (s .pre .0 .sound) in
-    let h = l .before .if1 .taken in
-    let modes = s .pre .0 .sound .modes-high in
-    let z = c .if3 .taken in
-    omega arith
+sub-code c = let z = c .if3 .taken in omega arith
 
 add-size : tie.Need-add-size Inv-loop μ-loop Inv-search μ-search
 add-size c =
-    let l = c .before .before .before .before .before .before in
+    let l = c .before .before .before .before .before .before .before in
     let s = start (length-of l) in
     let few = longest (plant s) (s .pre .0 .sound) in
     let h = l .before .if1 .taken in
-    let modes = s .pre .0 .sound .modes-high in
     omega arith
 
-add-u : tie.Need-add-u Inv-loop μ-loop Inv-search μ-search
-add-u c = let h = c .before .before .before .before .if2 .taken in omega arith
-
 loop-less : tie.Need-loop-less Inv-loop μ-loop Inv-search μ-search
-loop-less c = let h = c .before .before .before .before .if2 .taken in omega arith
+loop-less c = let to = c .before .before .before .before .block .ensures in let h = c .before .before .before .before .before .if2 .taken in omega (arith, to .0, to .1)
 
 loop-again : tie.Need-loop-again Inv-loop μ-loop Inv-search μ-search
 loop-again c =
-    let a = c .before .before .before .before .before .before in
+    let a = c .before .before .before .before .before .before .before in
     let s = start (length-of a) in
     let m = length-of a .search .m in
     let l = a .loop in
-    let h = c .before .before .before .before .if2 .taken in (
-      omega arith,
+    let to = c .before .before .before .before .block in (
+      to .ensures .1,
       l .inv .1,
-      front-next (behindMode (rulesOf (plant s)) m (box s)) (s .args .f .modes) (l .u) (ofLength s (suc m)) (l .inv .2) h (suc m) (c .before .modes .result) (sought (c .before)) (c .if3 .left),
+      block-next (behindMode (rulesOf (plant s)) m (box s)) (s .args .f .modes) (l .u) (ofLength s (suc m)) (l .inv .2) (to .result) (to .ensures .0) (to .ensures .1) (suc m) (c .before .modes .result) (sought (c .before)) (c .if3 .left),
     )
 
 add-m : tie.Need-add-m Inv-loop μ-loop Inv-search μ-search
@@ -178,15 +159,15 @@ returns c =
 
 returns-2 : tie.Need-returns-2 Inv-loop μ-loop Inv-search μ-search
 returns-2 c =
-    let a = c .before .before .before .before .before .before in
+    let a = c .before .before .before .before .before .before .before in
     let o = length-of a .search in
     let s = start (length-of a) in
     let l = a .loop in
     let r = c .before .modes .result in
     let few = longest (plant s) (s .pre .0 .sound) in
     let h = a .before .if1 .taken in
-    let u = c .before .before .before .before .if2 .taken in
-    let hit = front-found (behindMode (rulesOf (plant s)) (o .m) (box s)) (s .args .f .modes) (l .u) (ofLength s (suc (o .m))) (l .inv .2) u (suc (o .m)) r (sought (c .before)) (c .if3 .taken) in
+    let to = c .before .before .before .before .block in
+    let hit = block-found (behindMode (rulesOf (plant s)) (o .m) (box s)) (s .args .f .modes) (l .u) (ofLength s (suc (o .m))) (l .inv .2) (to .result) (to .ensures .0) (to .ensures .1) (suc (o .m)) r (sought (c .before)) (c .if3 .taken) in
     (rw add-one (lengths-found (plant s) (box s) (o .m) (whole s) (o .inv .2) h (digits (suc (o .m)) (r - 1)) hit), omega arith)
 
 pub first-spec : {M : Type 1} → statement M
@@ -199,12 +180,11 @@ first-spec =
     μ-search
     search-holds
     loop-holds
+    block-requires
     add-modes
-    add-modes-2
     modes-requires
     sub-code
     add-size
-    add-u
     loop-less
     loop-again
     add-m
