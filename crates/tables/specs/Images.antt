@@ -1,9 +1,8 @@
--- A mode's step as the code is lent it: the small numbers by value and the coefficients in a slice; and what it asks of them, which a judged
+-- A mode's step as the code is lent it: the small numbers by value and the coefficients in their array; and what it asks of them, which a judged
 -- plant has. Definitions alone.
 use Prim.Native.Nat.{ℕ, _+_, _≤_, _<_}
 use mathlib.Core.Path.{_≡_}
 use mathlib.Core.List.{List}
-use lib.ListN.{length}
 use lib.IntN.{ℤ, natAbs}
 use Rattle.laws.specs.Lists.{at, tab}
 use Rattle.meaning.specs.Boxes.{Side, sidesOf}
@@ -41,12 +40,11 @@ stepFrom n q wlo whi coef u = record { rows = tab (rowFrom n wlo whi coef u) n 0
 
 -- ---- what is asked
 
--- the row that starts at `start` stands in the slice, its numbers in the ranges
+-- the row that starts at `start` stands in the array, its numbers in the ranges
 pub record RowSound (n : ℕ) (coef : List ℤ) (start : ℕ) : Type 0 where
   pub some : 1 ≤ n
   pub rooms : n ≤ 4
-  pub below : start < 320
-  pub inside : start + n < length coef
+  pub inside : start + n < 320
   pub entries : (j : ℕ) → j < n → natAbs (at coef (start + j)) ≤ entryLimit
   pub offset : natAbs (at coef (start + n)) ≤ offsetLimit
 

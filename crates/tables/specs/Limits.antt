@@ -83,7 +83,7 @@ Within k n lo hi = (i : ℕ) → i < n → (natAbs (at lo i) ≤ k) × (natAbs (
 abbrev pub landing : ℕ → List ℤ → List ℤ → List Side → ℕ → Option (List ℕ)
 landing n coef limits b u = guard (covered n coef limits 8 u b) none λ _. some []
 
--- ---- what is asked of mode u: each of its rows stands in the slice
+-- ---- what is asked of mode u: each of its rows stands in the array
 
 abbrev pub RowsSound : ℕ → List ℤ → ℕ → Type 0
 RowsSound n coef u = (i : ℕ) → i < n → RowSound n coef (rowStart n u i)

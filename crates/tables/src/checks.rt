@@ -27,7 +27,7 @@ ghost use Rattle.tables.specs.Boxes.{boxOf, Small};
 ghost use Rattle.tables.specs.Frames.{plantFrom};
 
 // The tile at `at`, whose k modes begin at `from`: all of them are read before an image is tested. A fault of the pattern is told at the tile.
-fn tile(f: Frame, coef: &[i64], table: &[u8], at: usize, k: usize, from: usize, b: Bx) -> Walk
+fn tile(f: Frame, coef: &[i64; 320], table: &[u8], at: usize, k: usize, from: usize, b: Bx) -> Walk
     requires plant { ⌜ Sound (plantFrom f (now coef)) × Small edgeLimit (boxOf (f .n) b) ⌝ }
     requires size { ⌜ k ≤ f .k ⌝ }
     ensures { λ r. ⌜ r ≡ onModes (modesAt (rulesOf (plantFrom f (now (coef .entry)))) k (now (table .entry)) from) at (rule (rulesOf (plantFrom f (now (coef .entry)))) (boxOf (f .n) b)) ⌝ }
@@ -46,7 +46,7 @@ fn tile(f: Frame, coef: &[i64], table: &[u8], at: usize, k: usize, from: usize, 
 }
 
 // The tree at `at`, over box b with depth d left: the place behind it, or the first fault in file order.
-fn walk(f: Frame, coef: &[i64], table: &[u8], d: usize, at: usize, b: Bx) -> Walk
+fn walk(f: Frame, coef: &[i64; 320], table: &[u8], d: usize, at: usize, b: Bx) -> Walk
     requires { ⌜ Sound (plantFrom f (now coef)) × Small edgeLimit (boxOf (f .n) b) ⌝ }
     ensures { λ r. ⌜ r ≡ walk (rulesOf (plantFrom f (now (coef .entry)))) (rule (rulesOf (plantFrom f (now (coef .entry))))) d (now (table .entry)) at (boxOf (f .n) b) ⌝ }
 {

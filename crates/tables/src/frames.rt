@@ -1,4 +1,4 @@
-// A plant without its coefficients: 320 numbers are lent beside it as a slice, so that a call copies only what is small.
+// A plant without its coefficients: 320 numbers are lent beside it, so that a call copies only what is small.
 // Relies on boxes. Leaves out how a plant is read and judged.
 use crate::boxes::Bx;
 use meaning::Plant;

@@ -5,7 +5,6 @@ use crate::boxes::Bx;
 use crate::division;
 ghost use mathlib.Core.Path.{_≡_};
 ghost use Prim.Native.Nat.{_+_, _≤_, _<_};
-ghost use lib.ListN.{length};
 ghost use lib.IntN.{natAbs, _+ℤ_};
 ghost use Rattle.laws.specs.Lists.{at};
 ghost use Rattle.meaning.specs.Boxes.{side, sideAt, sidesOf};
@@ -41,8 +40,8 @@ fn term(a: i64, l: i64, h: i64) -> Span
 }
 
 // One more term of a row: s and entry j, taken over side j.
-fn more(coef: &[i64], start: usize, j: usize, lo: &[i64; 4], hi: &[i64; 4], s: Span) -> Span
-    requires place { ⌜ (j < 4) × (start + j < length (now coef)) × (start < 320) ⌝ }
+fn more(coef: &[i64; 320], start: usize, j: usize, lo: &[i64; 4], hi: &[i64; 4], s: Span) -> Span
+    requires place { ⌜ (j < 4) × (start + j < 320) ⌝ }
     requires entry { ⌜ (natAbs (at (now coef) (start + j)) ≤ entryLimit) × Bounded edgeLimit (sideAt (now lo) (now hi) j) ⌝ }
     requires sums { ⌜ (natAbs (s .lo) ≤ rowLimit) × (natAbs (s .hi) ≤ rowLimit) ⌝ }
     ensures least { λ r. ⌜ r .lo ≡ s .lo +ℤ leastOf (at (now (coef .entry)) (start + j)) (sideAt (now (lo .entry)) (now (hi .entry)) j) ⌝ }
@@ -62,7 +61,7 @@ fn more(coef: &[i64], start: usize, j: usize, lo: &[i64; 4], hi: &[i64; 4], s: S
 
 // The least and the greatest of A·x over a box, A being the row that starts at `start`. Written out room by room: a loop of at most four rounds
 // costs more than its terms.
-pub fn extremes(n: usize, coef: &[i64], start: usize, lo: &[i64; 4], hi: &[i64; 4]) -> Span
+pub fn extremes(n: usize, coef: &[i64; 320], start: usize, lo: &[i64; 4], hi: &[i64; 4]) -> Span
     requires { ⌜ RowSound n (now coef) start × Small edgeLimit (sidesOf n (now lo) (now hi)) ⌝ }
     ensures { λ r. ⌜ Extremes (entriesOf n (now (coef .entry)) start) (sidesOf n (now (lo .entry)) (now (hi .entry))) (r .lo) (r .hi) ⌝ }
 {
@@ -86,7 +85,7 @@ pub fn extremes(n: usize, coef: &[i64], start: usize, lo: &[i64; 4], hi: &[i64; 
 fn image_side(
     n: usize,
     q: usize,
-    coef: &[i64],
+    coef: &[i64; 320],
     start: usize,
     wl: i64,
     wh: i64,
@@ -110,7 +109,7 @@ pub fn image(
     q: usize,
     wlo: &[i64; 4],
     whi: &[i64; 4],
-    coef: &[i64],
+    coef: &[i64; 320],
     u: usize,
     lo: &[i64; 4],
     hi: &[i64; 4],

@@ -69,7 +69,7 @@ fn lay_boxes(f: Frame) -> Limits
 }
 
 // Whether two rows have the same entries.
-fn same_row(n: usize, coef: &[i64], a: usize, b: usize) -> bool
+fn same_row(n: usize, coef: &[i64; 320], a: usize, b: usize) -> bool
     requires { ⌜ RowSound n (now coef) a × RowSound n (now coef) b ⌝ }
     ensures { λ r. ⌜ (r ≡ true → entriesOf n (now (coef .entry)) a ≡ entriesOf n (now (coef .entry)) b) ⌝ }
 {
@@ -87,7 +87,7 @@ fn same_row(n: usize, coef: &[i64], a: usize, b: usize) -> bool
 }
 
 // The mark of mode u: 1 where the mode behind it has the same matrix, else 0.
-fn mark(n: usize, coef: &[i64], u: usize) -> i64
+fn mark(n: usize, coef: &[i64; 320], u: usize) -> i64
     requires { ⌜ (u < 16) × RowsSound n (now coef) u × RowsSound n (now coef) (u + 1) ⌝ }
     ensures { λ r. ⌜ ((r ≡ pos 0 → ⊥) → Alike n (now (coef .entry)) u) ⌝ }
 {
@@ -103,7 +103,7 @@ fn mark(n: usize, coef: &[i64], u: usize) -> i64
 }
 
 // The boxes, and behind them the marks.
-pub fn lay(f: Frame, coef: &[i64]) -> Limits
+pub fn lay(f: Frame, coef: &[i64; 320]) -> Limits
     requires sizes { ⌜ (f .n ≤ 4) × (f .q ≤ 10_000) × (f .modes ≤ 16) ⌝ }
     requires boxes { ⌜ Small bandLimit (boxOf (f .n) (f .band)) × Small edgeLimit (boxOf (f .n) (f .root)) × Small edgeLimit (boxOf (f .n) (f .safe)) ⌝ }
     requires rows { ⌜ ((u : ℕ) → u < f .modes → RowsSound (f .n) (now coef) u) ⌝ }

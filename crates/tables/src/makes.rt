@@ -52,7 +52,7 @@ fn put_tile(buf: &mut [u8], at: usize, k: usize, code: usize) -> usize
 // The defined tree of box b with depth d left: a tile of the first pattern, or where there is none a split and the trees of the children.
 fn tree(
     f: Frame,
-    coef: &[i64],
+    coef: &[i64; 320],
     limits: &[i64; 40],
     d: usize,
     b: Bx,
@@ -78,8 +78,8 @@ fn tree(
     let mut place = numbers::put_number(buf, at, 0);
     let mut c: usize = 0;
     while c < count {
-        let kid = boxes::child(n, b, c);
-        let grown = tree(f, coef, limits, d - 1, kid, buf, place);
+        let child = boxes::child(n, b, c);
+        let grown = tree(f, coef, limits, d - 1, child, buf, place);
         let Grown::Next(next) = grown else {
             return Grown::Nothing;
         };

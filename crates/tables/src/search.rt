@@ -23,7 +23,7 @@ fn modes(
     n: usize,
     count: usize,
     q: usize,
-    coef: &[i64],
+    coef: &[i64; 320],
     limits: &[i64; 40],
     m: usize,
     from: usize,
@@ -66,7 +66,7 @@ pub struct Sought {
 
 // The first pattern of a box: lengths from 1 on, at each length the modes in front in order, those that share a matrix at once, and out of both
 // loops with the first that works. m modes stand behind the first.
-pub fn first(f: Frame, coef: &[i64], limits: &[i64; 40], b: Bx) -> Sought
+pub fn first(f: Frame, coef: &[i64; 320], limits: &[i64; 40], b: Bx) -> Sought
     requires { ⌜ Ready (plantFrom f (now coef)) (now limits) × Small edgeLimit (boxOf (f .n) b) ⌝ }
     ensures pattern { λ r. ⌜ patternBy (r .size) (r .code) ≡ firstPattern (rulesOf (plantFrom f (now (coef .entry)))) (boxOf (f .n) b) ⌝ }
     ensures size { λ r. ⌜ r .size ≤ 6 ⌝ }

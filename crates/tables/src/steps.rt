@@ -21,7 +21,7 @@ ghost use Rattle.tables.specs.Limits.{addLimit, sumSide, sumsAt, lentSid
 ghost use Rattle.tables.specs.Search.{oneOf};
 
 // The least and the greatest of A·x + b over a box, by the row that starts at `start`.
-fn sums(n: usize, coef: &[i64], start: usize, lo: &[i64; 4], hi: &[i64; 4]) -> Span
+fn sums(n: usize, coef: &[i64; 320], start: usize, lo: &[i64; 4], hi: &[i64; 4]) -> Span
     requires { ⌜ RowSound n (now coef) start × Small edgeLimit (sidesOf n (now lo) (now hi)) ⌝ }
     ensures sides { λ r. ⌜ side (r .lo) (r .hi) ≡ sumSide n (now (coef .entry)) start (sidesOf n (now (lo .entry)) (now (hi .entry))) ⌝ }
     ensures sizes { λ r. ⌜ (natAbs (r .lo) ≤ addLimit) × (natAbs (r .hi) ≤ addLimit) ⌝ }
@@ -49,7 +49,7 @@ fn inside(limits: &[i64; 40], base: usize, i: usize, least: i64, greatest: i64) 
 // The extremes of row i under mode u, put into elo and ehi unless they are among the first `have`, which stand there.
 fn keep(
     n: usize,
-    coef: &[i64],
+    coef: &[i64; 320],
     u: usize,
     i: usize,
     lo: &[i64; 4],
@@ -76,7 +76,7 @@ fn keep(
 // `have` rows stand in elo and ehi, and those of the rows up to the answer are left there.
 fn lands(
     n: usize,
-    coef: &[i64],
+    coef: &[i64; 320],
     limits: &[i64; 40],
     u: usize,
     lo: &[i64; 4],
@@ -128,7 +128,7 @@ pub fn last(
     n: usize,
     from: usize,
     to: usize,
-    coef: &[i64],
+    coef: &[i64; 320],
     limits: &[i64; 40],
     lo: &[i64; 4],
     hi: &[i64; 4],
@@ -156,7 +156,7 @@ pub fn last(
 // Whether the image of a box under mode u lies in S; where it does the sums are left in slo and shi, which otherwise say nothing.
 fn stays(
     n: usize,
-    coef: &[i64],
+    coef: &[i64; 320],
     limits: &[i64; 40],
     u: usize,
     lo: &[i64; 4],
@@ -213,7 +213,7 @@ fn divide(n: usize, q: usize, limits: &[i64; 40], lo: &mut [i64; 4], hi: &mut [i
 pub fn step(
     n: usize,
     q: usize,
-    coef: &[i64],
+    coef: &[i64; 320],
     limits: &[i64; 40],
     u: usize,
     lo: &[i64; 4],

@@ -16,7 +16,7 @@ ghost use Rattle.tables.specs.Frames.{plantFrom};
 ghost use Rattle.tables.specs.Tiles.{patternOf, Pattern};
 
 // The first k modes of us, tried on box b. Leaving S is told before missing R.
-pub fn tile_rule(f: Frame, coef: &[i64], k: usize, us: [usize; 6], b: Bx) -> Rule
+pub fn tile_rule(f: Frame, coef: &[i64; 320], k: usize, us: [usize; 6], b: Bx) -> Rule
     requires plant { ⌜ Sound (plantFrom f (now coef)) × Small edgeLimit (boxOf (f .n) b) ⌝ }
     requires pattern { ⌜ Pattern (f .modes) k us ⌝ }
     ensures { λ r. ⌜ r ≡ rule (rulesOf (plantFrom f (now (coef .entry)))) (boxOf (f .n) b) (patternOf k us) ⌝ }

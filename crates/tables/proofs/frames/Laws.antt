@@ -48,8 +48,7 @@ module _ (p : Plant) (g : Sound p) where
   row-sound u i h k = record {
     some = g .n-low;
     rooms = g .n-high;
-    below = omega (arith, row-inside (p .n) (p .modes) u i (g .n-high) (g .modes-high) h k);
-    inside = omega (arith, row-inside (p .n) (p .modes) u i (g .n-high) (g .modes-high) h k, g .coef-size);
+    inside = row-inside (p .n) (p .modes) u i (g .n-high) (g .modes-high) h k;
     entries = λ j l. g .entries u i j h k l;
     offset = g .offsets u i h k;
   }

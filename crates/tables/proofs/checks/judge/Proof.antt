@@ -48,9 +48,6 @@ enum-known-e c = search needs
 enum-known-at : tie.Need-enum-known-at
 enum-known-at c = search needs
 
-slice-aggregate-walk : tie.Need-slice-aggregate-walk
-slice-aggregate-walk c = search needs
-
 walk-requires : tie.Need-walk-requires
 walk-requires c κs = let f = c .before .before .before .before .before .before .before in (sound f, root-small (plant f) (sound f))
 
@@ -105,7 +102,6 @@ judge-spec =
     header-requires
     enum-known-e
     enum-known-at
-    slice-aggregate-walk
     walk-requires
     enum-known-e-2
     enum-known-next

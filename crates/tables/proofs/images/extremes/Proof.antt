@@ -2,7 +2,6 @@
 use mathlib.Core.Path.{_≡_}
 use Prim.Native.Nat.{ℕ, _+_, _≤_, _<_}
 use native.Mathlib.Omega.{arith}
-use lib.ListN.{length}
 use lib.IntN.{ℤ, pos, natAbs, _+ℤ_}
 use denote.Ref.{now}
 use Rattle.laws.specs.Lists.{tab}
@@ -46,11 +45,11 @@ module _ (s : tie.Start) where
 
   -- one room more can be asked for
   asks : (j : ℕ) (lo hi : ℤ) → j < s .args .n → Sums j lo hi
-      → ((j < 4) × (s .args .start + j < length (now (s .args .coef))) × (s .args .start < 320))
+      → ((j < 4) × (s .args .start + j < 320))
       × (((natAbs (entries j) ≤ entryLimit) × Bounded edgeLimit (sides j)) × ((natAbs lo ≤ rowLimit) × (natAbs hi ≤ rowLimit)))
   asks j lo hi h w =
       let r = s .pre .0 .rooms in (
-        (omega arith, omega (arith, s .pre .0 .inside), s .pre .0 .below),
+        (omega arith, omega (arith, s .pre .0 .inside)),
         ((s .pre .0 .entries j h, bounded j h), (omega (arith, w .0 .small), omega (arith, w .1 .small))),
       )
 

@@ -26,31 +26,31 @@ loop-holds : tie.Need-loop-holds Inv-loop μ-loop
 loop-holds c = (omega arith, λ k h. absurd (omega arith))
 
 mul-same-row : tie.Need-mul-same-row Inv-loop μ-loop
-mul-same-row c = omega (arith, here c .below, here c .rooms)
+mul-same-row c = omega (arith, here c .inside, here c .rooms)
 
 add-same-row : tie.Need-add-same-row Inv-loop μ-loop
-add-same-row c = omega (arith, here c .below, here c .rooms)
+add-same-row c = omega (arith, here c .inside, here c .rooms)
 
 add-same-row-2 : tie.Need-add-same-row-2 Inv-loop μ-loop
-add-same-row-2 c = omega (arith, here c .below, here c .rooms)
+add-same-row-2 c = omega (arith, here c .inside, here c .rooms)
 
 mul-same-row-2 : tie.Need-mul-same-row-2 Inv-loop μ-loop
-mul-same-row-2 c = omega (arith, here c .below, here c .rooms)
+mul-same-row-2 c = omega (arith, here c .inside, here c .rooms)
 
 add-same-row-3 : tie.Need-add-same-row-3 Inv-loop μ-loop
-add-same-row-3 c = omega (arith, behind c .below, behind c .rooms)
+add-same-row-3 c = omega (arith, behind c .inside, behind c .rooms)
 
 mul-same-row-3 : tie.Need-mul-same-row-3 Inv-loop μ-loop
-mul-same-row-3 c = omega (arith, behind c .below, behind c .rooms)
+mul-same-row-3 c = omega (arith, behind c .inside, behind c .rooms)
 
 add-same-row-4 : tie.Need-add-same-row-4 Inv-loop μ-loop
-add-same-row-4 c = omega (arith, behind c .below, behind c .rooms)
+add-same-row-4 c = omega (arith, behind c .inside, behind c .rooms)
 
 add-same-row-5 : tie.Need-add-same-row-5 Inv-loop μ-loop
-add-same-row-5 c = omega (arith, behind c .below, behind c .rooms)
+add-same-row-5 c = omega (arith, behind c .inside, behind c .rooms)
 
 mul-same-row-4 : tie.Need-mul-same-row-4 Inv-loop μ-loop
-mul-same-row-4 c = omega (arith, behind c .below, behind c .rooms)
+mul-same-row-4 c = omega (arith, behind c .inside, behind c .rooms)
 
 same-row-requires : tie.Need-same-row-requires Inv-loop μ-loop
 same-row-requires c κs = (here c, behind c)

@@ -24,22 +24,22 @@ loop-holds : tie.Need-loop-holds Inv-loop μ-loop
 loop-holds c = (omega arith, λ k h. absurd (omega arith))
 
 add-x : tie.Need-add-x Inv-loop μ-loop
-add-x c = let r = c .before .before .pre .0 in let h = c .loop-test .taken in omega (arith, r .below, r .inside, r .rooms)
+add-x c = let r = c .before .before .pre .0 in let h = c .loop-test .taken in omega (arith, r .inside, r .rooms)
 
 mul-x : tie.Need-mul-x Inv-loop μ-loop
-mul-x c = let r = c .before .before .pre .0 in let h = c .loop-test .taken in omega (arith, r .below, r .inside, r .rooms)
+mul-x c = let r = c .before .before .pre .0 in let h = c .loop-test .taken in omega (arith, r .inside, r .rooms)
 
-shared-slice-copy-out-x : tie.Need-shared-slice-copy-out-x Inv-loop μ-loop
-shared-slice-copy-out-x c = let r = c .before .before .pre .0 in let h = c .loop-test .taken in omega (arith, r .below, r .inside, r .rooms)
+element-copy-out-x : tie.Need-element-copy-out-x Inv-loop μ-loop
+element-copy-out-x c = let r = c .before .before .pre .0 in let h = c .loop-test .taken in omega (arith, r .inside, r .rooms)
 
 add-y : tie.Need-add-y Inv-loop μ-loop
-add-y c = let r = c .before .before .before .pre .1 in let h = c .before .loop-test .taken in omega (arith, r .below, r .inside, r .rooms)
+add-y c = let r = c .before .before .before .pre .1 in let h = c .before .loop-test .taken in omega (arith, r .inside, r .rooms)
 
 mul-y : tie.Need-mul-y Inv-loop μ-loop
-mul-y c = let r = c .before .before .before .pre .1 in let h = c .before .loop-test .taken in omega (arith, r .below, r .inside, r .rooms)
+mul-y c = let r = c .before .before .before .pre .1 in let h = c .before .loop-test .taken in omega (arith, r .inside, r .rooms)
 
-shared-slice-copy-out-y : tie.Need-shared-slice-copy-out-y Inv-loop μ-loop
-shared-slice-copy-out-y c = let r = c .before .before .before .pre .1 in let h = c .before .loop-test .taken in omega (arith, r .below, r .inside, r .rooms)
+element-copy-out-y : tie.Need-element-copy-out-y Inv-loop μ-loop
+element-copy-out-y c = let r = c .before .before .before .pre .1 in let h = c .before .loop-test .taken in omega (arith, r .inside, r .rooms)
 
 add-j : tie.Need-add-j Inv-loop μ-loop
 add-j c = let h = c .before .before .before .loop-test .taken in omega arith
@@ -73,10 +73,10 @@ same-row-spec =
     loop-holds
     add-x
     mul-x
-    shared-slice-copy-out-x
+    element-copy-out-x
     add-y
     mul-y
-    shared-slice-copy-out-y
+    element-copy-out-y
     add-j
     loop-less
     loop-again

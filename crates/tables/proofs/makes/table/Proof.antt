@@ -25,9 +25,6 @@ ready c = record { sound = sound (c .before .before .before); laid = c .lay .ens
 framed-requires : tie.Need-framed-requires
 framed-requires c κs = search needs
 
-slice-aggregate-lay : tie.Need-slice-aggregate-lay
-slice-aggregate-lay c = search needs
-
 lay-requires : tie.Need-lay-requires
 lay-requires c κs =
     let f = c .before .before in
@@ -40,9 +37,6 @@ put-number-requires c κs = search needs
 
 put-number-requires-2 : tie.Need-put-number-requires-2
 put-number-requires-2 c κs = search needs
-
-slice-aggregate-tree : tie.Need-slice-aggregate-tree
-slice-aggregate-tree c = search needs
 
 tree-requires : tie.Need-tree-requires
 tree-requires c κs = let l = c .before .before .before .before .before .before .before .before .before .before .before .before .before in let f = l .before .before .before in (ready l, root-small (plant f) (sound f))
@@ -61,11 +55,9 @@ table-spec =
     tie.close
     (tie.spec
     framed-requires
-    slice-aggregate-lay
     lay-requires
     put-number-requires
     put-number-requires-2
-    slice-aggregate-tree
     tree-requires
     same-length
     returns)

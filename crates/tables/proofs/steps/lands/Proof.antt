@@ -86,25 +86,25 @@ keep-requires c κs =
     ((t .loop-test .taken, s .pre .0 .0 (l .i) (t .loop-test .taken), s .pre .0 .1, l .inv .0, l .inv .1), (l .inv .3, l .inv .4))
 
 mul-offset : tie.Need-mul-offset Inv-loop μ-loop
-mul-offset c = omega (arith, row c .below, row c .rooms, row c .inside)
+mul-offset c = omega (arith, row c .rooms, row c .inside)
 
 add-offset : tie.Need-add-offset Inv-loop μ-loop
-add-offset c = omega (arith, row c .below, row c .rooms, row c .inside)
+add-offset c = omega (arith, row c .rooms, row c .inside)
 
 add-offset-2 : tie.Need-add-offset-2 Inv-loop μ-loop
-add-offset-2 c = omega (arith, row c .below, row c .rooms, row c .inside)
+add-offset-2 c = omega (arith, row c .rooms, row c .inside)
 
 mul-offset-2 : tie.Need-mul-offset-2 Inv-loop μ-loop
-mul-offset-2 c = omega (arith, row c .below, row c .rooms, row c .inside)
+mul-offset-2 c = omega (arith, row c .rooms, row c .inside)
 
 add-offset-3 : tie.Need-add-offset-3 Inv-loop μ-loop
-add-offset-3 c = omega (arith, row c .below, row c .rooms, row c .inside)
+add-offset-3 c = omega (arith, row c .rooms, row c .inside)
 
 mul-offset-3 : tie.Need-mul-offset-3 Inv-loop μ-loop
-mul-offset-3 c = omega (arith, row c .below, row c .rooms, row c .inside)
+mul-offset-3 c = omega (arith, row c .rooms, row c .inside)
 
-shared-slice-copy-out-offset : tie.Need-shared-slice-copy-out-offset Inv-loop μ-loop
-shared-slice-copy-out-offset c = omega (arith, row c .below, row c .rooms, row c .inside)
+element-copy-out-offset : tie.Need-element-copy-out-offset Inv-loop μ-loop
+element-copy-out-offset c = omega (arith, row c .rooms, row c .inside)
 
 mul-least : tie.Need-mul-least Inv-loop μ-loop
 mul-least c = let f = few (c .before) in omega arith
@@ -167,7 +167,7 @@ lands-spec =
     mul-offset-2
     add-offset-3
     mul-offset-3
-    shared-slice-copy-out-offset
+    element-copy-out-offset
     mul-least
     element-copy-out-least
     mul-greatest

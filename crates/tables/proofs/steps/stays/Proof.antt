@@ -62,16 +62,16 @@ unfolding tab
 loop-holds c = (c .pre .1 .1, c .pre .1 .2, refl, hold-none (test c) (c .args .n), within-none addLimit (now (c .args .slo)) (now (c .args .shi)))
 
 mul-sums : tie.Need-mul-sums Inv-loop μ-loop
-mul-sums c = let r = c .before .before .pre .0 (c .before .loop .i) (c .loop-test .taken) in omega (arith, r .below)
+mul-sums c = let r = c .before .before .pre .0 (c .before .loop .i) (c .loop-test .taken) in omega (arith, r .inside)
 
 add-sums : tie.Need-add-sums Inv-loop μ-loop
-add-sums c = let r = c .before .before .pre .0 (c .before .loop .i) (c .loop-test .taken) in omega (arith, r .below)
+add-sums c = let r = c .before .before .pre .0 (c .before .loop .i) (c .loop-test .taken) in omega (arith, r .inside)
 
 add-sums-2 : tie.Need-add-sums-2 Inv-loop μ-loop
 add-sums-2 c = let r = c .before .before .pre .0 (c .before .loop .i) (c .loop-test .taken) in omega (arith, r .rooms)
 
 mul-sums-2 : tie.Need-mul-sums-2 Inv-loop μ-loop
-mul-sums-2 c = let r = c .before .before .pre .0 (c .before .loop .i) (c .loop-test .taken) in omega (arith, r .below)
+mul-sums-2 c = let r = c .before .before .pre .0 (c .before .loop .i) (c .loop-test .taken) in omega (arith, r .inside)
 
 sums-requires : tie.Need-sums-requires Inv-loop μ-loop
 sums-requires c κs = (c .before .before .pre .0 (c .before .loop .i) (c .loop-test .taken), c .before .before .pre .1 .0)
