@@ -18,7 +18,7 @@ ghost use Rattle.tables.specs.Limits.{Unlent, plantLent, Ready, Lent};
 ghost use Rattle.tables.specs.Search.{soughtOf, patternBy, behindMode};
 
 // The first m modes that work on a box, the first of them among from..to: one more than their number, 0 where there are none. Only an image
-// that stays in S is gone on from.
+// that stays in S is gone on from. The last of more than one is found where the one before it is tried, which saves most of the calls.
 fn modes(
     n: usize,
     count: usize,
@@ -48,9 +48,16 @@ fn modes(
     let mut v = from;
     while v < to {
         if steps::step(n, q, coef, limits, v, lo, hi, &mut ilo, &mut ihi) {
-            let rest = modes(n, count, q, coef, limits, m - 1, 0, count, &ilo, &ihi);
-            if rest != 0 {
-                return v + 16 * (rest - 1) + 1;
+            if m == 2 {
+                let u = steps::last(n, 0, count, coef, limits, &ilo, &ihi);
+                if u < count {
+                    return v + 16 * u + 1;
+                }
+            } else {
+                let rest = modes(n, count, q, coef, limits, m - 1, 0, count, &ilo, &ihi);
+                if rest != 0 {
+                    return v + 16 * (rest - 1) + 1;
+                }
             }
         }
         v += 1;

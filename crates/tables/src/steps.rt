@@ -133,7 +133,7 @@ pub fn last(
     lo: &[i64; 4],
     hi: &[i64; 4],
 ) -> usize
-    requires { ⌜ (from ≤ to) × ((u : ℕ) → u < to → RowsSound n (now coef) u) × Small edgeLimit (sidesOf n (now lo) (now hi)) ⌝ }
+    requires { ⌜ ((u : ℕ) → u < to → RowsSound n (now coef) u) × Small edgeLimit (sidesOf n (now lo) (now hi)) ⌝ }
     requires marks { ⌜ (to ≤ 16) × Marked n to (now coef) (now limits) ⌝ }
     ensures { λ r. ⌜ oneOf to r ≡ firstMode (landing n (now (coef .entry)) (now (limits .entry)) (sidesOf n (now (lo .entry)) (now (hi .entry)))) (to - from) from ⌝ }
 {

@@ -1,18 +1,17 @@
 -- Laws for the proof of module limits: limits fit the machine's words; the array is laid dimension by dimension, and marked mode by mode.
 -- Assumes nothing.
 use Prim.Native.Nat.{ℕ, _+_, _≤_, _<_}
-use mathlib.Core.Path.{_≡_, refl, sym, ap, _∙_}
+use mathlib.Core.Path.{_≡_, refl, ap, _∙_}
 use mathlib.Core.List.{List}
 use native.Mathlib.Omega.{arith}
 use native.Mathlib.Decide.{ℕ-discrete}
-use native.Mathlib.Nat.{zero-add}
-use lib.ListN.{length, getD, set, length-set}
+use lib.ListN.{length, set, length-set}
 use lib.Seq.{getD-set-other}
 use lib.IntN.{ℤ, pos}
 use mir.Syntax.{w64}
 use mir.Val.{ofZ, toZ}
-use Rattle.laws.specs.Lists.{at, tab}
-use Rattle.laws.specs.Tabs.{getD-tab, at-stored}
+use Rattle.laws.specs.Lists.{at}
+use Rattle.laws.specs.Tabs.{at-stored}
 use Rattle.laws.specs.Expressions.{Ex, var, lit, _⊕_, _⊝_, _⊗_, bound, size, exact}
 use Rattle.meaning.specs.Boxes.{Side, side}
 use Rattle.meaning.specs.Plants.{edgeLimit, bandLimit}
@@ -141,10 +140,3 @@ marked-more n coef l m z h new old u o k = go (ℕ-discrete u m)
     go : Dec (u ≡ m) → Alike n coef u
     go (yes q) = rw q (new (λ e. k (rw q (at-stored l (24 + m) z h ∙ e))))
     go (no q) = old u (omega arith) (λ e. k (at-other l (24 + m) z (24 + u) (λ p. absurd (omega arith)) ∙ e))
-
--- equal lists have equal entries
-pub tab-entry : (f g : ℕ → Side) (n i : ℕ) → tab f n 0 ≡ tab g n 0 → i < n → f i ≡ g i
-tab-entry f g n i e h =
-    let d = side (pos 0) (pos 0) in
-    let z : 0 + i ≡ i = zero-add i in
-    (rw z at (sym (getD-tab f d n 0 i h))) ∙ ap (λ (l : List Side). getD l i d) e ∙ (rw z at (getD-tab g d n 0 i h))

@@ -8,7 +8,8 @@ use mathlib.Core.List.{List}
 use mathlib.Core.Logic.{_⊎_, inl, inr}
 use native.Mathlib.Omega.{arith}
 use native.Mathlib.Decide.{ℕ-discrete}
-use lib.ListN.{length, set}
+use native.Mathlib.Nat.{zero-add}
+use lib.ListN.{length, getD, set}
 use lib.Seq.{getD-set-other}
 use lib.IntN.{ℤ, pos, natAbs, _+ℤ_, _-ℤ_, _*ℤ_}
 use lib.Signed.{leZ, _≤ℤ_, _<ℤ_}
@@ -19,7 +20,7 @@ use Rattle.laws.specs.Integers.{zarith, add, sub, leZ-true, leZ-false}
 use Rattle.laws.specs.Division.{floorZ, ceilZ}
 use Rattle.laws.specs.DivisionLaws.{floor-greatest, ceil-least}
 use Rattle.laws.specs.Lists.{at, tab, all}
-use Rattle.laws.specs.Tabs.{tab-same, at-below, at-stored}
+use Rattle.laws.specs.Tabs.{tab-same, getD-tab, at-below, at-stored}
 use Rattle.laws.specs.Tests.{true-leZ, false-leZ}
 use Rattle.meaning.specs.declared.Plant.{Plant}
 use Rattle.meaning.specs.Boxes.{Side, side, sideAt, covers, within}
@@ -37,6 +38,13 @@ pub sides-are : {es : List ℤ} {b : List Side} {lo hi : ℤ} → Extremes es b 
 sides-are e o = rw (e .least, e .greatest) refl
 
 -- ---- arrays that are filled from the front
+
+-- equal lists have equal entries
+pub tab-entry : (f g : ℕ → Side) (n i : ℕ) → tab f n 0 ≡ tab g n 0 → i < n → f i ≡ g i
+tab-entry f g n i e h =
+    let d = side (pos 0) (pos 0) in
+    let z : 0 + i ≡ i = zero-add i in
+    (rw z at (sym (getD-tab f d n 0 i h))) ∙ ap (λ (l : List Side). getD l i d) e ∙ (rw z at (getD-tab g d n 0 i h))
 
 pub within-none : (k : ℕ) (lo hi : List ℤ) → Within k 0 lo hi
 within-none k lo hi i h = absurd (omega arith)

@@ -17,8 +17,8 @@ use Rattle.meaning.specs.Plants.{edgeLimit, safeOf, stepOf}
 use Rattle.meaning.specs.Tables.{rulesOf}
 use Rattle.meaning.specs.Defined.{firstMode}
 use Rattle.tables.specs.Boxes.{Small}
-use Rattle.tables.specs.Limits.{RowsSound, Unlent, plantLent, Ready}
-use Rattle.tables.specs.Search.{digits, behindMode}
+use Rattle.tables.specs.Limits.{landing, RowsSound, Unlent, plantLent, Ready}
+use Rattle.tables.specs.Search.{digits, soughtOf, oneOf, behindMode}
 use Rattle.tables.proofs.frames.Laws.{rooms, divisor, divisor-small}
 use Rattle.tables.proofs.steps.Laws.{covered-safe, made-image}
 use Rattle.tables.proofs.search.Laws.{digit-more, digits-small, none-sought, modes-done, modes-fail, modes-found, rows-sound, lent-band, last-is, last-none, behind-leaves, behind-stays, behind-small, modes-rest}
@@ -89,6 +89,9 @@ module _ (t : ℕ) (s : Call t) where
   rows : (u : ℕ) → u < s .args .count → RowsSound (s .args .n) (now (s .args .coef)) u
   rows u h = rows-sound (plant some-plant) (now (s .args .limits)) fits-some u h
 
+  few-modes : s .args .count ≤ 16
+  few-modes = fits-some .sound .modes-high
+
   few : s .args .to ≤ 16
   few = let h = s .pre .1 .1 .1 in let k = fits-some .sound .modes-high in omega arith
 
@@ -131,21 +134,36 @@ module _ (t : ℕ) (c : Step t) where
       let g = fits-some t began in
       behind-small (plant t began x) (began .args .m - 1) mode (box t began) held (is-image x g e) (in-safe x g e) (g .sound) (began .pre .1 .0 .1)
 
+  -- one mode is left behind it: v is the first that lands, or N
+  module _ (e : c .step .result ≡ true) (two : began .args .m ≡ 2) (v : ℕ)
+      (q : oneOf (began .args .count) v ≡ firstMode (landing (began .args .n) (now (began .args .coef)) (now (began .args .limits)) held) (began .args .count - 0) 0) (x : Unlent) (g : Fits t began x) where
+    ends : firstMode (behindMode (rulesOf (plant t began x)) 0 held) (began .args .count - 0) 0 ≡ try t began x mode
+    ends = let k : began .args .m - 1 - 1 ≡ 0 = omega arith in rw k at (stays x g e)
+
+    ends-none : began .args .count ≤ v → none ≡ try t began x mode
+    ends-none h = last-none (plant t began x) (now (began .args .limits)) g held 0 (began .args .count) 1 v (few-modes t began) refl q h ∙ ends
+
+    ends-with : v < began .args .count → soughtOf 1 (v + 1) ≡ try t began x mode
+    ends-with h = last-is (plant t began x) (now (began .args .limits)) g held 0 (began .args .count) 1 v (few-modes t began) refl q h ∙ ends
+
 -- a mode in front that was tried and gone on from, or that leaves S: none works behind it
 missed : (t : ℕ) (c : Tried t) (x : Unlent) → Fits t (began t (c .before)) x → try t (began t (c .before)) x (mode t (c .before)) ≡ none
 missed t c x g =
     let k = c .before in
     let s = began t k in
     ⊎-elim
-    (λ w. sym (stays t k x g (w .0 .taken)) ∙ sym (w .3 .ensures .0 x g) ∙ none-sought (s .args .m - 1) (w .3 .result) (w .4 .left))
+    (λ w. sym (ends-none t k (w .0 .taken) (w .1 .taken) (w .4 .result) (w .4 .ensures) x g (w .5 .left)))
+    (λ r. ⊎-elim
+    (λ w. sym (stays t k x g (w .0 .taken)) ∙ sym (w .4 .ensures .0 x g) ∙ none-sought (s .args .m - 1) (w .4 .result) (w .5 .left))
     (λ w. sym (behind-leaves (plant t s x) (s .args .m - 1) (mode t k) (box t s) _ refl (sym (told t k x g) ∙ w .left)))
+    r)
     (c .if3 .came)
 
 modes-last-requires : (t : ℕ) → modes-lts.Need-last-requires (claims t) (modes-at t) modes.Post modes-Inv-loop modes-μ-loop
 modes-last-requires t c κs =
     let s = c .before in
     let h = s .pre .1 .1 .1 in
-    ((s .pre .1 .1 .0, (λ u l. rows t s u (omega arith)), s .pre .1 .0 .1), (few t s, λ u l. fits-some t s .marked u (omega arith)))
+    (((λ u l. rows t s u (omega arith)), s .pre .1 .0 .1), (few t s, λ u l. fits-some t s .marked u (omega arith)))
 
 modes-add-result : (t : ℕ) → modes-lts.Need-add-result (claims t) (modes-at t) modes.Post modes-Inv-loop modes-μ-loop
 modes-add-result t c = let h = c .if2 .taken in let l = few t (c .before .before .before) in omega arith
@@ -179,61 +197,112 @@ modes-step-requires t c κs =
     let k = s .pre .1 .1 .1 in
     ((rows t s (l .loop .v) (omega arith), rooms p (g .sound), divisor p (g .sound), divisor-small p (g .sound), lent-band p (now (s .args .limits)) g), (s .pre .1 .0 .1, l .loop .inv .1, l .loop .inv .2))
 
+modes-last-requires-2 : (t : ℕ) → modes-lts.Need-last-requires-2 (claims t) (modes-at t) modes.Post modes-Inv-loop modes-μ-loop
+modes-last-requires-2 t c κs =
+    let k = c .before .before .before .before in
+    let s = began t k in
+    ((rows t s, small t k (c .before .before .before .if3 .taken)), (few-modes t s, fits-some t s .marked))
+
+modes-mul-result : (t : ℕ) → modes-lts.Need-mul-result (claims t) (modes-at t) modes.Post modes-Inv-loop modes-μ-loop
+modes-mul-result t c =
+    let k = c .before .before .before .before .before .before in
+    let h = c .if5 .taken in
+    let v = in-range t k in
+    let l = few t (began t k) in
+    let f = few-modes t (began t k) in
+    omega arith
+
+modes-add-result-2 : (t : ℕ) → modes-lts.Need-add-result-2 (claims t) (modes-at t) modes.Post modes-Inv-loop modes-μ-loop
+modes-add-result-2 t c =
+    let k = c .before .before .before .before .before .before in
+    let h = c .if5 .taken in
+    let v = in-range t k in
+    let l = few t (began t k) in
+    let f = few-modes t (began t k) in
+    omega arith
+
+modes-add-result-3 : (t : ℕ) → modes-lts.Need-add-result-3 (claims t) (modes-at t) modes.Post modes-Inv-loop modes-μ-loop
+modes-add-result-3 t c =
+    let k = c .before .before .before .before .before .before in
+    let h = c .if5 .taken in
+    let v = in-range t k in
+    let l = few t (began t k) in
+    let f = few-modes t (began t k) in
+    omega arith
+
+modes-returns-3 : (t : ℕ) → modes-lts.Need-returns-3 (claims t) (modes-at t) modes.Post modes-Inv-loop modes-μ-loop
+modes-returns-3 t c =
+    let k = c .before .before .before .before .before .before in
+    let s = began t k in
+    let v = mode t k in
+    let u = c .before .last2 in
+    let h = in-range t k in
+    let f = few t s in
+    let n = few-modes t s in
+    let z = c .before .before .before .before .if4 .taken in
+    let o = c .if5 .taken in
+    let q : u .result + 1 - 1 ≡ u .result = omega arith in (
+      λ x g. rw add-one refl
+          ∙ ap (λ (i : ℕ). some (digits i (v + 16 * u .result))) z
+          ∙ (rw q at (modes-found (try t s x) (s .args .to) v (whole t s x) (k .before .before .before .before .loop .inv .3 x g) h 1 (u .result + 1) (ends-with t k (c .before .before .before .before .before .if3 .taken) z (u .result) (u .ensures) x g o) (λ e. absurd (omega arith)) (omega arith))),
+      rw z (omega arith),
+    )
+
 modes-sub-modes : (t : ℕ) → modes-lts.Need-sub-modes (claims t) (modes-at t) modes.Post modes-Inv-loop modes-μ-loop
-modes-sub-modes t c = let z = more-than-one t (c .before) in omega arith
+modes-sub-modes t c = let z = more-than-one t (c .before .before) in omega arith
 
 modes-modes-requires : (t : ℕ) → modes-lts.Need-modes-requires (claims t) (modes-at t) modes.Post modes-Inv-loop modes-μ-loop
 modes-modes-requires t c κs =
-    let k = c .before .before .before in
+    let k = c .before .before .before .before in
     let s = began t k in
     let z = more-than-one t k in
     let less = s .pre .0 in
     let most = s .pre .1 .1 .3 in
-    (omega arith, ((s .pre .1 .0 .0, small t k (c .before .before .if3 .taken)), (omega arith, omega arith, omega arith, omega arith)))
+    (omega arith, ((s .pre .1 .0 .0, small t k (c .before .before .before .if3 .taken)), (omega arith, omega arith, omega arith, omega arith)))
 
 modes-sub-result : (t : ℕ) → modes-lts.Need-sub-result (claims t) (modes-at t) modes.Post modes-Inv-loop modes-μ-loop
 modes-sub-result t c =
-    let k = c .before .before .before .before .before in
+    let k = c .before .before .before .before .before .before in
     let s = began t k in
-    let z = c .if4 .taken in
+    let z = c .if6 .taken in
     let most = s .pre .1 .1 .3 in
     let v = in-range t k in
     let l = few t s in
     omega (arith, c .before .modes .ensures .1, digits-small (s .args .m - 1) (omega arith))
 
-modes-mul-result : (t : ℕ) → modes-lts.Need-mul-result (claims t) (modes-at t) modes.Post modes-Inv-loop modes-μ-loop
-modes-mul-result t c =
-    let k = c .before .before .before .before .before in
+modes-mul-result-2 : (t : ℕ) → modes-lts.Need-mul-result-2 (claims t) (modes-at t) modes.Post modes-Inv-loop modes-μ-loop
+modes-mul-result-2 t c =
+    let k = c .before .before .before .before .before .before in
     let s = began t k in
-    let z = c .if4 .taken in
+    let z = c .if6 .taken in
     let most = s .pre .1 .1 .3 in
     let v = in-range t k in
     let l = few t s in
     omega (arith, c .before .modes .ensures .1, digits-small (s .args .m - 1) (omega arith))
 
-modes-add-result-2 : (t : ℕ) → modes-lts.Need-add-result-2 (claims t) (modes-at t) modes.Post modes-Inv-loop modes-μ-loop
-modes-add-result-2 t c =
-    let k = c .before .before .before .before .before in
+modes-add-result-4 : (t : ℕ) → modes-lts.Need-add-result-4 (claims t) (modes-at t) modes.Post modes-Inv-loop modes-μ-loop
+modes-add-result-4 t c =
+    let k = c .before .before .before .before .before .before in
     let s = began t k in
-    let z = c .if4 .taken in
+    let z = c .if6 .taken in
     let most = s .pre .1 .1 .3 in
     let v = in-range t k in
     let l = few t s in
     omega (arith, c .before .modes .ensures .1, digits-small (s .args .m - 1) (omega arith))
 
-modes-add-result-3 : (t : ℕ) → modes-lts.Need-add-result-3 (claims t) (modes-at t) modes.Post modes-Inv-loop modes-μ-loop
-modes-add-result-3 t c =
-    let k = c .before .before .before .before .before in
+modes-add-result-5 : (t : ℕ) → modes-lts.Need-add-result-5 (claims t) (modes-at t) modes.Post modes-Inv-loop modes-μ-loop
+modes-add-result-5 t c =
+    let k = c .before .before .before .before .before .before in
     let s = began t k in
-    let z = c .if4 .taken in
+    let z = c .if6 .taken in
     let most = s .pre .1 .1 .3 in
     let v = in-range t k in
     let l = few t s in
     omega (arith, c .before .modes .ensures .1, digits-small (s .args .m - 1) (omega arith))
 
-modes-returns-3 : (t : ℕ) → modes-lts.Need-returns-3 (claims t) (modes-at t) modes.Post modes-Inv-loop modes-μ-loop
-modes-returns-3 t c =
-    let k = c .before .before .before .before .before in
+modes-returns-4 : (t : ℕ) → modes-lts.Need-returns-4 (claims t) (modes-at t) modes.Post modes-Inv-loop modes-μ-loop
+modes-returns-4 t c =
+    let k = c .before .before .before .before .before .before in
     let s = began t k in
     let v = mode t k in
     let l = k .before .before .before .before .loop in
@@ -244,8 +313,8 @@ modes-returns-3 t c =
     let q : s .args .m ≡ suc (s .args .m - 1) = omega arith in (
       λ x g. rw add-one refl
           ∙ ap (λ (i : ℕ). some (digits i (v + 16 * (r .result - 1)))) q
-          ∙ modes-found (try t s x) (s .args .to) v (whole t s x) (l .inv .3 x g) h (s .args .m - 1) (r .result) (r .ensures .0 x g ∙ stays t k x g (c .before .before .before .before .if3 .taken)) (c .if4 .taken) (omega arith),
-      omega (arith, r .ensures .1, digit-more (s .args .m) (λ e. absurd (omega arith)), c .if4 .taken),
+          ∙ modes-found (try t s x) (s .args .to) v (whole t s x) (l .inv .3 x g) h (s .args .m - 1) (r .result) (r .ensures .0 x g ∙ stays t k x g (c .before .before .before .before .before .if3 .taken)) (c .if6 .taken) (omega arith),
+      omega (arith, r .ensures .1, digit-more (s .args .m) (λ e. absurd (omega arith)), c .if6 .taken),
     )
 
 modes-add-v : (t : ℕ) → modes-lts.Need-add-v (claims t) (modes-at t) modes.Post modes-Inv-loop modes-μ-loop
@@ -266,8 +335,8 @@ modes-loop-again t c =
       λ x g. modes-fail (try t s x) (s .args .to) (mode t k) (whole t s x) (l .inv .3 x g) h (missed t c x g),
     )
 
-modes-returns-4 : (t : ℕ) → modes-lts.Need-returns-4 (claims t) (modes-at t) modes.Post modes-Inv-loop modes-μ-loop
-modes-returns-4 t c =
+modes-returns-5 : (t : ℕ) → modes-lts.Need-returns-5 (claims t) (modes-at t) modes.Post modes-Inv-loop modes-μ-loop
+modes-returns-5 t c =
     let l = c .before .loop in
     let s = c .before .before .before in
     (λ x g. modes-done (try t s x) (s .args .to) (l .v) (whole t s x) (l .inv .3 x g) (c .loop-test .left), omega arith)
@@ -284,14 +353,19 @@ pub +modes-spec : {M : Type 1} → statement M
     (modes-returns-2 t)
     (modes-loop-holds t)
     (modes-step-requires t)
-    (modes-sub-modes t)
-    (modes-modes-requires t)
-    (modes-sub-result t)
+    (modes-last-requires-2 t)
     (modes-mul-result t)
     (modes-add-result-2 t)
     (modes-add-result-3 t)
     (modes-returns-3 t)
+    (modes-sub-modes t)
+    (modes-modes-requires t)
+    (modes-sub-result t)
+    (modes-mul-result-2 t)
+    (modes-add-result-4 t)
+    (modes-add-result-5 t)
+    (modes-returns-4 t)
     (modes-add-v t)
     (modes-loop-less t)
     (modes-loop-again t)
-    (modes-returns-4 t)
+    (modes-returns-5 t)

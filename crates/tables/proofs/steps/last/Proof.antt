@@ -53,7 +53,7 @@ lands-requires c κs =
     let s = t .before .before in
     let l = t .before .loop in
     let h = t .loop-test .taken in
-    ((s .pre .0 .1 (l .u) h, s .pre .0 .2), (l .inv .2 h, l .inv .0, l .inv .1))
+    ((s .pre .0 .0 (l .u) h, s .pre .0 .1), (l .inv .2 h, l .inv .0, l .inv .1))
 
 left-requires : tie.Need-left-requires Inv-loop μ-loop
 left-requires c κs =
@@ -61,7 +61,7 @@ left-requires c κs =
     let s = t .before .before in
     let h = t .loop-test .taken in
     let few = s .pre .1 .0 in
-    (omega arith, omega (arith, c .if1 .taken, s .pre .0 .1 (t .before .loop .u) h (c .before .lands .result) (c .if1 .taken) .rooms))
+    (omega arith, omega (arith, c .if1 .taken, s .pre .0 .0 (t .before .loop .u) h (c .before .lands .result) (c .if1 .taken) .rooms))
 
 add-u : tie.Need-add-u Inv-loop μ-loop
 add-u c = let h = round (c .before .before) .loop-test .taken in omega arith

@@ -7,7 +7,7 @@ use Rattle.laws.specs.Tabs.{tab-same}
 use Rattle.laws.specs.Tests.{never}
 use Rattle.meaning.specs.Boxes.{Side, sideAt, sidesOf}
 use Rattle.tables.specs.Limits.{divided, lentSide, sumsAt, dividedIn, dividedAt}
-use Rattle.tables.proofs.limits.Laws.{tab-entry}
+use Rattle.tables.proofs.steps.Laws.{tab-entry}
 use Rattle.tables.proofs.steps.step.Statement.{statement}
 use Rattle.tables.proofs.steps.step.Tie as tie
 
