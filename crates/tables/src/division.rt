@@ -6,16 +6,17 @@ ghost use lib.IntN.{natAbs};
 ghost use Rattle.laws.specs.Division.{floorZ, ceilZ};
 ghost use Rattle.tables.specs.Images.{sumLimit};
 
-// Rounded down. The machine cuts towards zero, which is the floor from 0 on; below 0 it is the floor of -1 - num, mirrored.
+// Rounded down. The machine cuts towards zero, so that what is divided is made a number above 0: num + q, which gives one more, and below 0
+// q - 1 - num, mirrored. Above 0 and small, it is divided by the machine's short division, and a sign costs nothing.
 pub fn floor(num: i64, q: usize) -> i64
     requires { ⌜ (natAbs num ≤ sumLimit) × (1 ≤ q) × (q ≤ 10_000) ⌝ }
     ensures { λ r. ⌜ r ≡ floorZ num q ⌝ }
 {
     let d = q as i64;
     if 0 <= num {
-        num / d
+        (num + d) / d - 1
     } else {
-        -1 - (-1 - num) / d
+        0 - (d - 1 - num) / d
     }
 }
 
