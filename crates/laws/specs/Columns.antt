@@ -15,7 +15,7 @@ use Rattle.laws.specs.Tabs.{length-tab, getD-tab, padding-size, FilledBy
 -- ---- put together
 
 module _ {ℓ} {A : Type ℓ} (g : ℕ → A) where
-  tab-join : (m k i : ℕ) → tab g m i ++ tab g k (i + m) ≡ tab g (m + k) i
+  pub tab-join : (m k i : ℕ) → tab g m i ++ tab g k (i + m) ≡ tab g (m + k) i
   unfolding tab
   tab-join zero k i = let a : i + 0 ≡ i = omega arith in let b : 0 + k ≡ k = omega arith in rw (a, b) refl
   tab-join (suc m) k i =

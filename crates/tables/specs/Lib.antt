@@ -7,4 +7,5 @@ pub mod Trees
 pub mod Control
 pub mod Search
 pub mod Limits
+pub mod Beginnings
 pub mod Makes

@@ -120,18 +120,3 @@ pub fn lay(f: Frame, coef: &[i64; 320]) -> Limits
     }
     Limits { of }
 }
-
-// The end of the modes from u on that share the matrix of mode u.
-pub fn block(limits: &[i64; 40], count: usize, u: usize) -> usize
-    requires { ⌜ (u < count) × (count ≤ 16) ⌝ }
-    ensures { λ r. ⌜ (u < r) × (r ≤ count) ⌝ }
-{
-    let mut to = u + 1;
-    while to < count {
-        if limits[23 + to] == 0 {
-            return to;
-        }
-        to += 1;
-    }
-    to
-}

@@ -23,6 +23,7 @@ ghost use Rattle.meaning.specs.Trees.{tile, layout};
 ghost use Rattle.promises.specs.Sound.{Sound};
 ghost use Rattle.tables.specs.Boxes.{boxOf, Small};
 ghost use Rattle.tables.specs.Frames.{plantFrom};
+ghost use Rattle.tables.specs.Beginnings.{Roomy};
 ghost use Rattle.tables.specs.Limits.{Ready};
 ghost use Rattle.tables.specs.Search.{digits};
 ghost use Rattle.tables.specs.Makes.{Wrote, treeBytes, definedBytes};
@@ -56,13 +57,19 @@ fn tree(
     limits: &[i64; 40],
     d: usize,
     b: Bx,
+    codes: &mut [usize; 32],
+    los: &mut [[i64; 4]; 32],
+    his: &mut [[i64; 4]; 32],
     buf: &mut [u8],
     at: usize,
 ) -> Grown
-    requires { ⌜ Ready (plantFrom f (now coef)) (now limits) × Small edgeLimit (boxOf (f .n) b) ⌝ }
-    ensures { λ r. ⌜ Wrote (treeBytes (rulesOf (plantFrom f (now (coef .entry)))) d (boxOf (f .n) b)) (now (buf .entry)) at r (now (buf .exit)) ⌝ }
+    requires plant { ⌜ Ready (plantFrom f (now coef)) (now limits) × Small edgeLimit (boxOf (f .n) b) ⌝ }
+    requires room { ⌜ Roomy (now codes) (now los) (now his) ⌝ }
+    ensures bytes { λ r. ⌜ Wrote (treeBytes (rulesOf (plantFrom f (now (coef .entry)))) d (boxOf (f .n) b)) (now (buf .entry)) at r (now (buf .exit)) ⌝ }
+    ensures room { λ r. ⌜ Roomy (now (codes .exit)) (now (los .exit)) (now (his .exit)) ⌝ }
 {
-    let sought = search::first(f, coef, limits, b);
+    let n = f.n;
+    let sought = search::first(n, f.modes, f.q, f.k, coef, limits, b, codes, los, his);
     let size = sought.size;
     if size != 0 {
         return Grown::Next(put_tile(buf, at, size, sought.code));
@@ -70,7 +77,6 @@ fn tree(
     if d == 0 {
         return Grown::Nothing;
     }
-    let n = f.n;
     let count = boxes::count(n, b);
     if count == 0 {
         return Grown::Nothing;
@@ -79,7 +85,7 @@ fn tree(
     let mut c: usize = 0;
     while c < count {
         let child = boxes::child(n, b, c);
-        let grown = tree(f, coef, limits, d - 1, child, buf, place);
+        let grown = tree(f, coef, limits, d - 1, child, codes, los, his, buf, place);
         let Grown::Next(next) = grown else {
             return Grown::Nothing;
         };
@@ -90,7 +96,7 @@ fn tree(
 }
 
 // The table of a plant that was judged good: header, then the tree of R. The coefficients are copied out of the plant
-// once and the limits made once; both are lent from then on.
+// once and the limits made once; both are lent from then on, and so is the room in which the search keeps beginnings.
 fn table(p: Plant, buf: &mut [u8]) -> Grown
     requires { ⌜ Sound p ⌝ }
     ensures { λ r. ⌜ Wrote (definedBytes (rulesOf p)) (now (buf .entry)) 0 r (now (buf .exit)) ⌝ }
@@ -102,7 +108,21 @@ fn table(p: Plant, buf: &mut [u8]) -> Grown
     let root = f.root;
     let past_form = numbers::put_number(buf, 0, 1);
     let past_rooms = numbers::put_number(buf, past_form, f.n);
-    tree(f, &coef, &limits, f.d, root, buf, past_rooms)
+    let mut codes = [0usize; 32];
+    let mut los = [[0i64; 4]; 32];
+    let mut his = [[0i64; 4]; 32];
+    tree(
+        f,
+        &coef,
+        &limits,
+        f.d,
+        root,
+        &mut codes,
+        &mut los,
+        &mut his,
+        buf,
+        past_rooms,
+    )
 }
 
 // The table's file for a plant's file. Finished, only the file's bytes are changed; refused, the buffer is all zeros: plant, 9, 10.

@@ -8,7 +8,7 @@ use crate::images::Span;
 ghost use mathlib.Core.Path.{_≡_};
 ghost use mathlib.Core.Bool.{true, false};
 ghost use mathlib.Core.Logic.{_⊎_};
-ghost use Prim.Native.Nat.{ℕ, _+_, _-_, _≤_, _<_};
+ghost use Prim.Native.Nat.{ℕ, _+_, _≤_, _<_};
 ghost use lib.ListN.{length};
 ghost use lib.IntN.{natAbs, pos};
 ghost use Rattle.laws.specs.Lists.{at, tab};
@@ -122,26 +122,25 @@ fn left(limits: &[i64; 40], u: usize, have: usize, r: usize) -> usize
     have
 }
 
-// The first of the modes from..to under which the image of a box lies in R; `to` where there is none. Modes that share a matrix share the
-// extremes of its rows, each made where it is first needed.
+// The first mode under which the image of a box lies in R; `count` where there is none. Modes that share a matrix share the extremes of its
+// rows, each made where it is first needed.
 pub fn last(
     n: usize,
-    from: usize,
-    to: usize,
+    count: usize,
     coef: &[i64; 320],
     limits: &[i64; 40],
     lo: &[i64; 4],
     hi: &[i64; 4],
 ) -> usize
-    requires { ⌜ ((u : ℕ) → u < to → RowsSound n (now coef) u) × Small edgeLimit (sidesOf n (now lo) (now hi)) ⌝ }
-    requires marks { ⌜ (to ≤ 16) × Marked n to (now coef) (now limits) ⌝ }
-    ensures { λ r. ⌜ oneOf to r ≡ firstMode (landing n (now (coef .entry)) (now (limits .entry)) (sidesOf n (now (lo .entry)) (now (hi .entry)))) (to - from) from ⌝ }
+    requires { ⌜ ((u : ℕ) → u < count → RowsSound n (now coef) u) × Small edgeLimit (sidesOf n (now lo) (now hi)) ⌝ }
+    requires marks { ⌜ (count ≤ 16) × Marked n count (now coef) (now limits) ⌝ }
+    ensures { λ r. ⌜ oneOf count r ≡ firstMode (landing n (now (coef .entry)) (now (limits .entry)) (sidesOf n (now (lo .entry)) (now (hi .entry)))) count 0 ⌝ }
 {
     let mut elo = [0i64; 4];
     let mut ehi = [0i64; 4];
     let mut have: usize = 0;
-    let mut u = from;
-    while u < to {
+    let mut u: usize = 0;
+    while u < count {
         let r = lands(n, coef, limits, u, lo, hi, have, &mut elo, &mut ehi);
         if r < n {
             have = left(limits, u, have, r);

@@ -6,7 +6,7 @@ use mathlib.Core.Bool.{Bool, true, false}
 use mathlib.Core.List.{List, [], _∷_}
 use mathlib.Core.Option.{Option, none, some}
 use native.Mathlib.Omega.{arith}
-use native.Mathlib.Nat.{sub-zero, zero-add}
+use native.Mathlib.Nat.{sub-zero, pow-le-pow-right}
 use native.Mathlib.Numerals.{add-one}
 use lib.Dec.{ltb}
 use borrow.Author.Tests.{lt-ltb, le-ltb}
@@ -20,8 +20,9 @@ use Rattle.meaning.specs.declared.Plant.{Plant}
 use Rattle.meaning.specs.Boxes.{Side, sideAt, within}
 use Rattle.meaning.specs.Images.{image}
 use Rattle.meaning.specs.Plants.{edgeLimit, bandLimit, rootOf, safeOf, stepOf}
+use Rattle.meaning.specs.Rules.{Rules}
 use Rattle.meaning.specs.Tables.{rulesOf}
-use Rattle.meaning.specs.Defined.{orElse, mapSome, firstMode, exactly, shortest, firstPattern}
+use Rattle.meaning.specs.Defined.{firstMode, exactly, shortest}
 use Rattle.promises.specs.Sound.{Sound}
 use Rattle.promises.specs.Boxes.{within-trans}
 use Rattle.tables.specs.Boxes.{Small}
@@ -52,20 +53,13 @@ digit-more zero z = absurd (z refl)
 digit-more (suc m) z = let e : suc m - 1 ≡ m = omega arith in rw e (omega arith)
 
 pub digits-small : (m : ℕ) → m ≤ 6 → 16 ^ m ≤ 16 ^ 6
-digits-small zero h = omega arith
-digits-small (suc zero) h = omega arith
-digits-small (suc (suc zero)) h = omega arith
-digits-small (suc (suc (suc zero))) h = omega arith
-digits-small (suc (suc (suc (suc zero)))) h = omega arith
-digits-small (suc (suc (suc (suc (suc zero))))) h = omega arith
-digits-small (suc (suc (suc (suc (suc (suc zero)))))) h = omega arith
-digits-small (suc (suc (suc (suc (suc (suc (suc m))))))) h = absurd (omega arith)
+digits-small m h = pow-le-pow-right {n = 16} (omega arith) h
 
 -- a pattern that was sought: there is none, or it is by its number
 pub none-sought : (m r : ℕ) → r ≡ 0 → soughtOf m r ≡ none
 none-sought m r z = rw z refl
 
-some-sought : (m r : ℕ) → (r ≡ 0 → ⊥) → soughtOf m r ≡ some (digits m (r - 1))
+pub some-sought : (m r : ℕ) → (r ≡ 0 → ⊥) → soughtOf m r ≡ some (digits m (r - 1))
 some-sought m zero z = absurd (z refl)
 some-sought m (suc r) z = let e : suc r - 1 ≡ r = omega arith in rw e refl
 
@@ -88,19 +82,6 @@ module _ (try : ℕ → Option (List ℕ)) (N v : ℕ) where
     unfolding firstMode
     modes-miss e = rw (one-left, e, add-one) refl
 
--- some modes, then those behind them
-first-then : (try : ℕ → Option (List ℕ)) (a b v : ℕ) → firstMode try (a + b) v ≡ orElse (firstMode try a v) λ _. firstMode try b (a + v)
-unfolding firstMode
-first-then try zero b v = let q : 0 + b ≡ b = zero-add b in let w : 0 + v ≡ v = zero-add v in rw (q, w) refl
-first-then try (suc a) b v =
-    let q : suc a + b ≡ suc (a + b) = omega arith in
-    let w : suc a + v ≡ a + suc v = omega arith in
-    rw (q, w) (go (mapSome (λ us. v ∷ us) (try v)) (first-then try a b (suc v)))
-  where
-    go : (o : Option (List ℕ)) → firstMode try (a + b) (suc v) ≡ (orElse (firstMode try a (suc v)) λ _. firstMode try b (a + suc v)) → orElse o (λ _. firstMode try (a + b) (suc v)) ≡ orElse (orElse o λ _. firstMode try a (suc v)) λ _. firstMode try b (a + suc v)
-    go (some us) e = refl
-    go none e = e
-
 module _ (try : ℕ → Option (List ℕ)) (N v : ℕ) (whole : Option (List ℕ)) (q : firstMode try (N - v) v ≡ whole) where
   pub modes-done : N ≤ v → none ≡ whole
   modes-done h = sym (modes-over try N v h) ∙ q
@@ -113,22 +94,8 @@ module _ (try : ℕ → Option (List ℕ)) (N v : ℕ) (whole : Option (List ℕ
     modes-found z l =
         ap some (digits-front m v (r - 1) l) ∙ sym (modes-hit try N v h (digits m (r - 1)) (sym e ∙ some-sought m r z)) ∙ q
 
-  -- the modes v..to in front: r is their answer
-  module _ (to : ℕ) (l : v < to) (h : to ≤ N) (m r : ℕ) (e : soughtOf m r ≡ firstMode try (to - v) v) where
-    parts : orElse (soughtOf m r) (λ _. firstMode try (N - to) to) ≡ whole
-    parts =
-        let n : N - v ≡ (to - v) + (N - to) = omega arith in
-        let t : (to - v) + v ≡ to = omega arith in
-        rw e (sym (rw t at (first-then try (to - v) (N - to) v)) ∙ rw n at q)
-
-    pub block-next : r ≡ 0 → firstMode try (N - to) to ≡ whole
-    block-next z = rw (none-sought m r z) at parts
-
-    pub block-found : (r ≡ 0 → ⊥) → some (digits m (r - 1)) ≡ whole
-    block-found z = rw (some-sought m r z) at parts
-
 -- the same answers, the same first
-first-same : (f g : ℕ → Option (List ℕ)) → ((u : ℕ) → f u ≡ g u) → (m v : ℕ) → firstMode f m v ≡ firstMode g m v
+pub first-same : (f g : ℕ → Option (List ℕ)) → ((u : ℕ) → f u ≡ g u) → (m v : ℕ) → firstMode f m v ≡ firstMode g m v
 unfolding firstMode
 first-same f g e zero v = refl
 first-same f g e (suc m) v = rw (e v, first-same f g e m (suc v)) refl
@@ -162,22 +129,22 @@ module _ (p : Plant) (limits : List ℤ) (g : Ready p limits) where
         go false false e f = refl
         go false true e f = never (sym e ∙ within-trans c (rootOf p) (safeOf p) f (g .sound .root-safe))
 
-    -- the last mode among from..to
-    module _ (from to m v : ℕ) (few : to ≤ 16) (z : m ≡ 1) (e : oneOf to v ≡ firstMode (landing (p .n) (p .coef) limits b) (to - from) from) where
-      tried : picked (ltb v to) v ≡ firstMode (behindMode (rulesOf p) (m - 1) b) (to - from) from
-      tried =
-          let q : m - 1 ≡ 0 = omega arith in
-          rw q (e ∙ first-same (landing (p .n) (p .coef) limits b) (behindMode (rulesOf p) 0 b) landing-is (to - from) from)
+    -- one mode is left: v is the first that lands, or N
+    module _ (m v : ℕ) (z : m ≡ 1) (e : oneOf (p .modes) v ≡ firstMode (landing (p .n) (p .coef) limits b) (p .modes) 0) where
+      tried : picked (ltb v (p .modes)) v ≡ exactly (rulesOf p) m b
+      unfolding exactly
+      tried = rw z (e ∙ first-same (landing (p .n) (p .coef) limits b) (behindMode (rulesOf p) 0 b) landing-is (p .modes) 0)
 
-      pub last-is : v < to → soughtOf m (v + 1) ≡ firstMode (behindMode (rulesOf p) (m - 1) b) (to - from) from
+      pub last-is : v < p .modes → soughtOf m (v + 1) ≡ exactly (rulesOf p) m b
       unfolding digits
       last-is h =
+          let few = g .sound .modes-high in
           let q : v % 16 ≡ v = omega arith in
           let w : soughtOf m (v + 1) ≡ some (v ∷ []) = rw (z, add-one, q) refl in
-          w ∙ (rw (lt-ltb v to h) at tried)
+          w ∙ (rw (lt-ltb v (p .modes) h) at tried)
 
-      pub last-none : to ≤ v → soughtOf m 0 ≡ firstMode (behindMode (rulesOf p) (m - 1) b) (to - from) from
-      last-none h = rw (le-ltb v to h) at tried
+      pub last-none : p .modes ≤ v → none ≡ exactly (rulesOf p) m b
+      last-none h = rw (le-ltb v (p .modes) h) at tried
 
 -- ---- behind mode u on box b, whose image the code holds as c
 
@@ -192,35 +159,31 @@ module _ (p : Plant) (m u : ℕ) (b c : List Side) (q : c ≡ image (stepOf p u)
     pub behind-small : Sound p → Small edgeLimit b → Small edgeLimit c
     behind-small g s = subst (λ (k : List Side). Small edgeLimit k) (sym q) (small-image p g u b s (rw q at e))
 
--- with m modes to come, from c on
+-- with m modes to come from c on, none in front is tried yet
+pub modes-all : (p : Plant) (m : ℕ) (c : List Side) → 1 ≤ m → firstMode (behindMode (rulesOf p) (m - 1) c) (p .modes - 0) 0 ≡ exactly (rulesOf p) m c
+unfolding exactly
+modes-all p zero c h = absurd (omega arith)
+modes-all p (suc m) c h = let e : suc m - 1 ≡ m = omega arith in rw (e, sub-zero) refl
 
-module _ (p : Plant) (m : ℕ) (c : List Side) where
-  pub modes-all : firstMode (behindMode (rulesOf p) m c) (p .modes - 0) 0 ≡ exactly (rulesOf p) (suc m) c
-  unfolding exactly
-  modes-all = rw sub-zero refl
+-- ---- the lengths up to k: up to m all are tried
 
-pub modes-rest : (p : Plant) (m : ℕ) (c : List Side) → 1 ≤ m → firstMode (behindMode (rulesOf p) (m - 1) c) (p .modes - 0) 0 ≡ exactly (rulesOf p) m c
-modes-rest p m c z = let k : m ≡ suc (m - 1) = omega arith in modes-all p (m - 1) c ∙ sym (ap (λ (i : ℕ). exactly (rulesOf p) i c) k)
-
--- ---- the lengths: up to m all are tried
-
-module _ (p : Plant) (b : List Side) where
-  pub lengths-all : shortest (rulesOf p) (p .k - 0) 1 b ≡ firstPattern (rulesOf p) b
+module _ (r : Rules) (k : ℕ) (b : Rules.Box r) where
+  pub lengths-all : shortest r (k - 0) 1 b ≡ shortest r k 1 b
   lengths-all = rw sub-zero refl
 
-  module _ (m : ℕ) (whole : Option (List ℕ)) (q : shortest (rulesOf p) (p .k - m) (suc m) b ≡ whole) where
-    pub lengths-done : p .k ≤ m → none ≡ whole
+  module _ (m : ℕ) (whole : Option (List ℕ)) (q : shortest r (k - m) (suc m) b ≡ whole) where
+    pub lengths-done : k ≤ m → none ≡ whole
     unfolding shortest
-    lengths-done h = let z : p .k - m ≡ 0 = omega arith in sym (rw z refl) ∙ q
+    lengths-done h = let z : k - m ≡ 0 = omega arith in sym (rw z refl) ∙ q
 
-    module _ (h : m < p .k) where
-      one-more : p .k - m ≡ suc (p .k - (m + 1))
+    module _ (h : m < k) where
+      one-more : k - m ≡ suc (k - (m + 1))
       one-more = omega arith
 
-      pub lengths-found : (us : List ℕ) → some us ≡ exactly (rulesOf p) (suc m) b → some us ≡ whole
+      pub lengths-found : (us : List ℕ) → some us ≡ exactly r (suc m) (Rules.begin r b) → some us ≡ whole
       unfolding shortest
       lengths-found us e = sym (rw (one-more, ← e) refl) ∙ q
 
-      pub lengths-next : none ≡ exactly (rulesOf p) (suc m) b → shortest (rulesOf p) (p .k - (m + 1)) (suc (m + 1)) b ≡ whole
+      pub lengths-next : none ≡ exactly r (suc m) (Rules.begin r b) → shortest r (k - (m + 1)) (suc (m + 1)) b ≡ whole
       unfolding shortest
       lengths-next e = sym (rw (one-more, ← e, add-one) refl) ∙ q

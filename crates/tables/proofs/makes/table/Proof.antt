@@ -1,5 +1,5 @@
 -- `makes::table`: header, then the tree of R, at the frame that the plant was taken apart into. Assumes nothing.
-use mathlib.Core.Path.{sym, subst}
+use mathlib.Core.Path.{refl, sym, subst}
 use Rattle.meaning.specs.declared.Plant.{Plant}
 use Rattle.promises.specs.Sound.{Sound}
 use Rattle.tables.specs.Frames.{plantFrom}
@@ -39,16 +39,21 @@ put-number-requires-2 : tie.Need-put-number-requires-2
 put-number-requires-2 c κs = search needs
 
 tree-requires : tie.Need-tree-requires
-tree-requires c κs = let l = c .before .before .before .before .before .before .before .before .before .before .before .before .before in let f = l .before .before .before in (ready l, root-small (plant f) (sound f))
+tree-requires c κs =
+    let l = c .before .before .before .before .before .before .before .before .before .before .before .before .before .before .before .before in
+    let f = l .before .before .before in
+    ((ready l, root-small (plant f) (sound f)), (refl, refl, refl))
 
 same-length : tie.Need-same-length
 same-length c = search needs
 
 returns : tie.Need-returns
 returns c =
-    let f = c .before .before .before .before .before .before .before .before .before .before .before .before .before .before .before .before .before .before .before in
-    let t = c .before .before .tree in
-    table-wrote (plant f) (f .before .before .args .p) (f .framed .ensures) (c .before .before .before .before .before .before .before .before .before .before .before .before .put-number .ensures) (c .before .before .before .before .before .before .before .before .put-number2 .ensures) (t .result) (t .last .1 .1 .1 .1 .1 .0) (t .ensures)
+    let t = c .before .before in
+    let w = t .before .before .before .before .before .before .before .before .before in
+    let v = w .before .before .before .before in
+    let f = v .before .before .before .before .before .before .before in
+    table-wrote (plant f) (f .before .before .args .p) (f .framed .ensures) (v .put-number .ensures) (w .put-number2 .ensures) (t .tree .result) (t .tree .last .1 .1 .1 .1 .1 .1 .1 .1 .0) (t .tree .ensures .0)
 
 pub table-spec : {M : Type 1} → statement M
 table-spec =

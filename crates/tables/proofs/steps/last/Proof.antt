@@ -6,6 +6,7 @@ use mathlib.Core.Bool.{Bool, true, false}
 use mathlib.Core.List.{List, []}
 use mathlib.Core.Option.{Option, none, some}
 use native.Mathlib.Omega.{arith}
+use native.Mathlib.Nat.{sub-zero}
 use lib.ListN.{length}
 use denote.Ref.{now}
 use borrow.Author.Tests.{lt-ltb, le-ltb}
@@ -20,12 +21,12 @@ use Rattle.tables.proofs.steps.last.Statement.{statement}
 use Rattle.tables.proofs.steps.last.Tie as tie
 
 abbrev Inv-loop : tie.InvT-loop
-Inv-loop n from to coef limits lo hi elo₀ ehi₀ have₀ u₀ elo ehi have u =
-    (length elo ≡ 4) × (length ehi ≡ 4) × (u < to → Kept n coef u (sidesOf n lo hi) have elo ehi)
-    × (firstMode (landing n coef limits (sidesOf n lo hi)) (to - u) u ≡ firstMode (landing n coef limits (sidesOf n lo hi)) (to - from) from)
+Inv-loop n count coef limits lo hi elo₀ ehi₀ have₀ u₀ elo ehi have u =
+    (length elo ≡ 4) × (length ehi ≡ 4) × (u < count → Kept n coef u (sidesOf n lo hi) have elo ehi)
+    × (firstMode (landing n coef limits (sidesOf n lo hi)) (count - u) u ≡ firstMode (landing n coef limits (sidesOf n lo hi)) count 0)
 
 abbrev μ-loop : tie.MeasureT-loop
-μ-loop n from to coef limits lo hi elo₀ ehi₀ have₀ u₀ elo ehi have u = to - u
+μ-loop n count coef limits lo hi elo₀ ehi₀ have₀ u₀ elo ehi have u = count - u
 
 abbrev try : tie.Start Inv-loop μ-loop → ℕ → Option (List ℕ)
 try s = let a = s .args in landing (a .n) (now (a .coef)) (now (a .limits)) (sidesOf (a .n) (now (a .lo)) (now (a .hi)))
@@ -45,7 +46,7 @@ abbrev round : tie.After-lands Inv-loop μ-loop → tie.In-loop Inv-loop μ-loop
 round c = c .before .before .before
 
 loop-holds : tie.Need-loop-holds Inv-loop μ-loop
-loop-holds c = (refl, refl, λ h j m k. absurd (omega arith), refl)
+loop-holds c = (refl, refl, λ h j m k. absurd (omega arith), rw sub-zero refl)
 
 lands-requires : tie.Need-lands-requires Inv-loop μ-loop
 lands-requires c κs =
@@ -80,7 +81,7 @@ loop-again c =
       e .1 .1 .1 .0,
       e .1 .1 .1 .1,
       λ h. kept-left (a .n) (now (a .coef)) u (sidesOf (a .n) (now (a .lo)) (now (a .hi))) (t .before .loop .have) (d .lands .result) (d .lands .last .1 .1 .1 .1 .1 .1 .1 .0) (d .lands .last .1 .1 .1 .1 .1 .1 .1 .1 .0) (s .pre .1 .1 u h) (e .1 .1 .0 .0) (e .1 .1 .0 .1) (c .left .result) (c .left .ensures),
-      sym (modes-miss (try s) (a .to) u (t .loop-test .taken) (missed (e .0 (c .before .if1 .taken)))) ∙ t .before .loop .inv .3,
+      sym (modes-miss (try s) (a .count) u (t .loop-test .taken) (missed (e .0 (c .before .if1 .taken)))) ∙ t .before .loop .inv .3,
     )
 
 returns : tie.Need-returns Inv-loop μ-loop
@@ -88,14 +89,14 @@ returns c =
     let t = round (c .before) in
     let s = t .before .before in
     let u = t .before .loop .u in
-    ap (λ (b : Bool). picked b u) (lt-ltb u (s .args .to) (t .loop-test .taken))
-    ∙ sym (modes-hit (try s) (s .args .to) u (t .loop-test .taken) [] (landed (c .before .lands .ensures .1 .0 (c .if1 .left)))) ∙ t .before .loop .inv .3
+    ap (λ (b : Bool). picked b u) (lt-ltb u (s .args .count) (t .loop-test .taken))
+    ∙ sym (modes-hit (try s) (s .args .count) u (t .loop-test .taken) [] (landed (c .before .lands .ensures .1 .0 (c .if1 .left)))) ∙ t .before .loop .inv .3
 
 returns-2 : tie.Need-returns-2 Inv-loop μ-loop
 returns-2 c =
     let s = c .before .before in
     let u = c .before .loop .u in
-    ap (λ (b : Bool). picked b u) (le-ltb u (s .args .to) (c .loop-test .left)) ∙ sym (modes-over (try s) (s .args .to) u (c .loop-test .left)) ∙ c .before .loop .inv .3
+    ap (λ (b : Bool). picked b u) (le-ltb u (s .args .count) (c .loop-test .left)) ∙ sym (modes-over (try s) (s .args .count) u (c .loop-test .left)) ∙ c .before .loop .inv .3
 
 pub last-spec : {M : Type 1} → statement M
 last-spec =
