@@ -1,7 +1,7 @@
 //! The maker side by side: answer and every byte of the buffer, on plants with
 //! and without a table, in buffers long enough, just long enough and too short.
 
-use side::common::{file, p_fields, p_prime, two_rooms};
+use side::common::{file, p_fields, p_prime, two_rooms, Random, S, U};
 use side::inputs::{plant_fields, random, rounds};
 use side::largest_table_plant;
 use side::seen::Seen;
@@ -45,4 +45,31 @@ fn seeded_plants() {
     for number in [0, 9, 10] {
         assert!(seen.make[number] > 100, "{number}: {:?}", seen.make);
     }
+}
+
+/// One room that each mode moves by some counts, one more than a multiple of `length`, so that no shorter pattern leads back to R, which is the one
+/// count 0. S is wide, or narrow enough to drop some beginnings of patterns.
+fn moving(random: &mut Random, modes: u64, length: i64) -> Vec<u8> {
+    let s = random.one(&[2 * length, 1_000]);
+    let mut fields = vec![U(1), U(1), U(modes), U(1), U(6), U(0)];
+    fields.extend([0, 0, -s, s, 0, 0].map(S));
+    for _ in 0..modes {
+        fields.extend([1, 1 + length * random.within(-2, 1)].map(S));
+    }
+    file(&fields)
+}
+
+/// Patterns of every length among few modes and many, more than the library keeps beginnings of.
+#[test]
+fn patterns_of_every_length() {
+    let (mut random, mut seen, mut lengths) = (random(9), Seen::default(), [0; 7]);
+    for _ in 0..rounds(400) {
+        let modes = random.within(1, 16);
+        let length = random.within(1, 6);
+        let plant = moving(&mut random, modes as u64, length);
+        if let (0, made, _) = seen.make(&plant, second::LARGEST_TABLE) {
+            lengths[made as usize - 3] += usize::from(modes > 5);
+        }
+    }
+    assert!(seen.make[9] > 10 && lengths[1..].iter().all(|times| *times > 10), "{:?}, {lengths:?}", seen.make);
 }

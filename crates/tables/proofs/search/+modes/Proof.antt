@@ -1,6 +1,6 @@
 -- `search::modes`, which calls itself with one mode less: the modes in front that are left say what all of them say, for any plant that has what
 -- is lent. Assumes nothing.
-use Prim.Native.Nat.{ℕ, suc, _+_, _-_, _*_, _≤_, _<_}
+use Prim.Native.Nat.{ℕ, suc, _+_, _-_, _*_, _^_, _≤_, _<_}
 use mathlib.Core.Path.{_≡_, refl, sym, ap, _∙_}
 use mathlib.Core.Bool.{true}
 use mathlib.Core.List.{List}
@@ -178,29 +178,39 @@ modes-last-requires t c κs =
     let s = began t k in
     ((rows t s, small t k (c .before .before .before .if1 .taken)), (few t s, fits-some t s .marked))
 
-modes-mul-result : (t : ℕ) → modes-lts.Need-mul-result (claims t) (modes-at t) modes.Post modes-Inv-loop modes-μ-loop
-modes-mul-result t c =
+-- a last mode was found behind the mode in front, or more than one: what they make with it is small
+abbrev Ended : ℕ → Type 0
+Ended t = modes-lts.Then3 (claims t) (modes-at t) modes.Post modes-Inv-loop modes-μ-loop
+
+abbrev Found : ℕ → Type 0
+Found t = modes-lts.Then4 (claims t) (modes-at t) modes.Post modes-Inv-loop modes-μ-loop
+
+ended-small : (t : ℕ) (c : Ended t) → mode t (c .before .before .before .before .before .before) + 16 * c .before .last .result + 1 ≤ 16 ^ 2
+ended-small t c =
     let k = c .before .before .before .before .before .before in
     let h = c .if3 .taken in
     let v = in-range t k in
     let l = few t (began t k) in
     omega arith
+
+found-small : (t : ℕ) (c : Found t) → mode t (c .before .before .before .before .before .before) + 16 * (c .before .modes .result - 1) + 1 ≤ 16 ^ 7
+found-small t c =
+    let k = c .before .before .before .before .before .before in
+    let s = began t k in
+    let z = c .if4 .taken in
+    let most = s .pre .1 .1 .1 in
+    let v = in-range t k in
+    let l = few t s in
+    omega (arith, c .before .modes .ensures .1, digits-small (s .args .m - 1) (omega arith))
+
+modes-mul-result : (t : ℕ) → modes-lts.Need-mul-result (claims t) (modes-at t) modes.Post modes-Inv-loop modes-μ-loop
+modes-mul-result t c = omega (arith, ended-small t c)
 
 modes-add-result : (t : ℕ) → modes-lts.Need-add-result (claims t) (modes-at t) modes.Post modes-Inv-loop modes-μ-loop
-modes-add-result t c =
-    let k = c .before .before .before .before .before .before in
-    let h = c .if3 .taken in
-    let v = in-range t k in
-    let l = few t (began t k) in
-    omega arith
+modes-add-result t c = omega (arith, ended-small t c)
 
 modes-add-result-2 : (t : ℕ) → modes-lts.Need-add-result-2 (claims t) (modes-at t) modes.Post modes-Inv-loop modes-μ-loop
-modes-add-result-2 t c =
-    let k = c .before .before .before .before .before .before in
-    let h = c .if3 .taken in
-    let v = in-range t k in
-    let l = few t (began t k) in
-    omega arith
+modes-add-result-2 t c = omega (arith, ended-small t c)
 
 modes-returns : (t : ℕ) → modes-lts.Need-returns (claims t) (modes-at t) modes.Post modes-Inv-loop modes-μ-loop
 modes-returns t c =
@@ -229,44 +239,16 @@ modes-modes-requires t c κs =
     (omega arith, ((s .pre .1 .0 .0, small t k (c .before .before .before .if1 .taken)), (omega arith, omega arith)))
 
 modes-sub-result : (t : ℕ) → modes-lts.Need-sub-result (claims t) (modes-at t) modes.Post modes-Inv-loop modes-μ-loop
-modes-sub-result t c =
-    let k = c .before .before .before .before .before .before in
-    let s = began t k in
-    let z = c .if4 .taken in
-    let most = s .pre .1 .1 .1 in
-    let v = in-range t k in
-    let l = few t s in
-    omega (arith, c .before .modes .ensures .1, digits-small (s .args .m - 1) (omega arith))
+modes-sub-result t c = let z = c .if4 .taken in omega arith
 
 modes-mul-result-2 : (t : ℕ) → modes-lts.Need-mul-result-2 (claims t) (modes-at t) modes.Post modes-Inv-loop modes-μ-loop
-modes-mul-result-2 t c =
-    let k = c .before .before .before .before .before .before in
-    let s = began t k in
-    let z = c .if4 .taken in
-    let most = s .pre .1 .1 .1 in
-    let v = in-range t k in
-    let l = few t s in
-    omega (arith, c .before .modes .ensures .1, digits-small (s .args .m - 1) (omega arith))
+modes-mul-result-2 t c = omega (arith, found-small t c)
 
 modes-add-result-3 : (t : ℕ) → modes-lts.Need-add-result-3 (claims t) (modes-at t) modes.Post modes-Inv-loop modes-μ-loop
-modes-add-result-3 t c =
-    let k = c .before .before .before .before .before .before in
-    let s = began t k in
-    let z = c .if4 .taken in
-    let most = s .pre .1 .1 .1 in
-    let v = in-range t k in
-    let l = few t s in
-    omega (arith, c .before .modes .ensures .1, digits-small (s .args .m - 1) (omega arith))
+modes-add-result-3 t c = omega (arith, found-small t c)
 
 modes-add-result-4 : (t : ℕ) → modes-lts.Need-add-result-4 (claims t) (modes-at t) modes.Post modes-Inv-loop modes-μ-loop
-modes-add-result-4 t c =
-    let k = c .before .before .before .before .before .before in
-    let s = began t k in
-    let z = c .if4 .taken in
-    let most = s .pre .1 .1 .1 in
-    let v = in-range t k in
-    let l = few t s in
-    omega (arith, c .before .modes .ensures .1, digits-small (s .args .m - 1) (omega arith))
+modes-add-result-4 t c = omega (arith, found-small t c)
 
 modes-returns-2 : (t : ℕ) → modes-lts.Need-returns-2 (claims t) (modes-at t) modes.Post modes-Inv-loop modes-μ-loop
 modes-returns-2 t c =
