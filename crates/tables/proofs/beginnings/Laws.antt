@@ -12,6 +12,7 @@ use native.Mathlib.Numerals.{add-one}
 use native.Mathlib.Decide.{decLt}
 use lib.ListN.{getD, set, length-set}
 use lib.IntN.{ℤ}
+use lib.Pow.{pow-add}
 use lib.Seq.{getD-set-same}
 use Rattle.laws.specs.Guards.{guard}
 use Rattle.laws.specs.Tabs.{tab-step, tab-done, tab-snoc, tab-same, getD-below}
@@ -61,15 +62,7 @@ digits-room size rest weight c r few w h z k =
     let t : c + weight * (r - 1) < weight * r = omega arith in
     let a : weight ≤ 16 ^ size = omega arith in
     let s = pow-le-pow-right {n = 16} (omega arith) few in
-    omega (arith, t, mul-le-mul a k, sixteens size rest, s)
-  where
-    sixteens : (a b : ℕ) → 16 ^ (a + b) ≡ 16 ^ a * 16 ^ b
-    sixteens zero b = rw (zero-add b) (omega arith)
-    sixteens (suc a) b =
-        let o : suc a + b ≡ suc (a + b) = omega arith in
-        let x : 16 ^ suc (a + b) ≡ 16 * 16 ^ (a + b) = omega arith in
-        let y : 16 ^ suc a ≡ 16 * 16 ^ a = omega arith in
-        rw (o, x, y, sixteens a b) (sym (mul-assoc 16 (16 ^ a) (16 ^ b)))
+    omega (arith, t, mul-le-mul a k, pow-add 16 size rest, s)
 
 -- ---- some beginnings, then those behind them
 
@@ -153,16 +146,16 @@ stand-held n l k codes los his codes₁ los₁ his₁ s from to h =
 
 -- places from..end are filled, and nothing below them is touched
 
-pub record Filled (n weight : ℕ) (codes₀ : List ℕ) (los₀ his₀ : List (List ℤ)) (from : ℕ) (codes : List ℕ) (los his : List (List ℤ)) (end : ℕ) : Type 0 where
+pub record Added (n weight : ℕ) (codes₀ : List ℕ) (los₀ his₀ : List (List ℤ)) (from : ℕ) (codes : List ℕ) (los his : List (List ℤ)) (end : ℕ) : Type 0 where
   pub order : from ≤ end
   pub stand : Stand from codes₀ los₀ his₀ codes los his
   pub fit : Fit n weight codes los his from end
   pub roomy : Roomy codes los his
 
-pub filled-none : (n weight : ℕ) (codes : List ℕ) (los his : List (List ℤ)) (from : ℕ) → Roomy codes los his → Filled n weight codes los his from codes los his from
-filled-none n weight codes los his from room = record { order = omega arith; stand = λ i h. (refl, refl, refl); fit = λ i a b. absurd (omega arith); roomy = room }
+pub added-none : (n weight : ℕ) (codes : List ℕ) (los his : List (List ℤ)) (from : ℕ) → Roomy codes los his → Added n weight codes los his from codes los his from
+added-none n weight codes los his from room = record { order = omega arith; stand = λ i h. (refl, refl, refl); fit = λ i a b. absurd (omega arith); roomy = room }
 
-module _ (n weight : ℕ) {codes₀ : List ℕ} {los₀ his₀ : List (List ℤ)} {from : ℕ} {codes : List ℕ} {los his : List (List ℤ)} {end : ℕ} (f : Filled n weight codes₀ los₀ his₀ from codes los his end) where
+module _ (n weight : ℕ) {codes₀ : List ℕ} {los₀ his₀ : List (List ℤ)} {from : ℕ} {codes : List ℕ} {los his : List (List ℤ)} {end : ℕ} (f : Added n weight codes₀ los₀ his₀ from codes los his end) where
   -- one more at the end
   module _ (code : ℕ) (lo hi : List ℤ) (h : end < 32) where
     pub held-more : (l : ℕ) → held n l (set codes end code) (set los end lo) (set his end hi) from (end + 1) ≡ held n l codes los his from end ++ begun (digits l code) (sidesOf n lo hi) ∷ []
@@ -174,8 +167,8 @@ module _ (n weight : ℕ) {codes₀ : List ℕ} {los₀ his₀ : List (List ℤ)
         (tab-snoc (heldAt n l (set codes end code) (set los end lo) (set his end hi)) (end - from) from
         ∙ rw (e, stand-held n l end codes los his _ _ _ (put-stand codes los his (f .roomy) end code lo hi) from end (omega arith), put-held codes los his (f .roomy) end code lo hi h n l) refl)
 
-    pub filled-more : code < weight → Small edgeLimit (sidesOf n lo hi) → Filled n weight codes₀ los₀ his₀ from (set codes end code) (set los end lo) (set his end hi) (end + 1)
-    filled-more c s = record {
+    pub added-more : code < weight → Small edgeLimit (sidesOf n lo hi) → Added n weight codes₀ los₀ his₀ from (set codes end code) (set los end lo) (set his end hi) (end + 1)
+    added-more c s = record {
       order = let o = f .order in omega arith;
       stand = λ i a.
           let o = f .order in
@@ -206,8 +199,8 @@ module _ (n weight : ℕ) {codes₀ : List ℕ} {los₀ his₀ : List (List ℤ)
         (sym (tab-join (heldAt n l codes₁ los₁ his₁) (end - from) (last - end) from)
         ∙ rw (e, stand-held n l end codes los his codes₁ los₁ his₁ s from end (omega arith)) refl)
 
-    pub filled-then : Fit n weight codes₁ los₁ his₁ end last → Roomy codes₁ los₁ his₁ → Filled n weight codes₀ los₀ his₀ from codes₁ los₁ his₁ last
-    filled-then g room = record {
+    pub added-then : Fit n weight codes₁ los₁ his₁ end last → Roomy codes₁ los₁ his₁ → Added n weight codes₀ los₀ his₀ from codes₁ los₁ his₁ last
+    added-then g room = record {
       order = let h = f .order in omega arith;
       stand = λ i a. let h = f .order in let x = s i (omega arith) in let y = f .stand i a in (x .0 ∙ y .0, x .1 ∙ y .1, x .2 ∙ y .2);
       fit = λ i a b. go i a b (decLt i end);

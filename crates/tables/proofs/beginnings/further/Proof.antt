@@ -20,13 +20,13 @@ use Rattle.tables.specs.Beginnings.{Beginning, begun, furtherLent, stays
 use Rattle.tables.proofs.frames.Laws.{rooms, divisor, divisor-small}
 use Rattle.tables.proofs.search.Laws.{rows-sound, lent-band, behind-small}
 use Rattle.tables.proofs.steps.Laws.{covered-safe, made-image}
-use Rattle.tables.proofs.beginnings.Laws.{digits-more, further-none, further-done, further-miss, further-more, Filled, filled-none, filled-more, held-more}
+use Rattle.tables.proofs.beginnings.Laws.{digits-more, further-none, further-done, further-miss, further-more, Added, added-none, added-more, held-more}
 use Rattle.tables.proofs.beginnings.further.Statement.{statement}
 use Rattle.tables.proofs.beginnings.further.Tie as tie
 
 abbrev Inv-loop : tie.InvT-loop
 Inv-loop n count q coef limits weight code lo hi from codes₀ los₀ his₀ ilo₀ ihi₀ end₀ u₀ codes los his ilo ihi end u =
-    (u ≤ count) × (end ≤ from + u) × (length ilo ≡ 4) × (length ihi ≡ 4) × Filled n (16 * weight) codes₀ los₀ his₀ from codes los his end
+    (u ≤ count) × (end ≤ from + u) × (length ilo ≡ 4) × (length ihi ≡ 4) × Added n (16 * weight) codes₀ los₀ his₀ from codes los his end
     × ((l : ℕ) → weight ≡ 16 ^ l → held n (suc l) codes los his from end ++ furtherLent n q coef limits (begun (digits l code) (sidesOf n lo hi)) (count - u) u ≡ furtherLent n q coef limits (begun (digits l code) (sidesOf n lo hi)) count 0)
 
 abbrev μ-loop : tie.MeasureT-loop
@@ -92,7 +92,7 @@ module _ (c : tie.After-step Inv-loop μ-loop) where
 module _ (c : tie.After-step Inv-loop μ-loop) where
   abbrev Went : List ℕ → List (List ℤ) → List (List ℤ) → ℕ → Type 0
   Went codes los his end =
-      let a = began c .args in (end ≤ a .from + (mode c + 1)) × Filled (a .n) (16 * a .weight) (now (a .codes)) (now (a .los)) (now (a .his)) (a .from) codes los his end
+      let a = began c .args in (end ≤ a .from + (mode c + 1)) × Added (a .n) (16 * a .weight) (now (a .codes)) (now (a .los)) (now (a .his)) (a .from) codes los his end
       × ((l : ℕ) → a .weight ≡ 16 ^ l → held (a .n) (suc l) codes los his (a .from) end ++ furtherLent (a .n) (a .q) (now (a .coef)) (now (a .limits)) (begun (digits l (a .code)) (box (began c))) (a .count - (mode c + 1)) (mode c + 1) ≡ furtherLent (a .n) (a .q) (now (a .coef)) (now (a .limits)) (begun (digits l (a .code)) (box (began c))) (a .count) 0)
 
   passed : c .step .result ≡ false → let l = round c .loop in Went (l .codes) (l .los) (l .his) (l .end)
@@ -113,7 +113,7 @@ module _ (c : tie.After-step Inv-loop μ-loop) where
       let few = fits s .sound .modes-high in
       let h = in-range c in (
         omega (arith, l .inv .1),
-        filled-more (a .n) (16 * a .weight) (l .inv .4) (a .code + a .weight * mode c) (ilo c) (ihi c) (in-room c) (light s (mode c) (in-range c)) (small c e),
+        added-more (a .n) (16 * a .weight) (l .inv .4) (a .code + a .weight * mode c) (ilo c) (ihi c) (in-room c) (light s (mode c) (in-range c)) (small c e),
         λ k w.
             let b = begun (digits k (a .code)) (box s) in
             let m = digits-more k (a .weight) (a .code) (mode c) w (s .pre .1 .1) (omega arith) in
@@ -128,7 +128,7 @@ loop-holds c =
       omega arith,
       refl,
       refl,
-      filled-none (a .n) (16 * a .weight) (now (a .codes)) (now (a .los)) (now (a .his)) (a .from) (c .pre .1 .3),
+      added-none (a .n) (16 * a .weight) (now (a .codes)) (now (a .los)) (now (a .his)) (a .from) (c .pre .1 .3),
       λ l e.
           ap (λ (bs : List Beginning). bs ++ furtherLent (a .n) (a .q) (now (a .coef)) (now (a .limits)) (begun (digits l (a .code)) (box c)) (a .count - 0) 0) (tab-done (heldAt (a .n) (suc l) (now (a .codes)) (now (a .los)) (now (a .his))) (a .from) (a .from) (omega arith))
           ∙ further-none (staysLent (a .n) (now (a .coef)) (now (a .limits))) (imageLent (a .n) (a .q) (now (a .coef)) (now (a .limits))) (begun (digits l (a .code)) (box c)) (a .count),

@@ -11,13 +11,13 @@ use Rattle.meaning.specs.Plants.{edgeLimit}
 use Rattle.tables.specs.Boxes.{Small}
 use Rattle.tables.specs.Search.{digits}
 use Rattle.tables.specs.Beginnings.{Beginning, begun, staysLent, imageLent, spreadLent, imageAt, heldAt, held}
-use Rattle.tables.proofs.beginnings.Laws.{Filled, filled-none, filled-then, held-then, spread-done, spread-next}
+use Rattle.tables.proofs.beginnings.Laws.{Added, added-none, added-then, held-then, spread-done, spread-next}
 use Rattle.tables.proofs.beginnings.spread.Statement.{statement}
 use Rattle.tables.proofs.beginnings.spread.Tie as tie
 
 abbrev Inv-loop : tie.InvT-loop
 Inv-loop n count q coef limits weight from to codes₀ los₀ his₀ end₀ i₀ codes los his end i =
-    (from ≤ i) × (i ≤ to) × (end ≤ to + (i - from) * count) × Filled n (16 * weight) codes₀ los₀ his₀ to codes los his end
+    (from ≤ i) × (i ≤ to) × (end ≤ to + (i - from) * count) × Added n (16 * weight) codes₀ los₀ his₀ to codes los his end
     × ((l : ℕ) → weight ≡ 16 ^ l → held n (suc l) codes los his to end ++ spreadLent n q coef limits count (held n l codes₀ los₀ his₀ i to) ≡ spreadLent n q coef limits count (held n l codes₀ los₀ his₀ from to))
 
 abbrev μ-loop : tie.MeasureT-loop
@@ -61,7 +61,7 @@ loop-holds c =
       omega arith,
       c .pre .1 .0 .0,
       omega arith,
-      filled-none (a .n) (16 * a .weight) (now (a .codes)) (now (a .los)) (now (a .his)) (a .to) (c .pre .1 .1 .1),
+      added-none (a .n) (16 * a .weight) (now (a .codes)) (now (a .los)) (now (a .his)) (a .to) (c .pre .1 .1 .1),
       λ l e. ap (λ (bs : List Beginning). bs ++ spreadLent (a .n) (a .q) (now (a .coef)) (now (a .limits)) (a .count) (held (a .n) l (now (a .codes)) (now (a .los)) (now (a .his)) (a .from) (a .to))) (tab-done (heldAt (a .n) (suc l) (now (a .codes)) (now (a .los)) (now (a .his))) (a .to) (a .to) (omega arith)),
     )
 
@@ -113,7 +113,7 @@ loop-again c =
       omega (arith, l .inv .0),
       omega arith,
       rw (one-more t) (omega (arith, l .inv .2, e .0 .1)),
-      filled-then (a .n) (16 * a .weight) (l .inv .3) codes los his (c .further .result) (e .0 .0) (e .1 .0) (e .1 .1 .0 .0) (e .1 .1 .0 .1),
+      added-then (a .n) (16 * a .weight) (l .inv .3) codes los his (c .further .result) (e .0 .0) (e .1 .0) (e .1 .1 .0 .0) (e .1 .1 .0 .1),
       λ k w.
           let b = begun (digits k (getD (l .codes) (place t) 0)) (imageAt (a .n) (l .los) (l .his) (place t)) in
           let x = stood t in
