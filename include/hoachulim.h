@@ -1,11 +1,11 @@
 /* Hoachulim's exported functions. Each answers every input, keeps no state, and writes nothing but `out` and a lent buffer.
-   They are proved (crates/face); link target/staticlib/libface.a, which `rt staticlib face` writes.
+   They are proved (crates/face); link target/library/TARGET/libface.a, which `./library TARGET` writes for a processor.
 
-   A number is 0, or that of the refusal; out[0] is its place and out[1] its step, each 0 where it has none. */
+   A number is 0, or that of the refusal; out[0] is its place and out[1] its step, each 0 where it has none.
+   Every number is 64 bits wide, answers and lengths too, so that one proved module serves every processor. */
 #ifndef HOACHULIM_H
 #define HOACHULIM_H
 
-#include <stddef.h>
 #include <stdint.h>
 
 #ifdef __cplusplus
@@ -13,30 +13,30 @@ extern "C" {
 #endif
 
 /* A plant file. */
-uint8_t hoachulim_plant(const uint8_t *plant, size_t plant_length, uint64_t out[2]);
+uint64_t hoachulim_plant(const uint8_t *plant, uint64_t plant_length, uint64_t out[2]);
 
 /* The plant of a sheet, made into a lent buffer; no plant has more than 1,183 bytes. out[0] is the length written where the number is 0.
    Finished, only the plant's bytes are changed; refused, the whole buffer is zeros. */
-uint8_t hoachulim_sheet(const uint8_t *sheet, size_t sheet_length,
-                        uint8_t *buffer, size_t buffer_length, uint64_t out[2]);
+uint64_t hoachulim_sheet(const uint8_t *sheet, uint64_t sheet_length,
+                         uint8_t *buffer, uint64_t buffer_length, uint64_t out[2]);
 
 /* A table file for a plant file. */
-uint8_t hoachulim_check(const uint8_t *plant, size_t plant_length,
-                        const uint8_t *table, size_t table_length, uint64_t out[2]);
+uint64_t hoachulim_check(const uint8_t *plant, uint64_t plant_length,
+                         const uint8_t *table, uint64_t table_length, uint64_t out[2]);
 
 /* The table of a plant, made into a lent buffer; no table has more than 30,039 bytes. out[0] is the length written where the number is 0.
    Finished, only the table's bytes are changed; refused, the whole buffer is zeros. */
-uint8_t hoachulim_make(const uint8_t *plant, size_t plant_length,
-                       uint8_t *buffer, size_t buffer_length, uint64_t out[2]);
+uint64_t hoachulim_make(const uint8_t *plant, uint64_t plant_length,
+                        uint8_t *buffer, uint64_t buffer_length, uint64_t out[2]);
 
 /* One call of the controller, once each sample. Idle is place 0, left 0; hand back out[2] and out[3] at the next call.
    x0..x3 is the reading; numbers beyond the plant's rooms are ignored.
    The mode to apply, 255 where the call is refused; out: the refusal's number and place, the next place, the next left.
    A refused call leaves the controller idle: out[2] and out[3] are 0. */
-uint8_t hoachulim_control(const uint8_t *plant, size_t plant_length,
-                          const uint8_t *table, size_t table_length,
-                          uint64_t place, uint64_t left,
-                          int64_t x0, int64_t x1, int64_t x2, int64_t x3, uint64_t out[4]);
+uint64_t hoachulim_control(const uint8_t *plant, uint64_t plant_length,
+                           const uint8_t *table, uint64_t table_length,
+                           uint64_t place, uint64_t left,
+                           int64_t x0, int64_t x1, int64_t x2, int64_t x3, uint64_t out[4]);
 
 #ifdef __cplusplus
 }

@@ -1,7 +1,11 @@
-//! Links the proved library, which `rt staticlib face` writes; tests/batch links the one of `rt staticlib batch` from the same folder.
+//! Links the proved library of the processor that is built for, which `./library` writes; tests/batch links the tests' own from the same folder.
 fn main() {
     let here = std::env::var("CARGO_MANIFEST_DIR").unwrap();
-    let libraries = format!("{here}/../target/staticlib");
+    let target = match std::env::var("CARGO_CFG_TARGET_ARCH").unwrap().as_str() {
+        "arm" => "armv7".to_string(),
+        other => other.to_string(),
+    };
+    let libraries = format!("{here}/../target/library/{target}");
     println!("cargo:rustc-link-search=native={libraries}");
     println!("cargo:rustc-link-lib=static=face");
     for library in ["face", "batch"] {

@@ -30,7 +30,7 @@ int main(void)
         for (int sample = 0; sample < 200; sample++) {
             if (x < 190 || x > 230 || (left == 0 && (x < 195 || x > 225)))
                 return 2;
-            uint8_t mode = hoachulim_control(plant, sizeof plant, table, sizeof table, place, left, x, 0, 0, 0, out);
+            uint64_t mode = hoachulim_control(plant, sizeof plant, table, sizeof table, place, left, x, 0, 0, 0, out);
             if (mode > 1 || out[0] != 0 || out[1] != 0)
                 return 3;
             place = out[2];

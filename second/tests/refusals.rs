@@ -16,7 +16,7 @@ use second::sheet::{plant_of_sheet, read_sheet, sheet_to_plant, write_sheet};
 const IDLE: State = State { place: 0, left: 0 };
 
 /// A refused write leaves zeros everywhere, whatever the buffer's length.
-fn zeroed_by(write: impl Fn(&mut [u8]) -> (u8, u64, u64)) -> (u8, u64, u64) {
+fn zeroed_by(write: impl Fn(&mut [u8]) -> (u64, u64, u64)) -> (u64, u64, u64) {
     let answers = [0, 3, 40_000].map(|length| {
         let mut buffer = marked(length);
         let answer = write(&mut buffer);
@@ -29,7 +29,7 @@ fn zeroed_by(write: impl Fn(&mut [u8]) -> (u8, u64, u64)) -> (u8, u64, u64) {
 }
 
 /// Every function that takes a plant's bytes tells the same of them.
-fn plant_told(bytes: &[u8]) -> (u8, u64, u64) {
+fn plant_told(bytes: &[u8]) -> (u64, u64, u64) {
     let read = told(read_plant(bytes));
     assert_eq!(zeroed_by(|buffer| told(make(bytes, buffer))), read);
     // The plant comes first: the table, state and reading are wrong as well.
@@ -40,7 +40,7 @@ fn plant_told(bytes: &[u8]) -> (u8, u64, u64) {
 }
 
 /// Every function that takes a sheet's bytes tells the same of them.
-fn sheet_told(bytes: &[u8]) -> (u8, u64, u64) {
+fn sheet_told(bytes: &[u8]) -> (u64, u64, u64) {
     let read = told(read_sheet(bytes));
     assert_eq!(zeroed_by(|buffer| told(sheet_to_plant(bytes, buffer))), read);
     read
@@ -48,7 +48,7 @@ fn sheet_told(bytes: &[u8]) -> (u8, u64, u64) {
 
 /// One field of a plant of n rooms replaced by a value: reader and writer tell
 /// this number at the field's place.
-fn plant_field(fields: &[Field], n: usize, index: usize, value: Field, number: u8) {
+fn plant_field(fields: &[Field], n: usize, index: usize, value: Field, number: u64) {
     let changed = with(fields, index, value.clone());
     let place = encode(fields).1[index];
     assert_eq!(plant_told(&file(&changed)), (number, place, 0), "{index} {value:?}");
@@ -58,7 +58,7 @@ fn plant_field(fields: &[Field], n: usize, index: usize, value: Field, number: u
 }
 
 /// The same for a sheet's field.
-fn sheet_field(fields: &[Field], n: usize, index: usize, value: Field, number: u8) {
+fn sheet_field(fields: &[Field], n: usize, index: usize, value: Field, number: u64) {
     let changed = with(fields, index, value.clone());
     let place = encode(fields).1[index];
     assert_eq!(sheet_told(&file(&changed)), (number, place, 0), "{index} {value:?}");
@@ -382,7 +382,7 @@ fn writers_judge_in_order_and_tell_10_last() {
 // ---- rows 6, 7 and 8: the checker ----
 
 /// What the checker tells of a table for P.
-fn checked(table: &[u8]) -> (u8, u64, u64) {
+fn checked(table: &[u8]) -> (u64, u64, u64) {
     told(check(&P, table))
 }
 
@@ -562,7 +562,7 @@ fn row_11_reading_outside() {
 }
 
 /// What a call on P' and line 5's table tells in this state, the reading right.
-fn in_state(place: u64, left: u64) -> (u8, u64, u64) {
+fn in_state(place: u64, left: u64) -> (u64, u64, u64) {
     told(control(&p_prime(), &T5, State { place, left }, [200, 0, 0, 0]))
 }
 

@@ -391,7 +391,7 @@ fn slow_number(table: &[u8], place: usize) -> Option<(u64, usize)> {
 }
 
 /// The checker as a list of boxes still to come.
-fn slow_check(plant: &Plant, table: &[u8]) -> (u8, u64, u64) {
+fn slow_check(plant: &Plant, table: &[u8]) -> (u64, u64, u64) {
     let broken = |place: usize| (1, place as u64, 0);
     let wrong = |place: usize| (6, place as u64, 0);
     let Some((form, at)) = slow_number(table, 0) else { return broken(0) };
@@ -429,7 +429,7 @@ fn slow_check(plant: &Plant, table: &[u8]) -> (u8, u64, u64) {
             at = next;
         }
         if let Some((number, step)) = slow_tile(plant, &here, &pattern) {
-            return (number, place as u64, step);
+            return (number.into(), place as u64, step);
         }
     }
     if at < table.len() { wrong(at) } else { (0, 0, 0) }

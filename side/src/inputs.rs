@@ -210,7 +210,7 @@ fn any_sign(fields: &[Field], at: usize) -> bool {
 }
 
 /// What must not stand at a number of a file, with the number that tells of it.
-fn wrong(fields: &[Field], at: usize) -> Vec<(Field, u8)> {
+fn wrong(fields: &[Field], at: usize) -> Vec<(Field, u64)> {
     let Some((least, greatest)) = range(fields, at) else {
         let mut floats = vec![f64::NAN, f64::INFINITY, -f64::INFINITY, f64::from_bits(0xFFF0_0000_0000_0001)];
         if !any_sign(fields, at) {

@@ -7,36 +7,36 @@ pub mod inputs;
 pub mod seen;
 
 /// Number, place, step.
-pub type Told = (u8, u64, u64);
+pub type Told = (u64, u64, u64);
 
 extern "C" {
-    fn hoachulim_plant(plant: *const u8, plant_length: usize, out: *mut u64) -> u8;
+    fn hoachulim_plant(plant: *const u8, plant_length: u64, out: *mut u64) -> u64;
     fn hoachulim_sheet(
         sheet: *const u8,
-        sheet_length: usize,
+        sheet_length: u64,
         buffer: *mut u8,
-        buffer_length: usize,
+        buffer_length: u64,
         out: *mut u64,
-    ) -> u8;
+    ) -> u64;
     fn hoachulim_check(
         plant: *const u8,
-        plant_length: usize,
+        plant_length: u64,
         table: *const u8,
-        table_length: usize,
+        table_length: u64,
         out: *mut u64,
-    ) -> u8;
+    ) -> u64;
     fn hoachulim_make(
         plant: *const u8,
-        plant_length: usize,
+        plant_length: u64,
         buffer: *mut u8,
-        buffer_length: usize,
+        buffer_length: u64,
         out: *mut u64,
-    ) -> u8;
+    ) -> u64;
     fn hoachulim_control(
         plant: *const u8,
-        plant_length: usize,
+        plant_length: u64,
         table: *const u8,
-        table_length: usize,
+        table_length: u64,
         place: u64,
         left: u64,
         x0: i64,
@@ -44,13 +44,13 @@ extern "C" {
         x2: i64,
         x3: i64,
         out: *mut u64,
-    ) -> u8;
+    ) -> u64;
 }
 
 /// What the library says of a plant's bytes.
 pub fn plant(plant: &[u8]) -> Told {
     let mut out = [u64::MAX; 2];
-    let number = unsafe { hoachulim_plant(plant.as_ptr(), plant.len(), out.as_mut_ptr()) };
+    let number = unsafe { hoachulim_plant(plant.as_ptr(), plant.len() as u64, out.as_mut_ptr()) };
     (number, out[0], out[1])
 }
 
@@ -58,7 +58,7 @@ pub fn plant(plant: &[u8]) -> Told {
 pub fn sheet(sheet: &[u8], buffer: &mut [u8]) -> Told {
     let mut out = [u64::MAX; 2];
     let number = unsafe {
-        hoachulim_sheet(sheet.as_ptr(), sheet.len(), buffer.as_mut_ptr(), buffer.len(), out.as_mut_ptr())
+        hoachulim_sheet(sheet.as_ptr(), sheet.len() as u64, buffer.as_mut_ptr(), buffer.len() as u64, out.as_mut_ptr())
     };
     (number, out[0], out[1])
 }
@@ -67,7 +67,7 @@ pub fn sheet(sheet: &[u8], buffer: &mut [u8]) -> Told {
 pub fn check(plant: &[u8], table: &[u8]) -> Told {
     let mut out = [u64::MAX; 2];
     let number = unsafe {
-        hoachulim_check(plant.as_ptr(), plant.len(), table.as_ptr(), table.len(), out.as_mut_ptr())
+        hoachulim_check(plant.as_ptr(), plant.len() as u64, table.as_ptr(), table.len() as u64, out.as_mut_ptr())
     };
     (number, out[0], out[1])
 }
@@ -76,20 +76,20 @@ pub fn check(plant: &[u8], table: &[u8]) -> Told {
 pub fn make(plant: &[u8], buffer: &mut [u8]) -> Told {
     let mut out = [u64::MAX; 2];
     let number = unsafe {
-        hoachulim_make(plant.as_ptr(), plant.len(), buffer.as_mut_ptr(), buffer.len(), out.as_mut_ptr())
+        hoachulim_make(plant.as_ptr(), plant.len() as u64, buffer.as_mut_ptr(), buffer.len() as u64, out.as_mut_ptr())
     };
     (number, out[0], out[1])
 }
 
 /// One call of the controller: the mode, and number, place, next place, next left.
-pub fn control(plant: &[u8], table: &[u8], place: u64, left: u64, x: [i64; 4]) -> (u8, [u64; 4]) {
+pub fn control(plant: &[u8], table: &[u8], place: u64, left: u64, x: [i64; 4]) -> (u64, [u64; 4]) {
     let mut out = [u64::MAX; 4];
     let mode = unsafe {
         hoachulim_control(
             plant.as_ptr(),
-            plant.len(),
+            plant.len() as u64,
             table.as_ptr(),
-            table.len(),
+            table.len() as u64,
             place,
             left,
             x[0],

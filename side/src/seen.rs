@@ -45,34 +45,34 @@ impl Seen {
     pub fn plant(&mut self, plant: &[u8]) -> Told {
         let answer = crate::plant(plant);
         assert_eq!(answer, told(second::plant::read_plant(plant)), "plant {plant:?}");
-        self.plant[usize::from(answer.0)] += 1;
+        self.plant[answer.0 as usize] += 1;
         answer
     }
 
     pub fn sheet(&mut self, sheet: &[u8], length: usize) -> Told {
         let answer = written(sheet, length, crate::sheet, second::sheet::sheet_to_plant);
-        self.sheet[usize::from(answer.0)] += 1;
+        self.sheet[answer.0 as usize] += 1;
         answer
     }
 
     pub fn make(&mut self, plant: &[u8], length: usize) -> Told {
         let answer = written(plant, length, crate::make, second::maker::make);
-        self.make[usize::from(answer.0)] += 1;
+        self.make[answer.0 as usize] += 1;
         answer
     }
 
     pub fn check(&mut self, plant: &[u8], table: &[u8]) -> Told {
         let answer = crate::check(plant, table);
         assert_eq!(answer, told(second::checker::check(plant, table)), "check {plant:?} {table:?}");
-        self.check[usize::from(answer.0)] += 1;
+        self.check[answer.0 as usize] += 1;
         answer
     }
 
     /// The second program's answer is taken as the face shows it.
-    pub fn control(&mut self, plant: &[u8], table: &[u8], place: u64, left: u64, x: [i64; 4]) -> (u8, [u64; 4]) {
+    pub fn control(&mut self, plant: &[u8], table: &[u8], place: u64, left: u64, x: [i64; 4]) -> (u64, [u64; 4]) {
         let answer = crate::control(plant, table, place, left, x);
         let shown = match second::control::control(plant, table, State { place, left }, x) {
-            Ok((mode, state)) => (mode, [0, 0, state.place, state.left]),
+            Ok((mode, state)) => (mode.into(), [0, 0, state.place, state.left]),
             Err(refusal) => (255, [refusal.number.into(), refusal.place, 0, 0]),
         };
         assert_eq!(answer, shown, "control {plant:?} {table:?} {place} {left} {x:?}");

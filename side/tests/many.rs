@@ -137,7 +137,7 @@ fn every_kind_of_place_in_tables(seen: &mut Seen) {
             assert_eq!(seen.check(&plant, &[&upper[..], &tile].concat()), (8, 5, length as u64));
         }
     }
-    let told: [(&[u8], (u8, u64)); 17] = [
+    let told: [(&[u8], (u64, u64)); 17] = [
         (&[], (1, 0)),
         (&[0x81, 0], (1, 0)),
         (&[1], (1, 1)),
@@ -160,7 +160,7 @@ fn every_kind_of_place_in_tables(seen: &mut Seen) {
         // the same of a split with no depth left and of one with no side left; and by the controller, idle
         for plant in [adding(1, 1), adding(1, 2)] {
             assert_eq!(seen.check(&plant, table), (number, place, 0), "{table:?}");
-            assert_eq!(seen.control(&plant, table, 0, 0, [0; 4]), (255, [number.into(), place, 0, 0]), "{table:?}");
+            assert_eq!(seen.control(&plant, table, 0, 0, [0; 4]), (255, [number, place, 0, 0]), "{table:?}");
         }
     }
     // what is behind the tile is told by the checker alone; a tile that is passed is read

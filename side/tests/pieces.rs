@@ -214,7 +214,7 @@ fn pin_split(random: &mut Random) -> usize {
     for x in readings {
         let held_by: Vec<usize> = (0..children.len()).filter(|c| children[*c].contains(&x)).collect();
         let wanted = match (r.first_outside(&x), &held_by[..]) {
-            (None, [c]) => (*c as u8, [0; 4]),
+            (None, [c]) => (*c as u64, [0; 4]),
             (Some(dimension), []) => (255, [11, dimension as u64, 0, 0]),
             _ => panic!("{x:?} is held by {held_by:?} of {children:?}"),
         };
@@ -253,7 +253,7 @@ fn the_tile_rule() {
             let answer = check(&bytes, &table);
             assert_eq!(answer, told(tile_rule(&plant, &plant.r(), &pattern, 2)), "{pattern:?} in {plant:?}");
             let step = if answer.0 == 0 { u64::from(length) } else { answer.2 };
-            seen[usize::from(answer.0)][step as usize] += 1;
+            seen[answer.0 as usize][step as usize] += 1;
         }
     }
     println!("works {:?}, leaves S {:?}, not in R {:?}", seen[0], seen[7], seen[8]);

@@ -18,11 +18,11 @@ enum Next {
 }
 
 /// A reading that may follow, by q·y − (A·x + b) in w lo .. w hi.
-fn following(random: &mut Random, next: Next, sample: usize, plant: &Plant, mode: u8, x: &[i64; 4]) -> [i64; 4] {
+fn following(random: &mut Random, next: Next, sample: usize, plant: &Plant, mode: u64, x: &[i64; 4]) -> [i64; 4] {
     let (n, q) = (plant.n as usize, plant.q as i64);
     let mut y = [0; 4];
     for i in 0..n {
-        let row = plant.row(mode.into(), i);
+        let row = plant.row(mode as usize, i);
         let sum = row[n] + (0..n).map(|j| row[j] * x[j]).sum::<i64>();
         let (least, greatest) = (sum + plant.edges.w_lo[i], sum + plant.edges.w_hi[i]);
         let lo = least.div_euclid(q) + i64::from(least.rem_euclid(q) > 0);

@@ -5,12 +5,13 @@
 use side::common::{file, line_13, two_room_sheet, with, Field, Random, F, S, U};
 use side::inputs::{damaged, random, rounds, sheet_fields, spoiled, BAND};
 use side::seen::Seen;
+use side::Told;
 
 const HOUSE: &[u8] = include_bytes!("../../samples/house.sheet");
 const HOUSE_PLANT: &[u8] = include_bytes!("../../samples/house.plant");
 
 /// Buffers of every kind; the answer in the longest.
-fn every_buffer(seen: &mut Seen, sheet: &[u8]) -> (u8, u64, u64) {
+fn every_buffer(seen: &mut Seen, sheet: &[u8]) -> Told {
     let answer = seen.sheet(sheet, second::LARGEST_PLANT + 1);
     if answer.0 == 0 {
         let made = answer.1 as usize;

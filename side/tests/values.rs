@@ -36,7 +36,7 @@ fn read_plant(seen: &mut Numbers, bytes: &[u8]) -> (Told, Plant) {
     let read = second::plant::read_plant(bytes);
     assert_eq!(answer, told(read), "plant {bytes:?}");
     assert_eq!(plant, read.unwrap_or(Plant::ZEROS), "plant {bytes:?}");
-    seen[usize::from(answer.0)] += 1;
+    seen[answer.0 as usize] += 1;
     (answer, plant)
 }
 
@@ -65,7 +65,7 @@ fn read_sheet(seen: &mut Numbers, bytes: &[u8]) -> (Told, Sheet) {
     let read = second::sheet::read_sheet(bytes);
     assert_eq!(answer, told(read), "sheet {bytes:?}");
     assert_eq!(batch::bits(&sheet), batch::bits(&read.unwrap_or(NO_SHEET)), "sheet {bytes:?}");
-    seen[usize::from(answer.0)] += 1;
+    seen[answer.0 as usize] += 1;
     (answer, sheet)
 }
 
@@ -189,13 +189,13 @@ fn sheets_at_extremes(sheet: &Sheet, mut one: impl FnMut(&Sheet)) {
 
 fn write_plant(seen: &mut Numbers, plant: &Plant, length: usize) -> Told {
     let answer = written(plant, length, batch::write_plant, second::plant::write_plant);
-    seen[usize::from(answer.0)] += 1;
+    seen[answer.0 as usize] += 1;
     answer
 }
 
 fn write_sheet(seen: &mut Numbers, sheet: &Sheet, length: usize) -> Told {
     let answer = written(sheet, length, batch::write_sheet, second::sheet::write_sheet);
-    seen[usize::from(answer.0)] += 1;
+    seen[answer.0 as usize] += 1;
     answer
 }
 

@@ -23,7 +23,7 @@ pub extern "C" fn batch_read_plant(
     edges: &mut [[i64; 4]; 6],
     coef: &mut [i64; 320],
     out: &mut [u64; 2],
-) -> u8
+) -> u64
     ensures number { λ r. ⌜ r ≡ verdictShown (plantRead (now (plant .entry)) .verdict) .number ⌝ }
     ensures place { λ r. ⌜ now (out .exit) ≡ placeAndStep (verdictShown (plantRead (now (plant .entry)) .verdict)) ⌝ }
     ensures header { λ r. ⌜ now (header .exit) ≡ plantHeader (plantRead (now (plant .entry)) .plant) ⌝ }
@@ -55,7 +55,7 @@ pub extern "C" fn batch_write_plant(
     coef: &[i64; 320],
     buf: &mut [u8],
     out: &mut [u64; 2],
-) -> u8
+) -> u64
     ensures number { λ r. ⌜ r ≡ writtenShown (plantLeft (plantFrom (now (header .entry)) (now (edges .entry)) (now (coef .entry))) (now (buf .entry)) .answer) .number ⌝ }
     ensures length { λ r. ⌜ now (out .exit) ≡ lengthOrPlace (plantLeft (plantFrom (now (header .entry)) (now (edges .entry)) (now (coef .entry))) (now (buf .entry)) .answer) ⌝ }
     ensures bytes { λ r. ⌜ now (buf .exit) ≡ plantLeft (plantFrom (now (header .entry)) (now (edges .entry)) (now (coef .entry))) (now (buf .entry)) .buffer ⌝ }
@@ -96,7 +96,7 @@ pub extern "C" fn batch_read_sheet(
     kinds: &mut [u8; 4],
     floats: &mut [[f64; 6]; 4],
     out: &mut [u64; 2],
-) -> u8
+) -> u64
     ensures number { λ r. ⌜ r ≡ verdictShown (sheetRead (now (sheet .entry)) .verdict) .number ⌝ }
     ensures place { λ r. ⌜ now (out .exit) ≡ placeAndStep (verdictShown (sheetRead (now (sheet .entry)) .verdict)) ⌝ }
     ensures header { λ r. ⌜ now (header .exit) ≡ sheetHeader (sheetRead (now (sheet .entry)) .sheet) ⌝ }
@@ -134,7 +134,7 @@ pub extern "C" fn batch_write_sheet(
     floats: &[[f64; 6]; 4],
     buf: &mut [u8],
     out: &mut [u64; 2],
-) -> u8
+) -> u64
     ensures number { λ r. ⌜ r ≡ writtenShown (sheetLeft (sheetFrom (now (header .entry)) (now (edges .entry)) (now (times .entry)) (now (kinds .entry)) (now (floats .entry))) (now (buf .entry)) .answer) .number ⌝ }
     ensures length { λ r. ⌜ now (out .exit) ≡ lengthOrPlace (sheetLeft (sheetFrom (now (header .entry)) (now (edges .entry)) (now (times .entry)) (now (kinds .entry)) (now (floats .entry))) (now (buf .entry)) .answer) ⌝ }
     ensures bytes { λ r. ⌜ now (buf .exit) ≡ sheetLeft (sheetFrom (now (header .entry)) (now (edges .entry)) (now (times .entry)) (now (kinds .entry)) (now (floats .entry))) (now (buf .entry)) .buffer ⌝ }

@@ -4,7 +4,9 @@ use mathlib.Core.List.{List, [], _∷_}
 use lib.IntN.{natAbs}
 use Rattle.laws.specs.Lists.{at}
 use Rattle.meaning.specs.declared.State.{State}
-use Rattle.meaning.specs.Refusals.{Shown}
+use Rattle.meaning.specs.declared.Refusal.{Refusal}
+use Rattle.meaning.specs.declared.Answer.{Answer}
+use Rattle.meaning.specs.Refusals.{Shown, refusal}
 
 -- the mode; and number, place, next place, next left
 abbrev pub mode : Shown → ℕ
@@ -16,3 +18,8 @@ numberAndState a = a .number ∷ a .place ∷ natAbs (at (a .values) 1) ∷ natA
 -- the state that place and left are
 abbrev pub stateOf : ℕ → ℕ → State
 stateOf place left = record { place = place; left = left }
+
+-- the refusal of an answer; of a mode, zeros
+abbrev pub refusalOf : Answer → Refusal
+refusalOf (Answer.Refused e) = e
+refusalOf (Answer.Mode u next) = refusal 0 0 0

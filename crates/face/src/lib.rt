@@ -19,7 +19,7 @@ ghost use Rattle.face.specs.Shown.{placeAndStep, lengthOrPlace};
 
 // A plant file: 0, or the number that it is refused by; out holds place and step.
 #[no_mangle]
-pub extern "C" fn hoachulim_plant(plant: &[u8], out: &mut [u64; 2]) -> u8
+pub extern "C" fn hoachulim_plant(plant: &[u8], out: &mut [u64; 2]) -> u64
     ensures number { λ r. ⌜ r ≡ verdictShown (plantRead (now (plant .entry)) .verdict) .number ⌝ }
     ensures place { λ r. ⌜ now (out .exit) ≡ placeAndStep (verdictShown (plantRead (now (plant .entry)) .verdict)) ⌝ }
 {
@@ -31,7 +31,7 @@ pub extern "C" fn hoachulim_plant(plant: &[u8], out: &mut [u64; 2]) -> u8
 // The plant file of a sheet file into a lent buffer: 0, or the number of the refusal; out holds the length written, or place and step. Finished, only
 // the plant's bytes are changed; refused, the buffer is all zeros.
 #[no_mangle]
-pub extern "C" fn hoachulim_sheet(sheet: &[u8], buf: &mut [u8], out: &mut [u64; 2]) -> u8
+pub extern "C" fn hoachulim_sheet(sheet: &[u8], buf: &mut [u8], out: &mut [u64; 2]) -> u64
     ensures number { λ r. ⌜ r ≡ writtenShown (madeLeft (now (sheet .entry)) (now (buf .entry)) .answer) .number ⌝ }
     ensures length { λ r. ⌜ now (out .exit) ≡ lengthOrPlace (madeLeft (now (sheet .entry)) (now (buf .entry)) .answer) ⌝ }
     ensures bytes { λ r. ⌜ now (buf .exit) ≡ madeLeft (now (sheet .entry)) (now (buf .entry)) .buffer ⌝ }
@@ -42,7 +42,7 @@ pub extern "C" fn hoachulim_sheet(sheet: &[u8], buf: &mut [u8], out: &mut [u64; 
 
 // A table file for a plant file: 0, or the number that they are refused by; out holds place and step.
 #[no_mangle]
-pub extern "C" fn hoachulim_check(plant: &[u8], table: &[u8], out: &mut [u64; 2]) -> u8
+pub extern "C" fn hoachulim_check(plant: &[u8], table: &[u8], out: &mut [u64; 2]) -> u64
     ensures number { λ r. ⌜ r ≡ verdictShown (checked (now (plant .entry)) (now (table .entry))) .number ⌝ }
     ensures place { λ r. ⌜ now (out .exit) ≡ placeAndStep (verdictShown (checked (now (plant .entry)) (now (table .entry)))) ⌝ }
 {
@@ -53,7 +53,7 @@ pub extern "C" fn hoachulim_check(plant: &[u8], table: &[u8], out: &mut [u64; 2]
 // The table of a plant file into a lent buffer: 0, or the number of the refusal; out holds the length written, or place and step. Finished, only
 // the table's bytes are changed; refused, the buffer is all zeros.
 #[no_mangle]
-pub extern "C" fn hoachulim_make(plant: &[u8], buf: &mut [u8], out: &mut [u64; 2]) -> u8
+pub extern "C" fn hoachulim_make(plant: &[u8], buf: &mut [u8], out: &mut [u64; 2]) -> u64
     ensures number { λ r. ⌜ r ≡ writtenShown (makerLeft (now (plant .entry)) (now (buf .entry)) .answer) .number ⌝ }
     ensures length { λ r. ⌜ now (out .exit) ≡ lengthOrPlace (makerLeft (now (plant .entry)) (now (buf .entry)) .answer) ⌝ }
     ensures bytes { λ r. ⌜ now (buf .exit) ≡ makerLeft (now (plant .entry)) (now (buf .entry)) .buffer ⌝ }
@@ -74,7 +74,7 @@ pub extern "C" fn hoachulim_control(
     x2: i64,
     x3: i64,
     out: &mut [u64; 4],
-) -> u8
+) -> u64
     ensures mode { λ r. ⌜ r ≡ mode (answerShown (controlled (now (plant .entry)) (now (table .entry)) (stateOf place left) (x0 ∷ x1 ∷ x2 ∷ x3 ∷ []))) ⌝ }
     ensures state { λ r. ⌜ now (out .exit) ≡ numberAndState (answerShown (controlled (now (plant .entry)) (now (table .entry)) (stateOf place left) (x0 ∷ x1 ∷ x2 ∷ x3 ∷ []))) ⌝ }
 {

@@ -7,7 +7,7 @@ ghost use Rattle.meaning.specs.Refusals.{verdictShown, writtenShown};
 ghost use Rattle.face.specs.Shown.{placeAndStep, lengthOrPlace};
 
 // The number of a verdict; out holds place and step.
-pub fn verdict(v: Verdict, out: &mut [u64; 2]) -> u8
+pub fn verdict(v: Verdict, out: &mut [u64; 2]) -> u64
     ensures number { λ r. ⌜ r ≡ verdictShown v .number ⌝ }
     ensures place { λ r. ⌜ now (out .exit) ≡ placeAndStep (verdictShown v) ⌝ }
 {
@@ -20,13 +20,13 @@ pub fn verdict(v: Verdict, out: &mut [u64; 2]) -> u8
             let place = e.place as u64;
             let step = e.step as u64;
             *out = [place, step];
-            e.number
+            e.number as u64
         }
     }
 }
 
 // The number of a writer's answer; out holds the length written, or place and step.
-pub fn written(w: Written, out: &mut [u64; 2]) -> u8
+pub fn written(w: Written, out: &mut [u64; 2]) -> u64
     ensures number { λ r. ⌜ r ≡ writtenShown w .number ⌝ }
     ensures length { λ r. ⌜ now (out .exit) ≡ lengthOrPlace w ⌝ }
 {

@@ -69,10 +69,10 @@ pub fn with(fields: &[Field], index: usize, field: Field) -> Vec<Field> {
 }
 
 /// Number, place and step told; zeros when done.
-pub fn told<T: Debug>(answer: Result<T, Refusal>) -> (u8, u64, u64) {
+pub fn told<T: Debug>(answer: Result<T, Refusal>) -> (u64, u64, u64) {
     match answer {
         Ok(_) => (0, 0, 0),
-        Err(refusal) => (refusal.number, refusal.place, refusal.step),
+        Err(refusal) => (refusal.number.into(), refusal.place, refusal.step),
     }
 }
 

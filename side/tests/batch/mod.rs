@@ -22,30 +22,30 @@ type Rooms = [[f64; 6]; 4];
 extern "C" {
     fn batch_read_plant(
         plant: *const u8,
-        plant_length: usize,
+        plant_length: u64,
         header: *mut Header,
         bounds: *mut Bounds,
         coefficients: *mut Coefficients,
         out: *mut [u64; 2],
-    ) -> u8;
+    ) -> u64;
     fn batch_write_plant(
         header: *const Header,
         bounds: *const Bounds,
         coefficients: *const Coefficients,
         buffer: *mut u8,
-        buffer_length: usize,
+        buffer_length: u64,
         out: *mut [u64; 2],
-    ) -> u8;
+    ) -> u64;
     fn batch_read_sheet(
         sheet: *const u8,
-        sheet_length: usize,
+        sheet_length: u64,
         header: *mut Header,
         bounds: *mut Bounds,
         times: *mut [f64; 2],
         kinds: *mut Kinds,
         rooms: *mut Rooms,
         out: *mut [u64; 2],
-    ) -> u8;
+    ) -> u64;
     fn batch_write_sheet(
         header: *const Header,
         bounds: *const Bounds,
@@ -53,9 +53,9 @@ extern "C" {
         kinds: *const Kinds,
         rooms: *const Rooms,
         buffer: *mut u8,
-        buffer_length: usize,
+        buffer_length: u64,
         out: *mut [u64; 2],
-    ) -> u8;
+    ) -> u64;
 }
 
 const MARK: u64 = 0xAAAA_AAAA;
@@ -100,7 +100,7 @@ fn room_of(kind: u8, [loss, a, b, c, first, second]: [f64; 6]) -> Room {
 pub fn read_plant(bytes: &[u8]) -> (Told, Plant) {
     let (mut header, mut bounds, mut coefficients) = ([MARK; 5], [[MARK as i64; 4]; 6], [MARK as i64; 320]);
     let mut out = [MARK; 2];
-    let number = unsafe { batch_read_plant(bytes.as_ptr(), bytes.len(), &mut header, &mut bounds, &mut coefficients, &mut out) };
+    let number = unsafe { batch_read_plant(bytes.as_ptr(), bytes.len() as u64, &mut header, &mut bounds, &mut coefficients, &mut out) };
     let [n, modes, q, k, d] = header;
     let plant = Plant { n, modes, q, k, d, edges: edges_of(bounds), coefficients };
     ((number, out[0], out[1]), plant)
@@ -111,7 +111,7 @@ pub fn write_plant(plant: &Plant, buffer: &mut [u8]) -> Told {
     let header = [plant.n, plant.modes, plant.q, plant.k, plant.d];
     let bounds = bounds_of(&plant.edges);
     let mut out = [MARK; 2];
-    let number = unsafe { batch_write_plant(&header, &bounds, &plant.coefficients, buffer.as_mut_ptr(), buffer.len(), &mut out) };
+    let number = unsafe { batch_write_plant(&header, &bounds, &plant.coefficients, buffer.as_mut_ptr(), buffer.len() as u64, &mut out) };
     (number, out[0], out[1])
 }
 
@@ -121,7 +121,7 @@ pub fn read_sheet(bytes: &[u8]) -> (Told, Sheet) {
     let (mut kinds, mut rooms) = ([MARK as u8; 4], [[f64::NAN; 6]; 4]);
     let mut out = [MARK; 2];
     let number =
-        unsafe { batch_read_sheet(bytes.as_ptr(), bytes.len(), &mut header, &mut bounds, &mut times, &mut kinds, &mut rooms, &mut out) };
+        unsafe { batch_read_sheet(bytes.as_ptr(), bytes.len() as u64, &mut header, &mut bounds, &mut times, &mut kinds, &mut rooms, &mut out) };
     let ([n, r, q, k, d], [time, outside]) = (header, times);
     let rooms = std::array::from_fn(|i| room_of(kinds[i], rooms[i]));
     ((number, out[0], out[1]), Sheet { n, r, q, k, d, edges: edges_of(bounds), time, outside, rooms })
@@ -133,7 +133,7 @@ pub fn write_sheet(sheet: &Sheet, buffer: &mut [u8]) -> Told {
     let (bounds, times) = (bounds_of(&sheet.edges), [sheet.time, sheet.outside]);
     let (kinds, rooms) = (sheet.rooms.map(kind_of), sheet.rooms.map(floats_of));
     let mut out = [MARK; 2];
-    let number = unsafe { batch_write_sheet(&header, &bounds, &times, &kinds, &rooms, buffer.as_mut_ptr(), buffer.len(), &mut out) };
+    let number = unsafe { batch_write_sheet(&header, &bounds, &times, &kinds, &rooms, buffer.as_mut_ptr(), buffer.len() as u64, &mut out) };
     (number, out[0], out[1])
 }
 

@@ -1,14 +1,12 @@
--- `hoachulim_control`: the controller's answer, shown; its mode stands in the table, so a byte carries it. Assumes nothing.
-use mathlib.Core.Path.{_≡_, sym, _∙_}
+-- `hoachulim_control`: the controller's answer, shown. Assumes nothing.
+use mathlib.Core.Path.{_≡_, _∙_}
 use mathlib.Core.List.{[], _∷_}
-use native.Mathlib.Omega.{arith}
 use borrow.Author.Needs.{needs}
 use denote.Ref.{now}
 use mir.Facts.{toZ-ofZ}
 use Rattle.meaning.specs.Tables.{controlled}
-use Rattle.promises.specs.ModeBytes.{mode-stands}
 use Rattle.face.specs.Answers.{stateOf}
-use Rattle.face.proofs.answers.Laws.{of-answer, mode-small}
+use Rattle.face.proofs.answers.Laws.{of-answer}
 use Rattle.face.proofs.hoachulim_control.Statement.{statement}
 use Rattle.face.proofs.hoachulim_control.Tie as tie
 
@@ -23,10 +21,7 @@ control-requires : tie.Need-control-requires
 control-requires c κs = search needs
 
 answer-requires : tie.Need-answer-requires
-answer-requires c κs =
-    let a = c .before .before .before .before .args in
-    mode-small (c .before .control .result) (now (a .table)) (λ i. omega (arith, c .before .before .shared-slice-known2 .given i))
-    (λ u then e. mode-stands (now (a .plant)) (now (a .table)) (stateOf (a .place) (a .left)) (a .x0 ∷ a .x1 ∷ a .x2 ∷ a .x3 ∷ []) (sym (gave (c .before)) ∙ e))
+answer-requires c κs = search needs
 
 returns : tie.Need-returns
 returns c =
