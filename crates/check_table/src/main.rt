@@ -7,7 +7,7 @@ use tables::checks;
 
 // The table that argument 2 names, for a plant's file.
 fn check_table(plant: &[u8]) {
-    let mut table = [0u8; 30039];
+    let mut table = [0u8; papers::TABLE];
     let read = papers::read(2, &mut table);
     if read.is_read {
         let length = read.length;
@@ -23,7 +23,7 @@ fn main() {
         tellings::usage(b"check_table PLANT TABLE");
         return;
     }
-    let mut plant = [0u8; 1183];
+    let mut plant = [0u8; papers::PLANT];
     let read = papers::read(1, &mut plant);
     if read.is_read {
         let length = read.length;

@@ -1,9 +1,15 @@
 // Files that the program's arguments name, read whole into a lent buffer and written whole. Relies on os and io. Leaves out what a file says.
-// What goes wrong is told on standard error: the file's name and why. A buffer has the length that no file of its kind exceeds, so a file that
-// goes on behind it is told as too long.
+// What goes wrong is told on standard error: the file's name and why. A buffer is longer than any right file of its kind, by as many bytes as settle
+// what is said of one that goes on behind it; so every file is judged, however long.
 use figures::texts;
 use libc::STDERR_FILENO;
 ghost use Rattle.io.specs.Counts.{Counts};
+
+// Room for a file of each kind. No sheet has more than 308 bytes and no plant more than 1,183, and a byte more settles any file. No table has more than
+// 30,039; its last number begins at 30,038 at most, and five bytes tell what a number is.
+pub const SHEET: usize = 309;
+pub const PLANT: usize = 1_184;
+pub const TABLE: usize = 30_044;
 
 // A file that was read, and how many bytes it has; or not read, which was told.
 pub struct Paper {
@@ -11,23 +17,18 @@ pub struct Paper {
     pub length: usize,
 }
 
-// Whether a file ends where it was read to; where it does not, that is told.
-fn ends(fd: i32, path: &[u8]) -> bool {
+// Whether a file can be read where it was left; where it cannot, that is told.
+fn is_readable(fd: i32, path: &[u8]) -> bool {
     let mut more = [0u8; 1];
     let got = libc::read(fd, &mut more);
     if got < 0 {
         os::fail(path);
         return false;
     }
-    if 0 < got {
-        io::write_all(STDERR_FILENO, path);
-        io::write_all(STDERR_FILENO, b": longer than any such file can be\n");
-        return false;
-    }
     true
 }
 
-// The file that argument i names, at the start of buf.
+// The file that argument i names, at the start of buf, as far as there is room.
 pub fn read(i: usize, buf: &mut [u8]) -> Paper
     ensures { λ r. ⌜ Counts (r .length) (now (buf .exit)) ⌝ }
 {
@@ -49,7 +50,7 @@ pub fn read(i: usize, buf: &mut [u8]) -> Paper
         };
     }
     let length = io::read_full(fd, buf);
-    let is_read = ends(fd, &path[..n]);
+    let is_read = is_readable(fd, &path[..n]);
     libc::close(fd);
     Paper { is_read, length }
 }

@@ -67,25 +67,35 @@ fn show_driven(count: usize) {
     tellings::show(line, end);
 }
 
+// No call more: the room is left idle.
+fn off() -> Called {
+    Called {
+        is_on: false,
+        mode: 0,
+        state: State { place: 0, left: 0 },
+    }
+}
+
+// A refusal, told. A mode does not occur.
+fn tell_refusal(a: Answer) {
+    let Answer::Refused(e) = a else {
+        return;
+    };
+    tellings::tell(e);
+}
+
 // One call of the controller, told.
 fn call(plant: &[u8], table: &[u8], n: usize, state: State, x: [i64; 4]) -> Called {
-    match control::control(plant, table, state, x) {
-        Answer::Mode(mode, next) => {
-            show_sample(n, x, mode, next);
-            Called {
-                is_on: true,
-                mode,
-                state: next,
-            }
-        }
-        Answer::Refused(e) => {
-            tellings::tell(e);
-            Called {
-                is_on: false,
-                mode: 0,
-                state: State { place: 0, left: 0 },
-            }
-        }
+    let answer = control::control(plant, table, state, x);
+    let Answer::Mode(mode, next) = answer else {
+        tell_refusal(answer);
+        return off();
+    };
+    show_sample(n, x, mode, next);
+    Called {
+        is_on: true,
+        mode,
+        state: next,
     }
 }
 
@@ -114,11 +124,7 @@ fn number_given(i: usize, n: usize, j: usize) -> Said {
 // A call on a reading that was not given.
 fn not_called() -> Called {
     tellings::usage(b"drive PLANT TABLE X.. | drive PLANT TABLE any COUNT SEED");
-    Called {
-        is_on: false,
-        mode: 0,
-        state: State { place: 0, left: 0 },
-    }
+    off()
 }
 
 // The call on the reading that n arguments from i on say.
@@ -214,7 +220,7 @@ fn drive(plant: &[u8], table: &[u8], p: Plant) {
 
 // The table that argument 2 names, for a plant's file.
 fn drive_table(plant: &[u8]) {
-    let mut table = [0u8; 30039];
+    let mut table = [0u8; papers::TABLE];
     let read = papers::read(2, &mut table);
     if read.is_read {
         let length = read.length;
@@ -235,7 +241,7 @@ fn main() {
         not_called();
         return;
     }
-    let mut plant = [0u8; 1183];
+    let mut plant = [0u8; papers::PLANT];
     let read = papers::read(1, &mut plant);
     if read.is_read {
         let length = read.length;

@@ -24,7 +24,7 @@ fn main() {
         tellings::usage(b"make PLANT TABLE");
         return;
     }
-    let mut plant = [0u8; 1183];
+    let mut plant = [0u8; papers::PLANT];
     let read = papers::read(1, &mut plant);
     if read.is_read {
         let length = read.length;

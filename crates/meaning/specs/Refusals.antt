@@ -37,7 +37,7 @@ notInSafe i = refusal 4 i 0
 abbrev pub narrow : ℕ → Refusal
 narrow i = refusal 5 i 0
 
--- 6: table's n differs, node over K, mode not below N, a split too deep or not possible, bytes left over; that byte
+-- 6: table: n differs, node over K, mode not below N, a split too deep or not possible, bytes left over; that byte
 abbrev pub badTable : ℕ → Refusal
 badTable at = refusal 6 at 0
 

@@ -23,7 +23,7 @@ fn main() {
         tellings::usage(b"sheet SHEET PLANT");
         return;
     }
-    let mut sheet = [0u8; 308];
+    let mut sheet = [0u8; papers::SHEET];
     let read = papers::read(1, &mut sheet);
     if read.is_read {
         let length = read.length;
