@@ -8,7 +8,9 @@ ghost use Rattle.io.specs.Counts.{Counts};
 // Room for a file of each kind. No sheet has more than 308 bytes and no plant more than 1,183, and a byte more settles any file. No table has more than
 // 30,039; its last number begins at 30,038 at most, and five bytes tell what a number is.
 pub const SHEET: usize = 309;
+
 pub const PLANT: usize = 1_184;
+
 pub const TABLE: usize = 30_044;
 
 // A file that was read, and how many bytes it has; or not read, which was told.

@@ -1,19 +1,22 @@
 -- Lines worked out by hand from document 01, where the second program has no answer to compare with or the paper states the answer itself:
--- what may follow, lines 10 and 12, a plant and a table with two faults, and the sheet's own equation with its floats taken exactly.
+-- what may follow, lines 10 and 12, a plant and a table with two faults, the largest float below one half, and the sheet's own equation with its
+-- floats taken exactly.
 use Prim.Native.Nat.{ℕ}
 use mathlib.Core.Path.{_≡_, refl}
 use mathlib.Core.Bool.{Bool, true, false}
 use mathlib.Core.List.{List, [], _∷_, _++_}
 use lib.IntN.{ℤ, pos, negℤ}
+use lib.Ieee.{binary64, ofBits}
 use Rattle.meaning.specs.declared.Verdict.{Verdict}
 use Rattle.meaning.specs.declared.Answer.{Answer}
+use Rattle.meaning.specs.declared.Whole.{Whole}
 use Rattle.meaning.specs.Refusals.{broken, unfit, narrow, outside, leaves}
 use Rattle.meaning.specs.Files.{fileOf}
 use Rattle.meaning.specs.Images.{follows}
 use Rattle.meaning.specs.Plants.{plantForm, plantOf, plantRead, stepOf}
 use Rattle.meaning.specs.Control.{idle}
 use Rattle.meaning.specs.Tables.{checked, controlled}
-use Rattle.meaning.specs.Sheets.{sheetOf, exactStep}
+use Rattle.meaning.specs.Sheets.{sheetOf, exactStep, wholeOf}
 use Rattle.meaning.specs.Computing.{computing}
 
 -- plant P with its band's upper end
@@ -52,6 +55,11 @@ leftover-first = refl
 in-order : checked P (1 ∷ 1 ∷ 0 ∷ 1 ∷ 0 ∷ 3 ∷ []) ≡ Verdict.Refused (leaves 3 1)
 unfolding computing
 in-order = refl
+
+-- the largest f64 below one half, times 1, gives 0: with a half added in f64 it would be rounded to 1
+below-half : wholeOf 20_000 1 (ofBits binary64 0x3FDF_FFFF_FFFF_FFFF) ≡ Whole.Near (pos 0)
+unfolding computing
+below-half = refl
 
 -- 10·y − (9·195 + 100) lies in −5..4 for y = 185 (it is −5) and for no neighbour; from 196 for y = 186 (−4)
 abbrev after : ℕ → ℕ → Bool
