@@ -31,6 +31,7 @@ pub mod Numbers
 pub mod Passing
 pub mod Patterns
 pub mod PlantFiles
+pub mod PlantImages
 pub mod PlantLengths
 pub mod PlantMotion
 pub mod PlantRules

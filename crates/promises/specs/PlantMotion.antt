@@ -28,7 +28,7 @@ use Rattle.promises.specs.Sound.{Sound}
 use Rattle.promises.specs.Splits.{one-child}
 
 -- a reading of just n counts is taken as it is
-whole : (n : ℕ) (y : List ℤ) → length y ≡ n → readingOf n y ≡ y
+pub whole : (n : ℕ) (y : List ℤ) → length y ≡ n → readingOf n y ≡ y
 whole n y e =
     ext-getD (pos 0) (readingOf n y) y (length-tab (at y) n 0 ∙ sym e)
     (λ i l. getD-tab (at y) (pos 0) n 0 i (omega (arith, length-tab (at y) n 0)) ∙ rw zero-add refl)

@@ -31,7 +31,7 @@ module _ (q : ℕ) (positive : 1 ≤ q) (r : Row) (x : List ℤ) (wide : Wide q 
   ceil-reached : reached q x r (ceilZ (dot (r .entries) x +ℤ r .offset +ℤ r .low) q) ≡ true
   ceil-reached = let h = ceil-banded q positive (dot (r .entries) x +ℤ r .offset) (r .low) (r .high) wide in ordered (h .0) (h .1)
 
-  floor-reached : reached q x r (floorZ (dot (r .entries) x +ℤ r .offset +ℤ r .high) q) ≡ true
+  pub floor-reached : reached q x r (floorZ (dot (r .entries) x +ℤ r .offset +ℤ r .high) q) ≡ true
   floor-reached = let h = floor-banded q positive (dot (r .entries) x +ℤ r .offset) (r .low) (r .high) wide in ordered (h .0) (h .1)
 
 -- ---- the point of a box at which a row's sum is least, or greatest
@@ -111,7 +111,7 @@ edges-reached q b r p w f =
 
 module _ (q : ℕ) (x : List ℤ) where
   -- the greatest count that the row reaches
-  abbrev next : Row → ℤ
+  abbrev pub next : Row → ℤ
   next r = floorZ (dot (r .entries) x +ℤ r .offset +ℤ r .high) q
 
   next-reached : 1 ≤ q → (rows : List Row) → Every (Wide q) rows → all (reachedAll q x rows (map next rows)) ≡ true
