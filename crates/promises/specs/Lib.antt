@@ -42,6 +42,7 @@ pub mod Reached
 pub mod Related
 pub mod Shapes
 pub mod SheetFiles
+pub mod SheetFloats
 pub mod SheetLengths
 pub mod SheetNear
 pub mod SheetNumbers

@@ -97,7 +97,7 @@ rooms-each n (suc m) vs few zero l = (room-held n vs, room-tidy n vs few)
 rooms-each n (suc m) vs few (suc i) l = rooms-each n m (drop (n + 1 + emitterSize (natAbs (at vs n))) vs) few i (omega arith)
 
 -- made up to four, their first n are themselves
-rooms-padded : (n : ℕ) (vs : List ℤ) (i : ℕ) → i < n → getD (padded 4 noRoom (roomsOf n n vs)) i noRoom ≡ getD (roomsOf n n vs) i noRoom
+pub rooms-padded : (n : ℕ) (vs : List ℤ) (i : ℕ) → i < n → getD (padded 4 noRoom (roomsOf n n vs)) i noRoom ≡ getD (roomsOf n n vs) i noRoom
 rooms-padded n vs i l = List·getD-append (roomsOf n n vs) _ noRoom i (omega (arith, rooms-long n n vs))
 
 rooms-filled : (n : ℕ) (vs : List ℤ) → n ≤ 4 → FilledBy noRoom 4 n (padded 4 noRoom (roomsOf n n vs))

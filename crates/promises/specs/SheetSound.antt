@@ -1,5 +1,5 @@
 -- What document 01 says of the whole numbers of a sheet ("The sheet"), as facts of one that was judged good: its ranges, every lo ≤ its hi, R within S, each
--- band wide enough, and that the plant can hold every number made of it. Relies on pages Framed and Related. What is asked of its floats is left out.
+-- band wide enough, and that the plant can hold every number made of it. Relies on pages Framed and Related. What is asked of its floats is page SheetFloats.
 use Prim.Native.Nat.{ℕ, _*_, _≤_, _<_}
 use mathlib.Core.Path.{_≡_, subst}
 use mathlib.Core.Bool.{true}
