@@ -12,6 +12,7 @@ pub mod Faults
 pub mod Files
 pub mod Finds
 pub mod First
+pub mod FirstFault
 pub mod Floats
 pub mod FormShapes
 pub mod Forms
