@@ -1,4 +1,5 @@
 pub mod Accept
+pub mod AsStated
 pub mod Bodies
 pub mod Boxes
 pub mod Buffers
@@ -53,6 +54,7 @@ pub mod SheetShapes
 pub mod SheetSound
 pub mod SheetSteps
 pub mod Sheets
+pub mod ShutOut
 pub mod Sound
 pub mod Splits
 pub mod Starred

@@ -30,15 +30,15 @@ one lo hi = side lo hi ∷ []
 
 -- ---- the plants: form, n, N, q, K, D; R; S; w; the modes
 
-abbrev valuesWith : ℕ → ℕ → ℕ → List ℤ
+abbrev pub valuesWith : ℕ → ℕ → ℕ → List ℤ
 valuesWith slo shi d =
     pos 1 ∷ pos 1 ∷ pos 2 ∷ pos 10 ∷ pos 2 ∷ pos d ∷ pos 195 ∷ pos 225 ∷ pos slo ∷ pos shi ∷ minus 5 ∷ pos 4
     ∷ pos 9 ∷ pos 100 ∷ pos 9 ∷ pos 300 ∷ []
 
-abbrev P : List ℕ
+abbrev pub P : List ℕ
 P = fileOf plantForm (valuesWith 190 230 1)
 
-abbrev P′ : List ℕ
+abbrev pub P′ : List ℕ
 P′ = fileOf plantForm (valuesWith 180 240 1)
 
 -- P with D 0
@@ -51,17 +51,17 @@ imageBy u lo hi = image (stepOf (plantOf (valuesWith 190 230 1)) u) (one (pos lo
 
 -- ---- tables and buffers
 
-abbrev table₁ : List ℕ
+abbrev pub table₁ : List ℕ
 table₁ = 0x01 ∷ 0x01 ∷ 0x00 ∷ 0x01 ∷ 0x01 ∷ 0x01 ∷ 0x00 ∷ []
 
-abbrev table₄ : List ℕ
+abbrev pub table₄ : List ℕ
 table₄ = 0x01 ∷ 0x01 ∷ 0x01 ∷ 0x01 ∷ []
 
-abbrev table₅ : List ℕ
+abbrev pub table₅ : List ℕ
 table₅ = 0x01 ∷ 0x01 ∷ 0x02 ∷ 0x00 ∷ 0x01 ∷ []
 
 -- a buffer of m bytes, none of them 0
-abbrev lent : ℕ → List ℕ
+abbrev pub lent : ℕ → List ℕ
 lent m = replicate m 0xAA
 
 -- written, with m bytes behind that were left alone
