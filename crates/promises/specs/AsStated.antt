@@ -1,40 +1,41 @@
 -- Demands 2 and 3 as predicates on any checker, maker or controller over bytes, in document 01's words, and that the definitions to which the contracts hold
--- the code meet each: `checked`, `makerLeft`, `controlled`. Of what is asked of a maker, that it settles every answer and every byte. Relies on pages Checked,
--- Promise, FirstFault, Made and Chosen. Of a controller only calls on accepted tables are asked here, and only those that are answered by a mode; of a checker's
--- refusals only 7 and 8. What else they answer, the definitions say. Which programs each demand shuts out is page ShutOut.
+-- the code meet each: `checked`, `makerLeft`, `controlled`. What is asked of a maker settles every answer and every byte, what is asked of a controller every call on an accepted table. Relies on pages Checked,
+-- Promise, FirstFault, Made and Chosen. Of a controller only calls on accepted tables are asked here, of a checker's refusals only 7 and 8; what else they
+-- answer, the definitions say. Which programs each demand shuts out is page ShutOut.
 use Prim.Native.Nat.{ℕ, zero, suc, _+_, _≤_, _<_}
 use mathlib.Core.Path.{_≡_, refl, sym, ap, _∙_}
-use mathlib.Core.Bool.{Bool, true, false}
+use mathlib.Core.Bool.{Bool, true, false, _&&_}
 use mathlib.Core.Logic.{_↔_}
 use mathlib.Core.List.{List, [], _∷_, append-nil}
 use mathlib.Core.Option.{Option, none, some}
 use native.Mathlib.Omega.{arith}
 use native.Mathlib.Decide.{decLt}
-use borrow.Author.Tests.{le-leb, lt-ltb}
-use lib.Dec.{leb}
+use borrow.Author.Tests.{le-leb, lt-ltb, leb-true, ltb-true}
+use lib.Dec.{leb, ltb, eqb·suc-zero}
 use lib.ListN.{length, getD, replicate}
 use lib.Seq.{sets}
 use lib.IntN.{ℤ}
 use Rattle.laws.specs.Guards.{guard}
-use Rattle.laws.specs.Tests.{never}
+use Rattle.laws.specs.Tests.{never, first, second, both}
 use Rattle.meaning.specs.declared.Answer.{Answer}
 use Rattle.meaning.specs.declared.Plant.{Plant}
 use Rattle.meaning.specs.declared.Refusal.{Refusal}
 use Rattle.meaning.specs.declared.State.{State}
 use Rattle.meaning.specs.declared.Verdict.{Verdict}
+use Rattle.meaning.specs.declared.Walk.{Walk}
 use Rattle.meaning.specs.declared.Written.{Written}
 use Rattle.meaning.specs.Buffers.{Left, refusedWith, left}
 use Rattle.meaning.specs.Control as C
-use Rattle.meaning.specs.Control.{idle, stateWith, modeAt, call}
+use Rattle.meaning.specs.Control.{idle, stateWith, modeAt, canRun, idleCall, runningCall}
 use Rattle.meaning.specs.Defined.{definedTree}
 use Rattle.meaning.specs.Files.{Judged, good, bad}
 use Rattle.meaning.specs.Plants.{plantJudged, rootOf, safeOf}
-use Rattle.meaning.specs.Refusals.{leaves, misses, noTable, short}
-use Rattle.meaning.specs.Rules.{rule, holds}
+use Rattle.meaning.specs.Refusals.{leaves, misses, noTable, short, outside, badState}
+use Rattle.meaning.specs.Rules.{Rules, rule, holds, missed}
 use Rattle.meaning.specs.Tables as T
 use Rattle.meaning.specs.Tables.{rulesOf, checked, made, makerLeft, controlled, startsIn, safeIn}
 use Rattle.meaning.specs.Trees.{Tree, Pattern, longest, tableOf, Tile, tilesOf, having}
-use Rattle.meaning.specs.Verdicts.{verdict}
+use Rattle.meaning.specs.Verdicts.{header, verdict}
 use Rattle.promises.specs.Buffers.{wrote}
 use Rattle.promises.specs.Checked.{Tiled, accepted-judged, checked-exactly}
 use Rattle.promises.specs.Chosen.{chosen}
@@ -196,38 +197,88 @@ module _ (f g : Maker) (F : Makes f) (G : Makes g) (plant buf : List ℕ) where
       of-plant (bad e) q = refused-alike e (F .plant-first plant buf e q) (G .plant-first plant buf e q)
       of-plant (good p) q = of-tree p q (definedTree (rulesOf p)) refl
 
--- ---- demand 2, a call of the controller
+-- ---- demand 2, a call of the controller on an accepted table
+
+-- row 12 turned round: so many modes left, the one at the place counted, can be
+pub record CanRun (p : Plant) (table : List ℕ) (place left : ℕ) : Type 0 where
+  pub few : left ≤ p .k
+  pub behind-header : 2 ≤ place
+  pub in-table : place + left ≤ length table
+  pub a-mode : getD table place 0 < p .modes
 
 -- with m modes left behind the one at a place the state moves one on, else it is idle
 abbrev pub movedOn : ℕ → ℕ → State
 movedOn place zero = idle
 movedOn place (suc m) = record { place = place + 1; left = suc m }
 
+abbrev pub stateOf : ℕ → ℕ → State
+stateOf place left = record { place = place; left = left }
+
 pub record Answers (control : Controller) : Type 0 where
   -- idle, the reading in R: its tile is the one of the table's that holds it; its first mode is answered, and the others are left
   pub first-mode : (plant table : List ℕ) (t : Tiled plant table) (x : List ℤ) → startsIn plant x ≡ true
       → (one : Tile (rulesOf (t .p))) → having (rulesOf (t .p)) x (tilesOf (rulesOf (t .p)) (t .tree) (rootOf (t .p)) 2) ≡ one ∷ []
       → (u : ℕ) (us : List ℕ) → one .modes ≡ u ∷ us → control plant table idle x ≡ Answer.Mode u (stateWith us (one .place + 2))
-  -- running, the reading in S, the state one that can be: the mode at the place is answered
+  -- running, the reading in S: the mode at the place is answered
   pub next-mode : (plant table : List ℕ) (t : Tiled plant table) (x : List ℤ) → safeIn plant x ≡ true
-      → (place m : ℕ) → suc m ≤ t .p .k → 2 ≤ place → place + suc m ≤ length table → getD table place 0 < t .p .modes
-      → control plant table (record { place = place; left = suc m }) x ≡ Answer.Mode (getD table place 0) (movedOn place m)
+      → (place m : ℕ) → CanRun (t .p) table place (suc m) → control plant table (stateOf place (suc m)) x ≡ Answer.Mode (getD table place 0) (movedOn place m)
+  -- 11: the reading is outside R, idle, or outside S, running; the first dimension in which it is
+  pub outside-root : (plant table : List ℕ) (t : Tiled plant table) (x : List ℤ) → startsIn plant x ≡ false
+      → control plant table idle x ≡ Answer.Refused (outside (missed (rulesOf (t .p)) (rootOf (t .p)) x))
+  pub outside-safe : (plant table : List ℕ) (t : Tiled plant table) (x : List ℤ) → safeIn plant x ≡ false
+      → (place m : ℕ) → CanRun (t .p) table place (suc m)
+      → control plant table (stateOf place (suc m)) x ≡ Answer.Refused (outside (missed (rulesOf (t .p)) (safeOf (t .p)) x))
+  -- 12, before 11: a state that cannot be
+  pub no-place : (plant table : List ℕ) (t : Tiled plant table) (x : List ℤ) (place : ℕ) → control plant table (stateOf (suc place) 0) x ≡ Answer.Refused badState
+  pub cannot-run : (plant table : List ℕ) (t : Tiled plant table) (x : List ℤ) (place m : ℕ) → (CanRun (t .p) table place (suc m) → ⊥)
+      → control plant table (stateOf place (suc m)) x ≡ Answer.Refused badState
+
+-- the test of a state
+can-run : (p : Plant) (table : List ℕ) (place left : ℕ) → (canRun (rulesOf p) table place left ≡ true) ↔ CanRun p table place left
+can-run p table place left =
+    let a = leb left (p .k) in
+    let b = leb 2 place in
+    let c = leb (place + left) (length table) in
+    let d = ltb (getD table place 0) (p .modes) in (
+      λ e. record {
+        few = leb-true left (p .k) (first a b (first (a && b) c (first (a && b && c) d e)));
+        behind-header = leb-true 2 place (second a b (first (a && b) c (first (a && b && c) d e)));
+        in-table = leb-true (place + left) (length table) (second (a && b) c (first (a && b && c) d e));
+        a-mode = ltb-true (getD table place 0) (p .modes) (second (a && b && c) d e);
+      },
+      λ h. both (both (both (le-leb left (p .k) (h .few)) (le-leb 2 place (h .behind-header))) (le-leb (place + left) (length table) (h .in-table)))
+          (lt-ltb (getD table place 0) (p .modes) (h .a-mode)),
+    )
 
 mode-moves : (s : List ℕ) (place m : ℕ) → modeAt s place (suc m) ≡ Answer.Mode (getD s place 0) (movedOn place m)
 mode-moves s place zero = refl
 mode-moves s place (suc m) = refl
 
-runs : (plant table : List ℕ) (t : Tiled plant table) (x : List ℤ) → safeIn plant x ≡ true
-    → (place m : ℕ) → suc m ≤ t .p .k → 2 ≤ place → place + suc m ≤ length table → getD table place 0 < t .p .modes
-    → call (rulesOf (t .p)) table (record { place = place; left = suc m }) x ≡ Answer.Mode (getD table place 0) (movedOn place m)
-unfolding C.call
-runs plant table t x h place m k a b c =
-    let r = rulesOf (t .p) in
-    let z = judged-sizes plant (t .p) (t .judged) in
-    let safe : holds r (safeOf (t .p)) x ≡ true = rw (t .judged) at h in
-    let head = header-read r z table (headed r) (table-stands r table [] (t .tree) (t .is ∙ sym (append-nil (tableOf r (t .tree)))) .0) in
-    simp (head, le-leb (suc m) (t .p .k) k, le-leb 2 place a, le-leb (place + suc m) (length table) b, lt-ltb (getD table place 0) (t .p .modes) c, safe)
-    (mode-moves table place m)
+cannot : (b : Bool) → (b ≡ true → ⊥) → b ≡ false
+cannot true h = absurd (h refl)
+cannot false h = refl
+
+-- the header is read, and the state says which call it is
+module _ (plant table : List ℕ) (t : Tiled plant table) (x : List ℤ) where
+  abbrev rules : Rules
+  rules = rulesOf (t .p)
+
+  header-is : header rules table ≡ Walk.Next (headed rules)
+  header-is = header-read rules (judged-sizes plant (t .p) (t .judged)) table (headed rules) (table-stands rules table [] (t .tree) (t .is ∙ sym (append-nil (tableOf rules (t .tree)))) .0)
+
+  idle-as : (place : ℕ) → controlled plant table (stateOf place 0) x ≡ idleCall rules table (headed rules) place x
+  unfolding C.call
+  idle-as place = controlled-as plant (t .p) (t .judged) table (stateOf place 0) x ∙ rw header-is refl
+
+  running-as : (place m : ℕ) → controlled plant table (stateOf place (suc m)) x ≡ runningCall rules table place (suc m) x
+  unfolding C.call
+  running-as place m = controlled-as plant (t .p) (t .judged) table (stateOf place (suc m)) x ∙ rw header-is refl
+
+  in-safe : (b : Bool) → safeIn plant x ≡ b → holds rules (safeOf (t .p)) x ≡ b
+  in-safe b h = rw (t .judged) at h
+
+  in-root : (b : Bool) → startsIn plant x ≡ b → holds rules (rootOf (t .p)) x ≡ b
+  in-root b h = rw (t .judged) at h
 
 pub controlled-answers : Answers controlled
 controlled-answers = record {
@@ -239,6 +290,39 @@ controlled-answers = record {
       let b : c .later ≡ us = cc in
       let at : c .the .place ≡ one .place = ap (λ (o : Tile (rulesOf (t .p))). o .place) same in
       c .answered ∙ rw (a, b, at) refl;
-  next-mode = λ plant table t x h place m k a b c.
-      controlled-as plant (t .p) (t .judged) table (record { place = place; left = suc m }) x ∙ runs plant table t x h place m k a b c;
+  next-mode = λ plant table t x h place m k.
+      running-as plant table t x place m ∙ simp (can-run (t .p) table place (suc m) .1 k, in-safe plant table t x true h) (mode-moves table place m);
+  outside-root = λ plant table t x h. idle-as plant table t x 0 ∙ simp (in-root plant table t x false h);
+  outside-safe = λ plant table t x h place m k.
+      running-as plant table t x place m ∙ simp (can-run (t .p) table place (suc m) .1 k, in-safe plant table t x false h);
+  no-place = λ plant table t x place. idle-as plant table t x (suc place) ∙ simp (eqb·suc-zero place);
+  cannot-run = λ plant table t x place m k.
+      running-as plant table t x place m
+      ∙ simp (cannot (canRun (rulesOf (t .p)) table place (suc m)) (λ e. k (can-run (t .p) table place (suc m) .0 e)));
 }
+
+-- two controllers of which this is true answer alike on every accepted table, in every state, whatever the reading
+pub one-call : (f g : Controller) → Answers f → Answers g → (plant table : List ℕ) → Tiled plant table → (st : State) (x : List ℤ) → f plant table st x ≡ g plant table st x
+one-call f g F G plant table t st x = go (st .place) (st .left)
+  where
+    idle-alike : (b : Bool) → startsIn plant x ≡ b → f plant table idle x ≡ g plant table idle x
+    idle-alike false h = F .outside-root plant table t x h ∙ sym (G .outside-root plant table t x h)
+    idle-alike true h =
+        let c = chosen plant table t x h in
+        F .first-mode plant table t x h (c .the) (c .only) (c .first) (c .later) (c .modes-are)
+        ∙ sym (G .first-mode plant table t x h (c .the) (c .only) (c .first) (c .later) (c .modes-are))
+
+    safe-alike : (place m : ℕ) → CanRun (t .p) table place (suc m) → (b : Bool) → safeIn plant x ≡ b → f plant table (stateOf place (suc m)) x ≡ g plant table (stateOf place (suc m)) x
+    safe-alike place m k false h = F .outside-safe plant table t x h place m k ∙ sym (G .outside-safe plant table t x h place m k)
+    safe-alike place m k true h = F .next-mode plant table t x h place m k ∙ sym (G .next-mode plant table t x h place m k)
+
+    run-alike : (place m : ℕ) (b : Bool) → canRun (rulesOf (t .p)) table place (suc m) ≡ b → f plant table (stateOf place (suc m)) x ≡ g plant table (stateOf place (suc m)) x
+    run-alike place m true e = safe-alike place m (can-run (t .p) table place (suc m) .0 e) (safeIn plant x) refl
+    run-alike place m false e =
+        let k : CanRun (t .p) table place (suc m) → ⊥ = λ h. never (sym e ∙ can-run (t .p) table place (suc m) .1 h) in
+        F .cannot-run plant table t x place m k ∙ sym (G .cannot-run plant table t x place m k)
+
+    go : (place left : ℕ) → f plant table (stateOf place left) x ≡ g plant table (stateOf place left) x
+    go zero zero = idle-alike (startsIn plant x) refl
+    go (suc place) zero = F .no-place plant table t x place ∙ sym (G .no-place plant table t x place)
+    go place (suc m) = run-alike place m (canRun (rulesOf (t .p)) table place (suc m)) refl
