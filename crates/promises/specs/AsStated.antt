@@ -1,7 +1,7 @@
 -- Demands 2 and 3 as predicates on any checker, maker or controller over bytes, in document 01's words, and that the definitions to which the contracts hold
--- the code meet each: `checked`, `makerLeft`, `controlled`. What is asked of a maker settles every answer and every byte, what is asked of a controller every call on an accepted table. Relies on pages Checked,
--- Promise, FirstFault, Made and Chosen. Of a controller only calls on accepted tables are asked here, of a checker's refusals only 7 and 8; what else they
--- answer, the definitions say. Which programs each demand shuts out is page ShutOut.
+-- the code meet each: `checked`, `makerLeft`, `controlled`. How tight they are: what is asked of a maker settles every answer and every byte, of a controller
+-- every call on an accepted table, of a checker every verdict on a table that keeps the file's rules. Relies on pages Checked, Promise, FirstFault, Made and
+-- Chosen. What is told of tables that break the file's rules is left out: the definitions say it. Which programs each demand shuts out is page ShutOut.
 use Prim.Native.Nat.{ℕ, zero, suc, _+_, _≤_, _<_}
 use mathlib.Core.Path.{_≡_, refl, sym, ap, _∙_}
 use mathlib.Core.Bool.{Bool, true, false, _&&_}
@@ -39,7 +39,7 @@ use Rattle.meaning.specs.Verdicts.{header, verdict}
 use Rattle.promises.specs.Buffers.{wrote}
 use Rattle.promises.specs.Checked.{Tiled, accepted-judged, checked-exactly}
 use Rattle.promises.specs.Chosen.{chosen}
-use Rattle.promises.specs.FirstFault.{LeavesAt, MissesAt, FirstBad, leaving-told, missing-told}
+use Rattle.promises.specs.FirstFault.{LeavesAt, MissesAt, FirstBad, Comes, working, leaving, missing, comes, leaving-told, missing-told}
 use Rattle.promises.specs.Layouts.{headed, header-read, table-stands}
 use Rattle.promises.specs.Made.{made-accepted, made-exactly, nine-exactly, maker-nine, maker-ten, maker-writes}
 use Rattle.promises.specs.PlantRules.{judged-sizes, checked-as, made-as, controlled-as}
@@ -110,6 +110,17 @@ checked-tells = record {
   where
     of-tree : (plant table : List ℕ) (t : Laid plant table) → checked plant table ≡ verdict (rulesOf (t .p)) (tableOf (rulesOf (t .p)) (t .tree))
     of-tree plant table t = checked-as plant (t .p) (t .judged) table ∙ ap (verdict (rulesOf (t .p))) (t .is)
+
+-- two checkers of which both are true answer alike on every table that keeps the file's rules
+pub one-verdict : (f g : Checker) → AcceptsWorking f → Tells f → AcceptsWorking g → Tells g → (plant table : List ℕ) → Laid plant table → f plant table ≡ g plant table
+one-verdict f g A F B G plant table t = go (comes (rulesOf (t .p)) (t .tree) (t .shape))
+  where
+    go : Comes (rulesOf (t .p)) (t .tree) → f plant table ≡ g plant table
+    go (working w) =
+        let works : Tiled plant table = record { p = t .p; judged = t .judged; tree = t .tree; works = w; is = t .is } in
+        A plant table works ∙ sym (B plant table works)
+    go (leaving one b i h) = F .leaving plant table t one b i h ∙ sym (G .leaving plant table t one b i h)
+    go (missing one b i h) = F .missing plant table t one b i h ∙ sym (G .missing plant table t one b i h)
 
 -- ---- demand 2, the maker
 

@@ -1,14 +1,15 @@
 -- Rows 7 and 8 of "What each number says": of a table that keeps the file's rules, the first tile in file order whose pattern does not work is told, at its
--- first byte: by 7 with the step, from 1, of the first image that leaves S, or by 8 with the last step where all lie in S and the last not in R.
--- Over any rules whose numbers fit five bytes. Relies on pages Layouts and Walking. What is told of a table that breaks the file's rules is left out.
+-- first byte: by 7 with the step, from 1, of the first image that leaves S, or by 8 with the last step where all lie in S and the last not in R. And where there
+-- is no such tile, all work. Over any rules; what is told, where numbers fit five bytes. Relies on pages Layouts, Patterns and Walking. What is told of a table
+-- that breaks the file's rules is left out.
 use Prim.Native.Nat.{ℕ, zero, suc, _+_}
-use mathlib.Core.Path.{_≡_, refl, sym, _∙_}
-use mathlib.Core.Bool.{true, false}
-use mathlib.Core.List.{List, [], _∷_, _++_, append-nil}
+use mathlib.Core.Path.{_≡_, refl, sym, ap, _∙_}
+use mathlib.Core.Bool.{Bool, true, false}
+use mathlib.Core.List.{List, [], _∷_, _++_, append-nil, append-assoc}
 use native.Mathlib.Omega.{arith}
 use lib.ListN.{length}
 use Rattle.laws.specs.Every as E
-use Rattle.laws.specs.Every.{Every}
+use Rattle.laws.specs.Every.{Every, every-append, every-parts}
 use Rattle.laws.specs.Standing.{Stands, stand-front, stand-back}
 use Rattle.laws.specs.Tests.{never}
 use Rattle.meaning.specs.declared.Refusal.{Refusal}
@@ -27,8 +28,8 @@ use Rattle.meaning.specs.Verdicts.{onRule, onWalk, each, walk, verdict}
 use Rattle.promises.specs.Laws.{Sizes}
 use Rattle.promises.specs.Layouts.{tile-read, split-read, headed, header-read, table-stands}
 use Rattle.promises.specs.Patterns as T
-use Rattle.promises.specs.Patterns.{lastOf, images}
-use Rattle.promises.specs.Shapes.{Shaped}
+use Rattle.promises.specs.Patterns.{lastOf, images, Lands, works-exactly}
+use Rattle.promises.specs.Shapes.{Good, Shaped, Working}
 use Rattle.promises.specs.Walking.{walk-split, walk-tile}
 
 module _ (r : Rules) where
@@ -77,6 +78,36 @@ module _ (r : Rules) where
       let s : suc j + length us ≡ j + suc (length us) = omega arith in
       let w : within (kept (image u k)) safe ≡ true = h .0 in
       rw w (misses-from us (suc j) (image u k) (h .1) o ∙ rw s refl)
+
+  -- a pattern works, or one of the two is so
+  data Outcome (k : Kept) (us : List ℕ) : Type 0 where
+    works : Lands r k us → Outcome k us
+    leaves-at : {i : ℕ} → LeavesAt k us i → Outcome k us
+    misses-at : {i : ℕ} → MissesAt k us i → Outcome k us
+
+  outcome : (us : List ℕ) (k : Kept) → Outcome k us
+  unfolding T.images T.lastOf E.Every
+  outcome [] k = go (within (kept k) goal) refl
+    where
+      go : (b : Bool) → within (kept k) goal ≡ b → Outcome k []
+      go true e = works (record { in-safe = tt; in-goal = e })
+      go false e = misses-at (record { inside = tt; outside = e; step = refl })
+  outcome (u ∷ us) k = go (within (kept (image u k)) safe) refl (outcome us (image u k))
+    where
+      go : (b : Bool) → within (kept (image u k)) safe ≡ b → Outcome (image u k) us → Outcome k (u ∷ us)
+      go false e o = leaves-at (record { before = []; it = image u k; behind = images r (image u k) us; are = refl; inside = tt; outside = e; step = refl })
+      go true e (works l) = works (record { in-safe = (e, l .in-safe); in-goal = l .in-goal })
+      go true e (leaves-at h) =
+          leaves-at (record {
+            before = image u k ∷ h .before;
+            it = h .it;
+            behind = h .behind;
+            are = ap (λ (l : List Kept). image u k ∷ l) (h .are);
+            inside = (e, h .inside);
+            outside = h .outside;
+            step = refl;
+          })
+      go true e (misses-at h) = misses-at (record { inside = (e, h .inside); outside = h .outside; step = refl })
 
   -- ---- tiles judged in file order, from a walk over them: the first that does not work is told
 
@@ -142,12 +173,60 @@ module _ (r : Rules) where
 
   -- ---- the verdict
 
+  abbrev pub TileWorks : Tile r → Type 0
+  TileWorks c = rule r (c .box) (c .modes) ≡ Works
+
   -- the tiles of a table, the header being in front of them: those before one work
   pub record FirstBad (t : Tree) (one : Tile r) : Type 0 where
     pub front : List (Tile r)
     pub back : List (Tile r)
     pub are : tilesOf r t root (headed r) ≡ front ++ one ∷ back
-    pub work : Every (λ c. rule r (c .box) (c .modes) ≡ Works) front
+    pub work : Every TileWorks front
+
+  -- what a table that keeps the file's rules comes to: its tiles all work, or there is a first that does not
+  pub data Comes (t : Tree) : Type 0 where
+    working : Working r t → Comes t
+    leaving : (one : Tile r) → FirstBad t one → (i : ℕ) → LeavesAt (begin (one .box)) (one .modes) i → Comes t
+    missing : (one : Tile r) → FirstBad t one → (i : ℕ) → MissesAt (begin (one .box)) (one .modes) i → Comes t
+
+  -- a tree of sound shape whose tiles all work
+  mutual
+    unfolding Y.Over Y.tilesOf E.Every
+
+    tree-works : (t : Tree) (d : ℕ) (b : Box) (at : ℕ) → Over r (λ b us. Pattern K N us) t d b → Every TileWorks (tilesOf r t b at) → Over r (Good r (rule r)) t d b
+    tree-works (tile us) d b at o h = record { shape = o; works = h .0 }
+    tree-works (split f) zero b at o h = o
+    tree-works (split f) (suc d) b at o h = (o .0, forest-works f d (children b) (at + length (bytesOf 0)) (o .1) h)
+
+    forest-works : (f : Forest) (d : ℕ) (bs : List Box) (at : ℕ) → Overs r (λ b us. Pattern K N us) f d bs → Every TileWorks (tilesIn r f bs at) → Overs r (Good r (rule r)) f d bs
+    forest-works leaf d [] at o h = o
+    forest-works leaf d (b ∷ bs) at o h = o
+    forest-works (more t f) d [] at o h = o
+    forest-works (more t f) d (b ∷ bs) at o h =
+        let w = every-parts TileWorks (tilesOf r t b at) (tilesIn r f bs (at + length (layout t))) h in
+        (tree-works t d b at (o .0) (w .0), forest-works f d bs (at + length (layout t)) (o .1) (w .1))
+
+  -- the tiles behind those of a front that work
+  comes-from : (t : Tree) → Shaped r t → (front rest : List (Tile r)) → tilesOf r t root (headed r) ≡ front ++ rest → Every TileWorks front → Comes t
+  unfolding E.Every
+  comes-from t shape front [] e h =
+      let q : tilesOf r t root (headed r) ≡ front = e ∙ append-nil front in
+      working (tree-works t D root (headed r) shape (rw q h))
+  comes-from t shape front (one ∷ rest) e h =
+      go (outcome (one .modes) (begin (one .box)))
+      (λ w. comes-from t shape (front ++ one ∷ []) rest (e ∙ sym (append-assoc front (one ∷ []) rest)) (every-append TileWorks front (one ∷ []) h (w, tt)))
+    where
+      bad : FirstBad t one
+      bad = record { front = front; back = rest; are = e; work = h }
+
+      go : Outcome (begin (one .box)) (one .modes) → (TileWorks one → Comes t) → Comes t
+      go (works l) on = on (works-exactly r (one .box) (one .modes) .1 l)
+      go (leaves-at {i = i} k) on = leaving one bad i k
+      go (misses-at {i = i} k) on = missing one bad i k
+
+  pub comes : (t : Tree) → Shaped r t → Comes t
+  unfolding E.Every
+  comes t shape = comes-from t shape [] (tilesOf r t root (headed r)) refl tt
 
   module _ (sizes : Sizes r) (t : Tree) (shape : Shaped r t) (one : Tile r) (bad : FirstBad t one) where
     bad-told : (e : Refusal) → toldOf (rule r) one ≡ Walk.Refused e → verdict r (tableOf r t) ≡ Verdict.Refused e

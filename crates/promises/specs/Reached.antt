@@ -1,6 +1,6 @@
 -- S3 and S12: what a wide band reaches. Each edge of the image of a box is reached, dimension by dimension, from some point of the box (a
 -- corner of the image need not be reached from one point); and some reading always follows.
--- Relies on the law of wide bands in laws' page DivisionLaws. Any step, any number of dimensions; which plants have wide bands is left out.
+-- Relies on the law of wide bands in laws' page DivisionLaws. Any step, any number of dimensions; plants are page PlantImages.
 use Prim.Native.Nat.{ℕ, suc, _≤_}
 use mathlib.Core.Path.{_≡_, refl, ap}
 use mathlib.Core.Bool.{true}
