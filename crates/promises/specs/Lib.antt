@@ -28,6 +28,7 @@ pub mod Local
 pub mod LongestTable
 pub mod Made
 pub mod ModeBytes
+pub mod Modes
 pub mod Nearest
 pub mod Numbers
 pub mod Passing

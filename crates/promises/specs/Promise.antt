@@ -1,6 +1,6 @@
 -- S9, demand 3, over bytes: for every plant and every table that the checker accepts on it, every run that starts idle on a reading in R and applies
 -- each mode that the controller answers, of any length, whatever readings come that the mode's equation and band allow. Relies on page Demand at
--- document 01's rules, and on S12 (page PlantMotion) for that no run gets stuck. Its last sentence, that every table whose tiles keep the tile rule is
+-- document 01's rules, on page Modes, and on S12 (page PlantMotion) for that no run gets stuck. Its last sentence, that every table whose tiles keep the tile rule is
 -- accepted, is page Checked.
 use Prim.Native.Nat.{ℕ, _≤_}
 use mathlib.Core.Path.{_≡_, sym, _∙_}
@@ -20,14 +20,16 @@ use Rattle.meaning.specs.Trees.{longest}
 use Rattle.promises.specs.Checked.{Tiled, accepted-judged}
 use Rattle.promises.specs.Demand.{Meets, Sampled, Demand, demand}
 use Rattle.promises.specs.Judged.{judged-sound}
+use Rattle.promises.specs.Modes.{isMode, answered-is-mode}
 use Rattle.promises.specs.PlantMotion.{splits, motion, plant-follows}
 use Rattle.promises.specs.PlantRules.{sizes, one-byte-modes, checked-as, controlled-as}
 use Rattle.promises.specs.Sound.{Sound}
 
 -- What demand 3 says of a plant and a table whose longest pattern has so many modes. A tile is chosen where the controller is idle.
 pub record Promised (plant table : List ℕ) (most : ℕ) : Type 0 where
-  -- no call is refused
-  pub answered : {st : State} {x : List ℤ} → TableRun plant table st x → (u : ℕ) × (then : State) × (controlled plant table st x ≡ Answer.Mode u then)
+  -- no call is refused, and what is answered is a mode of the plant
+  pub answered : {st : State} {x : List ℤ} → TableRun plant table st x
+      → (u : ℕ) × (then : State) × (controlled plant table st x ≡ Answer.Mode u then) × (isMode plant u ≡ true)
   -- every reading lies in S, and in R where a tile is chosen
   pub in-safe : {st : State} {x : List ℤ} → TableRun plant table st x → safeIn plant x ≡ true
   pub in-root : {x : List ℤ} → TableRun plant table idle x → startsIn plant x ≡ true
@@ -51,7 +53,10 @@ module _ (plant table : List ℕ) (p : Plant) (e : plantJudged plant ≡ good p)
 
   promised : (most : ℕ) → Sound p → Demand (rulesOf p) table most → Promised plant table most
   promised most s d = record {
-    answered = λ {st} {x} run. let w = d .answered (meets run) in (w .0, w .1, controlled-as plant p e table st x ∙ w .2);
+    answered = λ {st} {x} run.
+        let w = d .answered (meets run) in
+        let a = controlled-as plant p e table st x ∙ w .2 in
+        (w .0, w .1, a, answered-is-mode plant table st x a);
     in-safe = λ run. rw e (d .in-safe (meets run));
     in-root = λ run. rw e (d .in-root (meets run));
     returns = λ run.
