@@ -1,15 +1,22 @@
--- S5, tile rule: a pattern works for a box exactly when each successive image lies in S and the last lies in the goal; and then, from each
--- reading of the box, every run through the pattern stays in S and ends in the goal. Over any rules: the first relies on nothing, the second on
--- page Laws. That the goal is R is left out.
-use Prim.Native.Nat.{ℕ, suc}
-use mathlib.Core.Path.{_≡_, refl}
-use mathlib.Core.Bool.{Bool, true, false}
-use mathlib.Core.List.{List, [], _∷_}
+-- S5, tile rule: a pattern works for a box exactly when each successive image lies in S and the last lies in the goal; else it is told to leave S at the
+-- first step whose image does not lie in S, or to miss the goal at its last step; and where it works, from each reading of the box, every run through
+-- the pattern stays in S and ends in the goal. Over any rules: the first two rely on nothing, the third on page Laws. That the goal is R is left out.
+use Prim.Native.Nat.{ℕ, suc, _+_}
+use mathlib.Core.Path.{_≡_, refl, sym, ap, _∙_}
+use mathlib.Core.Bool.{Bool, true, false, _&&_, cond}
+use mathlib.Core.List.{List, [], _∷_, map}
 use mathlib.Core.Logic.{_↔_}
+use native.Mathlib.Nat.{add-zero, zero-add}
+use native.Mathlib.Omega.{arith}
+use lib.ListN.{length}
 use Rattle.laws.specs.Every as E
 use Rattle.laws.specs.Every.{Every}
+use Rattle.laws.specs.Guards.{guard}
+use Rattle.laws.specs.Lists as L
+use Rattle.laws.specs.Lists.{all, firstFalse}
+use Rattle.laws.specs.Tests.{never}
 use Rattle.meaning.specs.declared.Rule.{Rule}
-use Rattle.meaning.specs.declared.Rule.the-variants.{Works}
+use Rattle.meaning.specs.declared.Rule.the-variants.{Works, Leaves, Misses}
 use Rattle.meaning.specs.Rules as R
 use Rattle.meaning.specs.Rules.{Rules, onGoal, onSafe, ruleFrom, rule, holds}
 use Rattle.promises.specs.Laws.{Motion}
@@ -69,6 +76,58 @@ module _ (r : Rules) where
   -- S5, the rule
   pub works-exactly : (b : Box) (us : List ℕ) → (rule r b us ≡ Works) ↔ Lands r (begin b) us
   works-exactly b us = lands us 0 (begin b)
+
+  -- whether each successive image lies in S, and whether the last lies in the goal
+  abbrev pub staying : Kept → List ℕ → List Bool
+  staying k us = map (λ c. within (kept c) safe) (images r k us)
+
+  abbrev pub landing : Kept → List ℕ → Bool
+  landing k us = within (kept (lastOf k (images r k us))) goal
+
+  -- all that the rule says, i steps being done
+  ruled : (us : List ℕ) (i : ℕ) (k : Kept)
+      → ruleFrom r i k us ≡ guard (all (staying k us)) (Leaves (suc (i + firstFalse (staying k us)))) λ _. onGoal (landing k us) (i + length us)
+  unfolding R.ruleFrom images lastOf L.all L.firstFalse
+  ruled [] i k = rw (add-zero i) refl
+  ruled (u ∷ us) i k = go (within (kept c) safe) (ruled us (suc i) c)
+    where
+      c : Kept
+      c = image u k
+
+      go : (t : Bool) → ruleFrom r (suc i) c us ≡ guard (all (staying c us)) (Leaves (suc (suc i + firstFalse (staying c us)))) (λ _. onGoal (landing c us) (suc i + length us))
+          → onSafe t i (λ m. ruleFrom r m c us)
+          ≡ guard (t && all (staying c us)) (Leaves (suc (i + cond t (suc (firstFalse (staying c us))) 0))) λ _. onGoal (landing c us) (i + suc (length us))
+      go true ih =
+          let f = firstFalse (staying c us) in
+          let a : suc i + f ≡ i + suc f = omega arith in
+          let b : suc i + length us ≡ i + suc (length us) = omega arith in
+          ih ∙ rw (a, b) refl
+      go false ih = rw (add-zero i) refl
+
+  rule-is : (b : Box) (us : List ℕ)
+      → rule r b us ≡ guard (all (staying (begin b) us)) (Leaves (suc (firstFalse (staying (begin b) us)))) λ _. onGoal (landing (begin b) us) (length us)
+  rule-is b us = ruled us 0 (begin b) ∙ rw (zero-add (firstFalse (staying (begin b) us)), zero-add (length us)) refl
+
+  -- S5, what is told of a pattern that does not work: the first step, from 1, whose image leaves S; or the last step, where all stay and the last misses
+  pub leaves-exactly : (b : Box) (us : List ℕ) (i : ℕ)
+      → (rule r b us ≡ Leaves i) ↔ ((all (staying (begin b) us) ≡ false) × (i ≡ suc (firstFalse (staying (begin b) us))))
+  leaves-exactly b us i = rw (rule-is b us) (go (all (staying (begin b) us)) (landing (begin b) us))
+    where
+      go : (t g : Bool) → (guard t (Leaves (suc (firstFalse (staying (begin b) us)))) (λ _. onGoal g (length us)) ≡ Leaves i)
+          ↔ ((t ≡ false) × (i ≡ suc (firstFalse (staying (begin b) us))))
+      go true true = (λ e. never cc, λ w. let z = w .0 in never cc)
+      go true false = (λ e. never cc, λ w. let z = w .0 in never cc)
+      go false g = (λ e. (refl, cc), λ w. ap Leaves (sym (w .1)))
+
+  pub misses-exactly : (b : Box) (us : List ℕ) (i : ℕ)
+      → (rule r b us ≡ Misses i) ↔ ((all (staying (begin b) us) ≡ true) × (landing (begin b) us ≡ false) × (i ≡ length us))
+  misses-exactly b us i = rw (rule-is b us) (go (all (staying (begin b) us)) (landing (begin b) us))
+    where
+      go : (t g : Bool) → (guard t (Leaves (suc (firstFalse (staying (begin b) us)))) (λ _. onGoal g (length us)) ≡ Misses i)
+          ↔ ((t ≡ true) × (g ≡ false) × (i ≡ length us))
+      go true true = (λ e. never cc, λ w. let z = w .1 in never cc)
+      go true false = (λ e. (refl, refl, cc), λ w. ap Misses (sym (w .2)))
+      go false g = (λ e. never cc, λ w. let z = w .0 in never cc)
 
 module _ (r : Rules) (M : Motion r) where
   open Rules r using (Box, Reading, Kept, begin, image, kept, goal, safe)
