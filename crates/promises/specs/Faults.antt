@@ -1,105 +1,279 @@
--- A plant that is refused is refused by 1, 2, 3, 4 or 5 (document 01, "What each number says"), so that the maker's 9 and 10 are never about the plant.
--- Any form whose fields tell only such numbers; then the plant's own. Which of them it is, and where, the definition `plantJudged` says.
-use Prim.Native.Nat.{ℕ, zero, suc, _*_, _≤_}
-use mathlib.Core.Path.{_≡_, refl}
+-- Which numbers a plant or a sheet is refused by, and where (document 01, "What each number says"): a plant by 1 to 5, so that the maker's 9 and 10 are never
+-- about the plant; a sheet by 1 to 5, 13 and 14. The place of 1, 3 and 13 lies in the file or just behind it, that of 4 and 5 is a dimension, that of 14
+-- which number of the plant file. Any form whose fields tell only such refusals; then the forms of plants and sheets, and the tests behind them.
+-- Which of them it is the definitions `plantJudged` and `sheetJudged` say.
+use Prim.Native.Nat.{ℕ, zero, suc, _+_, _-_, _*_, _≤_, _<_}
+use mathlib.Core.Path.{_≡_, refl, sym, ap}
 use mathlib.Core.Bool.{Bool, true, false}
-use mathlib.Core.List.{List, map}
+use mathlib.Core.List.{List, [], _∷_, _++_, map}
+use native.Mathlib.Nat.{mul-le-mul, le-refl}
 use native.Mathlib.Omega.{arith}
 use lib.Dec.{eqb}
-use lib.ListN.{length}
-use lib.IntN.{ℤ, natAbs}
+use lib.ListN.{length, length-append, length-map}
+use lib.Pow.{pow-mono}
+use lib.IntN.{ℤ, pos, natAbs}
+use lib.Ieee.{Float}
 use Rattle.laws.specs.Guards.{guard}
-use Rattle.laws.specs.Lists.{all, firstFalse}
+use Rattle.laws.specs.Lists as L
+use Rattle.laws.specs.Lists.{at, tab, tabs, all, firstFalse}
+use Rattle.laws.specs.Standing.{stand-within}
+use Rattle.laws.specs.Tabs.{length-tab, length-tabs}
 use Rattle.laws.specs.Tests.{never}
-use Rattle.meaning.specs.declared.Refusal.{Refusal}
 use Rattle.meaning.specs.declared.Plant.{Plant}
-use Rattle.meaning.specs.Boxes.{Side, lies}
+use Rattle.meaning.specs.declared.Refusal.{Refusal}
+use Rattle.meaning.specs.declared.Sheet.{Sheet}
+use Rattle.meaning.specs.declared.Whole.{Whole}
+use Rattle.meaning.specs.Boxes as B
+use Rattle.meaning.specs.Boxes.{Side, sideAt, lies}
 use Rattle.meaning.specs.Files as F
-use Rattle.meaning.specs.Files.{Form, end, field, Taken, taken, none, takenAs, Read, read, refused, before, onTaken, valuesAt, ended, good, bad}
+use Rattle.meaning.specs.Files.{Kind, plain, signed, float, Field, Form, end, field, Taken, taken, none, takenAs, bytesAs, Read, read, refused, before, onTaken, valuesAt, ended, valuesOf, Judged, good, bad}
+use Rattle.meaning.specs.Numbers.{stored}
 use Rattle.meaning.specs.Plants as P
-use Rattle.meaning.specs.Plants.{edgeLimit, bandLimit, entryLimit, offsetLimit, limited, span, times, edgesAndBands, row, plantForm, plantOf, rootOf, safeOf, bandsOf, wide, related, plantRelated, plantJudged}
-use Rattle.meaning.specs.Refusals.{unfit, notInSafe, narrow}
+use Rattle.meaning.specs.Plants.{edgeLimit, bandLimit, entryLimit, offsetLimit, edgesOf, counted, from, limited, span, times, edgesAndBands, row, headed, plantForm, plantOf, rootOf, safeOf, bandsOf, wide, related, plantRelated, plantJudged}
+use Rattle.meaning.specs.Refusals.{unfit}
+use Rattle.meaning.specs.Sheets as S
+use Rattle.meaning.specs.Sheets.{floating, notBelow, anyFloat, above, emitterForm, roomForm, sheetForm, sheetOf, sheetEdges, emitters, madeModes, madeBand, madeRow, madeNumbers, isNear, fitting, rootSheet, safeSheet, bandsSheet, sheetRelated, sheetJudged}
+use Rattle.promises.specs.Bytes.{bytes-some}
+use Rattle.promises.specs.Files.{taken-was, file-writes}
+use Rattle.promises.specs.Floats.{low-length}
+use Rattle.promises.specs.Forms.{values-right}
+use Rattle.promises.specs.Framed.{framed}
+use Rattle.promises.specs.PlantShapes.{numbers-few}
+use Rattle.promises.specs.SheetNumbers.{entryAt, offsetAt}
+use Rattle.promises.specs.SheetPlants.{emitters-few}
+use Rattle.promises.specs.SheetShapes.{floatsForm}
+use Rattle.promises.specs.Telling.{oneOf, Telling, guard-keeps}
 
--- no field tells a number above m
-unfoldable Tells : ℕ → Form → Type 0
-Tells m end = Unit {0}
-Tells m (field f rest) = ((at : ℕ) → f .wrong at .number ≤ m) × ((v : ℤ) → Tells m (rest v))
+-- ---- any form
 
--- ---- what is read by a form is refused by 1, or as a field tells
+-- a value that was read ends in the file
+as-some : (k : Kind) (v : ℤ) → 1 ≤ length (bytesAs k v)
+as-some plain v = bytes-some (natAbs v)
+as-some signed v = bytes-some (stored v)
+as-some float v = omega (arith, low-length 8 (natAbs v))
 
-before-refused : (v : ℤ) (t : Read (List ℤ)) (e : Refusal) → before v t ≡ refused e → t ≡ refused e
-before-refused v (read vs next) e q = never (cc)
-before-refused v (refused r) e q = let z : r ≡ e = cc in rw z refl
+taken-inside : (s : List ℕ) (k : Kind) (i : ℕ) (v : ℤ) (next : ℕ) → takenAs k s i ≡ taken v next → next ≤ length s
+taken-inside s k i v next e = stand-within s (bytesAs k v) i next (taken-was k v i next s e .stands) (as-some k v)
 
-values-told : (m : ℕ) → 1 ≤ m → (form : Form) → Tells m form → (s : List ℕ) (i : ℕ) (e : Refusal) → valuesAt form s i ≡ refused e → e .number ≤ m
-unfolding F.valuesAt Tells
-values-told m l end h s i e q = never (cc)
-values-told m l (field f rest) h s i e q = go (takenAs (f .kind) s i) (λ v next. values-told m l (rest v) (h .1 v) s next e) q
+module _ (numbers : List ℕ) (size : ℕ) where
+  -- each field is refused so, wherever it stands in a file of that size
+  unfoldable Tells : Form → Type 0
+  Tells end = Unit {0}
+  Tells (field f rest) = ((at : ℕ) → at ≤ size → Telling numbers size (f .wrong at)) × ((v : ℤ) → Tells (rest v))
+
+  -- what was read, to a place in the file, or is refused so; what was judged good, or is refused so
+  abbrev ReadTells : {A : Type 0} → Read A → Type 0
+  ReadTells (read a next) = next ≤ size
+  ReadTells (refused e) = Telling numbers size e
+
+  abbrev JudgedTells : {A : Type 0} → Judged A → Type 0
+  JudgedTells (good a) = Unit {0}
+  JudgedTells (bad e) = Telling numbers size e
+
+  judged-told : {A : Type 0} (j : Judged A) → JudgedTells j → (e : Refusal) → j ≡ bad e → Telling numbers size e
+  judged-told (good a) t e q = never cc
+  judged-told (bad f) t e q = let z : f ≡ e = cc in rw z at t
+
+  before-tells : (v : ℤ) (t : Read (List ℤ)) → ReadTells t → ReadTells (before v t)
+  before-tells v (read vs next) h = h
+  before-tells v (refused e) h = h
+
+-- what is read by a form is refused by 1, or as a field tells; then by 3, where bytes are left over
+module _ (numbers s : List ℕ) (one : oneOf numbers 1 ≡ true) (three : oneOf numbers 3 ≡ true) where
+  values-tell : (form : Form) → Tells numbers (length s) form → (i : ℕ) → i ≤ length s → ReadTells numbers (length s) (valuesAt form s i)
+  unfolding F.valuesAt Tells
+  values-tell end h i l = l
+  values-tell (field f rest) h i l = go (takenAs (f .kind) s i) refl (λ v next k. values-tell (rest v) (h .1 v) next k)
+    where
+      go : (t : Taken) → takenAs (f .kind) s i ≡ t → ((v : ℤ) (next : ℕ) → next ≤ length s → ReadTells numbers (length s) (valuesAt (rest v) s next))
+          → ReadTells numbers (length s) (onTaken t i λ v next. guard (f .right v) (refused (f .wrong i)) λ _. before v (valuesAt (rest v) s next))
+      go none q ih = record { number = one; place = l; step = refl }
+      go (taken v next) q ih =
+          guard-keeps (ReadTells numbers (length s)) (f .right v) (λ _. before v (valuesAt (rest v) s next)) (λ _. h .0 i l)
+          (λ _. before-tells numbers (length s) v (valuesAt (rest v) s next) (ih v next (taken-inside s (f .kind) i v next q)))
+
+  file-tells : (form : Form) → Tells numbers (length s) form → ReadTells numbers (length s) (valuesOf form s)
+  file-tells form h = go (valuesAt form s 0) (values-tell form h 0 (omega arith))
+    where
+      go : (t : Read (List ℤ)) → ReadTells numbers (length s) t → ReadTells numbers (length s) (ended s t)
+      go (refused e) h = h
+      go (read vs next) l =
+          guard-keeps (ReadTells numbers (length s)) (eqb next (length s)) (λ _. read vs next) (λ _. record { number = three; place = l; step = refl }) (λ _. l)
+
+-- ---- the parts of the two forms
+
+module _ (numbers : List ℕ) (size : ℕ) (three : oneOf numbers 3 ≡ true) where
+  abbrev T : Form → Type 0
+  T = Tells numbers size
+
+  end-tells : T end
+  unfolding Tells
+  end-tells = tt
+
+  unfit-told : (at : ℕ) → at ≤ size → Telling numbers size (unfit at)
+  unfit-told at l = record { number = three; place = l; step = refl }
+
+  times-tell : (k : ℕ) (part : Form → Form) → ((rest : Form) → T rest → T (part rest)) → (rest : Form) → T rest → T (times k part rest)
+  unfolding P.times
+  times-tell zero part h rest t = t
+  times-tell (suc k) part h rest t = h (times k part rest) (times-tell k part h rest t)
+
+  limited-tells : (limit : ℕ) (rest : Form) → T rest → T (limited limit rest)
+  unfolding Tells
+  limited-tells limit rest t = (unfit-told, λ v. t)
+
+  counted-tells : (ok : ℕ → Bool) (rest : ℕ → Form) → ((v : ℕ) → T (rest v)) → T (counted ok rest)
+  unfolding Tells
+  counted-tells ok rest t = (unfit-told, λ v. t (natAbs v))
+
+  span-tells : (limit : ℕ) (rest : Form) → T rest → T (span limit rest)
+  unfolding Tells
+  span-tells limit rest t = (unfit-told, λ lo. (unfit-told, λ hi. t))
+
+  edges-tell : (n : ℕ) (rest : Form) → T rest → T (edgesAndBands n rest)
+  unfolding P.edgesAndBands
+  edges-tell n rest t =
+      times-tell n (λ more. span edgeLimit (span edgeLimit more)) (λ more h. span-tells edgeLimit (span edgeLimit more) (span-tells edgeLimit more h))
+      (times n (span bandLimit) rest) (times-tell n (span bandLimit) (span-tells bandLimit) rest t)
+
+  row-tells : (n : ℕ) (rest : Form) → T rest → T (row n rest)
+  unfolding P.row
+  row-tells n rest t = times-tell n (limited entryLimit) (limited-tells entryLimit) (limited offsetLimit rest) (limited-tells offsetLimit rest t)
+
+  -- the header: 2 at its form, 3 at the rest
+  headed-tells : oneOf numbers 2 ≡ true → (most : ℕ) (rest : ℕ → ℕ → Form) → ((n m : ℕ) → T (rest n m)) → T (headed most rest)
+  unfolding Tells P.headed
+  headed-tells two most rest t = (
+    λ at l. record { number = two; place = refl; step = refl },
+    λ form. (unfit-told, λ n. (unfit-told, λ m. (unfit-told, λ q. (unfit-told, λ k. (unfit-told, λ d. t (natAbs n) (natAbs m)))))),
+  )
+
+  -- a float: 13
+  module _ (thirteen : oneOf numbers 13 ≡ true) where
+    floating-tells : (ok : Float → Bool) (rest : Form) → T rest → T (floating ok rest)
+    unfolding Tells
+    floating-tells ok rest t = (λ at l. record { number = thirteen; place = l; step = refl }, λ v. t)
+
+    emitter-tells : (rest : Form) → T rest → (kind : ℕ) → T (emitterForm rest kind)
+    emitter-tells rest t zero = t
+    emitter-tells rest t (suc zero) = floating-tells notBelow (floating anyFloat rest) (floating-tells anyFloat rest t)
+    emitter-tells rest t (suc (suc kind)) = floating-tells anyFloat rest t
+
+    room-tells : (n : ℕ) (rest : Form) → T rest → T (roomForm n rest)
+    unfolding S.roomForm
+    room-tells n rest t =
+        floating-tells notBelow _ (times-tell (n - 1) (floating notBelow) (floating-tells notBelow) (counted (from 0 2) (emitterForm rest))
+        (counted-tells (from 0 2) (emitterForm rest) (emitter-tells rest t)))
+
+    floats-tell : (n : ℕ) → T (floatsForm n)
+    floats-tell n = floating-tells above _ (floating-tells anyFloat _ (times-tell n (roomForm n) (room-tells n) end end-tells))
+
+-- ---- the tests behind the forms: the first that fails is one of them
+
+false-inside : (ts : List Bool) → all ts ≡ false → firstFalse ts < length ts
+unfolding L.all L.firstFalse
+false-inside [] e = never (sym e)
+false-inside (false ∷ ts) e = omega arith
+false-inside (true ∷ ts) e = omega (arith, false-inside ts e)
+
+-- as many as there are dimensions
+pub lies-size : (m : ℕ) (a b : List Side) → length a ≤ m → length b ≤ m → length (lies a b) ≤ m
+unfolding B.lies
+lies-size m [] [] h k = omega arith
+lies-size m [] (t ∷ b) h k = omega arith
+lies-size m (s ∷ a) [] h k = omega arith
+lies-size zero (s ∷ a) (t ∷ b) h k = absurd (omega arith)
+lies-size (suc m) (s ∷ a) (t ∷ b) h k = omega (arith, lies-size m a b (omega arith) (omega arith))
+
+-- the first dimension that does not pass is one of four
+pub dimension-in : (ts : List Bool) → length ts ≤ 4 → all ts ≡ false → firstFalse ts < 4
+dimension-in ts l e = omega (arith, false-inside ts e)
+
+module _ (numbers : List ℕ) (size : ℕ) (four : oneOf numbers 4 ≡ true) (five : oneOf numbers 5 ≡ true) where
+  related-tells : {A : Type 0} (q : ℕ) (root safe bands : List Side) (rest : Unit {0} → Judged A) → length root ≤ 4 → length safe ≤ 4 → length bands ≤ 4
+      → JudgedTells numbers size (rest tt) → JudgedTells numbers size (related q root safe bands rest)
+  related-tells q root safe bands rest r s b h =
+      guard-keeps (JudgedTells numbers size) (all (lies root safe)) _
+      (λ e. record { number = four; place = dimension-in (lies root safe) (lies-size 4 root safe r s) e; step = refl })
+      (λ _. guard-keeps (JudgedTells numbers size) (all (map (wide q) bands)) rest
+      (λ e. record { number = five; place = dimension-in (map (wide q) bands) (omega (arith, length-map bands (wide q))) e; step = refl }) (λ _. h))
+
+-- ---- plants
+
+abbrev pub plantNumbers : List ℕ
+plantNumbers = 1 ∷ 2 ∷ 3 ∷ 4 ∷ 5 ∷ []
+
+plant-tells : (size : ℕ) → Tells plantNumbers size plantForm
+unfolding P.plantForm
+plant-tells size =
+    headed-tells plantNumbers size refl refl 16 _ (λ n modes. edges-tell plantNumbers size refl n (times (modes * n) (row n) end)
+    (times-tell plantNumbers size refl (modes * n) (row n) (row-tells plantNumbers size refl n) end (end-tells plantNumbers size refl)))
+
+pub plant-told : (plant : List ℕ) (e : Refusal) → plantJudged plant ≡ bad e → Telling plantNumbers (length plant) e
+unfolding P.plantJudged P.plantForm P.plantOf
+plant-told plant = judged-told plantNumbers (length plant) (plantJudged plant) (go (valuesOf plantForm plant) refl (file-tells plantNumbers plant refl refl plantForm (plant-tells (length plant))))
   where
-    tested : (v : ℤ) (t : Read (List ℤ)) (c : Bool) → (t ≡ refused e → e .number ≤ m) → guard c (refused (f .wrong i)) (λ _. before v t) ≡ refused e → e .number ≤ m
-    tested v t true ih q = ih (before-refused v t e q)
-    tested v t false ih q = let z : e ≡ f .wrong i = cc in rw z (h .0 i)
+    few : (vs : List ℤ) (next : ℕ) → valuesOf plantForm plant ≡ read vs next → plantOf vs .n ≤ 4
+    few vs next e = framed 16 (λ n modes. times (modes * n) (row n) end) vs (values-right plantForm plant 0 vs next (file-writes plantForm plant e .0)) .0 .n-high
 
-    go : (t : Taken) → ((v : ℤ) (next : ℕ) → valuesAt (rest v) s next ≡ refused e → e .number ≤ m)
-        → onTaken t i (λ v next. guard (f .right v) (refused (f .wrong i)) λ _. before v (valuesAt (rest v) s next)) ≡ refused e → e .number ≤ m
-    go none ih q = let z : e .number ≡ 1 = cc in omega arith
-    go (taken v next) ih q = tested v (valuesAt (rest v) s next) (f .right v) (ih v next) q
-
--- ---- the plant's form
-
-times-tell : (m k : ℕ) (part : Form → Form) → ((rest : Form) → Tells m rest → Tells m (part rest)) → (rest : Form) → Tells m rest → Tells m (times k part rest)
-unfolding P.times
-times-tell m zero part h rest t = t
-times-tell m (suc k) part h rest t = h (times k part rest) (times-tell m k part h rest t)
-
-limited-tells : (limit : ℕ) (rest : Form) → Tells 3 rest → Tells 3 (limited limit rest)
-unfolding Tells
-limited-tells limit rest t = (λ at. omega arith, λ v. t)
-
-span-tells : (limit : ℕ) (rest : Form) → Tells 3 rest → Tells 3 (span limit rest)
-unfolding Tells
-span-tells limit rest t = (λ at. omega arith, λ lo. (λ at. omega arith, λ hi. t))
-
-row-tells : (n : ℕ) (rest : Form) → Tells 3 rest → Tells 3 (row n rest)
-unfolding P.row
-row-tells n rest t = times-tell 3 n (limited entryLimit) (limited-tells entryLimit) (limited offsetLimit rest) (limited-tells offsetLimit rest t)
-
-plant-tells : Tells 3 plantForm
-unfolding Tells P.plantForm P.headed P.edgesAndBands
-plant-tells =
-    let told : (at : ℕ) → 3 ≤ 3 = λ at. omega arith in
-    (λ at. omega arith, λ form. (told, λ n. (told, λ modes. (told, λ q. (told, λ k. (told, λ d. rest (natAbs n) (natAbs modes)))))))
-  where
-    rest : (n modes : ℕ)
-        → Tells 3 (times n (λ more. span edgeLimit (span edgeLimit more)) (times n (span bandLimit) (times (modes * n) (row n) end)))
-    rest n modes =
-        times-tell 3 n (λ more. span edgeLimit (span edgeLimit more)) (λ more t. span-tells edgeLimit (span edgeLimit more) (span-tells edgeLimit more t))
-        (times n (span bandLimit) (times (modes * n) (row n) end))
-        (times-tell 3 n (span bandLimit) (span-tells bandLimit) (times (modes * n) (row n) end) (times-tell 3 (modes * n) (row n) (row-tells n) end tt))
-
--- ---- the tests behind the form
-
-related-told : (q : ℕ) (root safe bands : List Side) (p : Plant) (e : Refusal) → related q root safe bands (λ _. good p) ≡ bad e → e .number ≤ 5
-related-told q root safe bands p e = go (all (lies root safe)) (all (map (wide q) bands))
-  where
-    go : (a b : Bool) → guard a (bad (notInSafe (firstFalse (lies root safe)))) (λ _. guard b (bad (narrow (firstFalse (map (wide q) bands)))) (λ _. good p)) ≡ bad e
-        → e .number ≤ 5
-    go true true h = never (cc)
-    go true false h = let z : e .number ≡ 5 = cc in omega arith
-    go false b h = let z : e .number ≡ 4 = cc in omega arith
-
-pub plant-told : (plant : List ℕ) (e : Refusal) → plantJudged plant ≡ bad e → e .number ≤ 5
-unfolding P.plantJudged
-plant-told plant e = go (valuesAt plantForm plant 0) refl
-  where
-    ends : (vs : List ℤ) (next : ℕ) (c : Bool) → plantRelated (guard c (refused (unfit next)) (λ _. read vs next)) ≡ bad e → e .number ≤ 5
-    ends vs next true h =
+    go : (t : Read (List ℤ)) → valuesOf plantForm plant ≡ t → ReadTells plantNumbers (length plant) t → JudgedTells plantNumbers (length plant) (plantRelated t)
+    go (refused e) q h = h
+    go (read vs next) q h =
         let p = plantOf vs in
-        related-told (p .q) (rootOf p) (safeOf p) (bandsOf p) p e h
-    ends vs next false h = let z : e .number ≡ 3 = cc in omega arith
+        let l = few vs next q in
+        related-tells plantNumbers (length plant) refl refl (p .q) (rootOf p) (safeOf p) (bandsOf p) (λ _. good p)
+        (omega (arith, length-tab (sideAt (p .rlo) (p .rhi)) (p .n) 0)) (omega (arith, length-tab (sideAt (p .slo) (p .shi)) (p .n) 0))
+        (omega (arith, length-tab (sideAt (p .wlo) (p .whi)) (p .n) 0)) tt
 
-    go : (t : Read (List ℤ)) → valuesAt plantForm plant 0 ≡ t → plantRelated (ended plant t) ≡ bad e → e .number ≤ 5
-    go (read vs next) q h = ends vs next (eqb next (length plant)) h
-    go (refused r) q h =
-        let z : e ≡ r = cc in
-        rw z (omega (arith, values-told 3 (omega arith) plantForm plant-tells plant 0 r q))
+-- ---- sheets
+
+abbrev pub sheetNumbers : List ℕ
+sheetNumbers = 1 ∷ 2 ∷ 3 ∷ 4 ∷ 5 ∷ 13 ∷ 14 ∷ []
+
+sheet-tells : (size : ℕ) → Tells sheetNumbers size sheetForm
+unfolding S.sheetForm
+sheet-tells size = headed-tells sheetNumbers size refl refl 1_000 _ (λ n r. edges-tell sheetNumbers size refl n (floatsForm n) (floats-tell sheetNumbers size refl refl n))
+
+-- the numbers of the plant file that a sheet makes: 6, 4 and 2 a dimension, and at most 320 coefficients
+numbers-many : (h : Sheet) → h .n ≤ 4 → length (madeNumbers h) ≤ 350
+unfolding S.madeNumbers
+numbers-many h few =
+    let n = h .n in
+    let edges = map Whole.Near (sheetEdges h) in
+    let bands = tabs (madeBand h) n 0 in
+    let rows = tabs (λ u. tabs (madeRow h u) n 0) (madeModes h) 0 in
+    let header = map (λ v. Whole.Near (pos v)) (1 ∷ n ∷ madeModes h ∷ h .q ∷ h .k ∷ h .d ∷ []) in
+    let row : (u i : ℕ) → length (madeRow h u i) ≡ n + 1 = λ u i. omega (arith, length-append (tab (entryAt h i) n 0) (offsetAt h u i ∷ []), length-tab (entryAt h i) n 0) in
+    let mode : (u : ℕ) → length (tabs (madeRow h u) n 0) ≡ (n + 1) * n = λ u. length-tabs (madeRow h u) (n + 1) (row u) n 0 in
+    let modes : madeModes h ≤ 16 = pow-mono {j = 4} (omega (arith, emitters-few h n)) in
+    let a : n + 1 ≤ 5 = omega arith in
+    omega (
+      arith,
+      length-append header (edges ++ (bands ++ rows)),
+      length-append edges (bands ++ rows),
+      length-append bands rows,
+      length-map (sheetEdges h) Whole.Near,
+      length-tabs (edgesOf (h .rlo) (h .rhi) (h .slo) (h .shi)) 4 (λ k. refl) n 0,
+      length-tabs (madeBand h) 2 (λ k. refl) n 0,
+      length-tabs (λ u. tabs (madeRow h u) n 0) ((n + 1) * n) mode (madeModes h) 0,
+      mul-le-mul (mul-le-mul a few) modes,
+    )
+
+pub sheet-told : (sheet : List ℕ) (e : Refusal) → sheetJudged sheet ≡ bad e → Telling sheetNumbers (length sheet) e
+unfolding S.sheetJudged S.sheetForm S.sheetOf
+sheet-told sheet = judged-told sheetNumbers (length sheet) (sheetJudged sheet) (go (valuesOf sheetForm sheet) refl (file-tells sheetNumbers sheet refl refl sheetForm (sheet-tells (length sheet))))
+  where
+    few : (vs : List ℤ) (next : ℕ) → valuesOf sheetForm sheet ≡ read vs next → sheetOf vs .n ≤ 4
+    few vs next e = framed 1_000 (λ n r. floatsForm n) vs (values-right sheetForm sheet 0 vs next (file-writes sheetForm sheet e .0)) .0 .n-high
+
+    go : (t : Read (List ℤ)) → valuesOf sheetForm sheet ≡ t → ReadTells sheetNumbers (length sheet) t → JudgedTells sheetNumbers (length sheet) (sheetRelated t)
+    go (refused e) q h = h
+    go (read vs next) q k =
+        let h = sheetOf vs in
+        let l = few vs next q in
+        let fit = map isNear (madeNumbers h) in
+        related-tells sheetNumbers (length sheet) refl refl (h .q) (rootSheet h) (safeSheet h) (bandsSheet h) (λ _. fitting h λ _. good h)
+        (omega (arith, length-tab (sideAt (h .rlo) (h .rhi)) (h .n) 0)) (omega (arith, length-tab (sideAt (h .slo) (h .shi)) (h .n) 0))
+        (omega (arith, length-tab (sideAt (h .wlo) (h .whi)) (h .n) 0))
+        (guard-keeps (JudgedTells sheetNumbers (length sheet)) (all fit) (λ _. good h)
+        (λ e. record { number = refl; place = omega (arith, false-inside fit e, length-map (madeNumbers h) isNear, numbers-many h l); step = refl }) (λ _. tt))

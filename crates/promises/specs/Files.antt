@@ -60,12 +60,12 @@ taken-back signed v i next s h p = ap (λ (n : Number). signedTaken (asSigned n)
 taken-back float v i next s h p = float-reads (natAbs v) i next s (h .1) p ∙ ap (λ (z : ℤ). taken z next) (h .0)
 
 -- a value that was read
-record Was (k : Kind) (v : ℤ) (s : List ℕ) (i next : ℕ) : Type 0 where
-  storable : Storable k v
-  short : fiveBytes k v ≡ true
-  stands : Stands s i (bytesAs k v) next
+pub record Was (k : Kind) (v : ℤ) (s : List ℕ) (i next : ℕ) : Type 0 where
+  pub storable : Storable k v
+  pub short : fiveBytes k v ≡ true
+  pub stands : Stands s i (bytesAs k v) next
 
-taken-was : (k : Kind) (v : ℤ) (i next : ℕ) (s : List ℕ) → takenAs k s i ≡ taken v next → Was k v s i next
+pub taken-was : (k : Kind) (v : ℤ) (i next : ℕ) (s : List ℕ) → takenAs k s i ≡ taken v next → Was k v s i next
 taken-was plain v i next s e = go (numberAt s i) refl e
   where
     go : (n : Number) → numberAt s i ≡ n → plainTaken n ≡ taken v next → Was plain v s i next

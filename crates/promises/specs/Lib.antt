@@ -60,6 +60,7 @@ pub mod Sound
 pub mod Splits
 pub mod Starred
 pub mod TableLengths
+pub mod Telling
 pub mod Turning
 pub mod Underway
 pub mod Unique

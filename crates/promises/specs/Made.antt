@@ -6,7 +6,7 @@ use Prim.Native.Nat.{ℕ, _≤_, _<_}
 use mathlib.Core.Path.{_≡_, refl, sym, ap, _∙_}
 use mathlib.Core.Bool.{Bool, true, false}
 use mathlib.Core.Logic.{_↔_}
-use mathlib.Core.List.{List}
+use mathlib.Core.List.{List, _∷_}
 use mathlib.Core.Option.{Option, none, some}
 use native.Mathlib.Omega.{arith}
 use borrow.Author.Tests.{leb-false}
@@ -31,9 +31,10 @@ use Rattle.meaning.specs.Trees.{Tree, tableOf}
 use Rattle.meaning.specs.Verdicts.{verdict}
 use Rattle.promises.specs.Buffers.{wrote, left-fits, left-short}
 use Rattle.promises.specs.Exists.{defined-accepted, no-table-exactly}
-use Rattle.promises.specs.Faults.{plant-told}
+use Rattle.promises.specs.Faults.{plantNumbers, plant-told}
 use Rattle.promises.specs.PlantRules.{judged-sizes, checked-as, made-as}
 use Rattle.promises.specs.TableLengths as L
+use Rattle.promises.specs.Telling.{Telling, told-more, not-told}
 
 -- a refusal that is told is the one that was meant
 refusal-told : {e f : Refusal} → Written.Refused e ≡ Written.Refused f → e ≡ f
@@ -112,16 +113,16 @@ module _ (plant : List ℕ) (p : Plant) (e : plantJudged plant ≡ good p) where
 -- ---- the maker, of all plants, judged good or not
 
 -- Maker: plant, 9, 10. What is not made is refused by the plant's own number, or by 9.
-not-ten : (plant : List ℕ) (f : Refusal) → made plant ≡ bad f → f .number ≤ 9
+pub made-told : (plant : List ℕ) (f : Refusal) → made plant ≡ bad f → Telling (9 ∷ plantNumbers) (length plant) f
 unfolding T.made
-not-ten plant f = go (plantJudged plant) refl
+made-told plant f = go (plantJudged plant) refl
   where
-    tree : (r : Rules) (o : Option Tree) → tableBytes r o ≡ bad f → f .number ≤ 9
-    tree r none a = let z : f .number ≡ 9 = cc in omega arith
+    tree : (r : Rules) (o : Option Tree) → tableBytes r o ≡ bad f → Telling (9 ∷ plantNumbers) (length plant) f
+    tree r none a = let z : f ≡ noTable = cc in rw z (record { number = refl; place = refl; step = refl })
     tree r (some t) a = never cc
 
-    go : (j : Judged Plant) → plantJudged plant ≡ j → onPlant j bad (λ p. tableBytes (rulesOf p) (definedTree (rulesOf p))) ≡ bad f → f .number ≤ 9
-    go (bad e) q a = let z : f ≡ e = cc in rw z (omega (arith, plant-told plant e q))
+    go : (j : Judged Plant) → plantJudged plant ≡ j → onPlant j bad (λ p. tableBytes (rulesOf p) (definedTree (rulesOf p))) ≡ bad f → Telling (9 ∷ plantNumbers) (length plant) f
+    go (bad e) q a = let z : f ≡ e = cc in rw z (told-more (plant-told plant e q) (9 ∷ plantNumbers) refl)
     go (good p) q a = tree (rulesOf p) (definedTree (rulesOf p)) a
 
 -- 9 is said of a plant that was judged good
@@ -131,7 +132,7 @@ nine-judged plant = go (plantJudged plant) refl
   where
     go : (j : Judged Plant) → plantJudged plant ≡ j → onPlant j bad (λ p. tableBytes (rulesOf p) (definedTree (rulesOf p))) ≡ bad noTable
         → (p : Plant) × (plantJudged plant ≡ good p)
-    go (bad e) q a = let z : e .number ≡ 9 = cc in absurd (omega (arith, plant-told plant e q))
+    go (bad e) q a = let z : e .number ≡ 9 = cc in absurd (not-told (plant-told plant e q) 9 refl z)
     go (good p) q a = (p, q)
 
 module _ (plant buf : List ℕ) where
@@ -153,7 +154,7 @@ module _ (plant buf : List ℕ) where
       go : (j : Judged (List ℕ)) → made plant ≡ j → left j buf .answer ≡ Written.Refused short
           → (bytes : List ℕ) × (made plant ≡ good bytes) × (length buf < length bytes)
       go (good bytes) q a = (bytes, q, ten-of buf bytes .0 a)
-      go (bad f) q a = absurd (omega (arith, ap (λ (e : Refusal). e .number) (refusal-told a), not-ten plant f q))
+      go (bad f) q a = absurd (not-told (made-told plant f q) 10 refl (ap (λ (e : Refusal). e .number) (refusal-told a)))
 
   -- and where there is one that fits, it is written in front, and the rest of the buffer is as it was
   pub maker-writes : (bytes : List ℕ) → made plant ≡ good bytes → length bytes ≤ length buf → makerLeft plant buf ≡ wrote bytes buf
