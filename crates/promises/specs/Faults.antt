@@ -62,7 +62,7 @@ module _ (numbers : List ℕ) (size : ℕ) where
   Tells (field f rest) = ((at : ℕ) → at ≤ size → Telling numbers size (f .wrong at)) × ((v : ℤ) → Tells (rest v))
 
   -- what was read, to a place in the file, or is refused so; what was judged good, or is refused so
-  abbrev ReadTells : {A : Type 0} → Read A → Type 0
+  abbrev pub ReadTells : {A : Type 0} → Read A → Type 0
   ReadTells (read a next) = next ≤ size
   ReadTells (refused e) = Telling numbers size e
 
@@ -74,7 +74,7 @@ module _ (numbers : List ℕ) (size : ℕ) where
   judged-told (good a) t e q = never cc
   judged-told (bad f) t e q = let z : f ≡ e = cc in rw z at t
 
-  before-tells : (v : ℤ) (t : Read (List ℤ)) → ReadTells t → ReadTells (before v t)
+  pub before-tells : {A : Type 0} (v : A) (t : Read (List A)) → ReadTells t → ReadTells (before v t)
   before-tells v (read vs next) h = h
   before-tells v (refused e) h = h
 
@@ -170,7 +170,7 @@ module _ (numbers : List ℕ) (size : ℕ) (three : oneOf numbers 3 ≡ true) wh
 
 -- ---- the tests behind the forms: the first that fails is one of them
 
-false-inside : (ts : List Bool) → all ts ≡ false → firstFalse ts < length ts
+pub false-inside : (ts : List Bool) → all ts ≡ false → firstFalse ts < length ts
 unfolding L.all L.firstFalse
 false-inside [] e = never (sym e)
 false-inside (false ∷ ts) e = omega arith
