@@ -48,6 +48,8 @@ pub record Chosen (plant table : List ℕ) (t : Tiled plant table) (x : List ℤ
   -- of all tiles it alone holds the reading
   pub only : having (rulesOf (t .p)) x (tilesOf (rulesOf (t .p)) (t .tree) (rootOf (t .p)) 2) ≡ the ∷ []
   pub holds-it : holds (rulesOf (t .p)) (the .box) x ≡ true
+  -- it is the one found, the first of its modes standing behind their number
+  pub found : find (rulesOf (t .p)) (t .p .d) table 2 (rootOf (t .p)) x ≡ Found.Tile (the .place + 1) (length (the .modes))
   -- its first mode is answered, and those to come are left; the byte at its place is their number
   pub first : ℕ
   pub later : List ℕ
@@ -97,6 +99,8 @@ tile-chosen plant table t x f c =
       the = f .the;
       only = subst (λ (m : ℕ). having r x (tilesOf r (t .tree) (rootOf p) m) ≡ f .the ∷ []) (header-size p s) (f .only);
       holds-it = f .holds-it;
+      found = subst (λ (m : ℕ). find r (p .d) table m (rootOf p) x ≡ Found.Tile (f .the .place + 1) (length (f .the .modes))) (header-size p s)
+          (rw (number-size p s (f .the .modes) g) at (f .told));
       first = first .u;
       later = first .vs;
       modes-are = first .are;

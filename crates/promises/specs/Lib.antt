@@ -55,6 +55,7 @@ pub mod SheetShapes
 pub mod SheetSound
 pub mod SheetSteps
 pub mod Sheets
+pub mod Shown
 pub mod Shows
 pub mod ShutOut
 pub mod Sound

@@ -9,7 +9,7 @@ use mathlib.Core.Logic.{_↔_}
 use mathlib.Core.List.{List, _∷_}
 use mathlib.Core.Option.{Option, none, some}
 use native.Mathlib.Omega.{arith}
-use borrow.Author.Tests.{leb-false}
+use borrow.Author.Tests.{leb-true, leb-false}
 use lib.Dec.{leb}
 use lib.ListN.{length}
 use lib.Seq.{sets}
@@ -160,6 +160,24 @@ module _ (plant buf : List ℕ) where
   pub maker-writes : (bytes : List ℕ) → made plant ≡ good bytes → length bytes ≤ length buf → makerLeft plant buf ≡ wrote bytes buf
   unfolding T.makerLeft
   maker-writes bytes a l = rw a (left-fits bytes buf l)
+
+  -- a length is answered exactly then, and is the table's
+  pub maker-length : (m : ℕ) → (makerLeft plant buf .answer ≡ Written.Length m)
+      ↔ ((bytes : List ℕ) × (made plant ≡ good bytes) × (length bytes ≤ length buf) × (m ≡ length bytes))
+  unfolding T.makerLeft
+  maker-length m = (
+    go (made plant) refl,
+    λ w. ap (λ (l : Left). l .answer) (maker-writes (w .0) (w .1) (w .2)) ∙ ap (λ (k : ℕ). Written.Length k) (sym (w .3)),
+  )
+    where
+      fits : (bytes : List ℕ) (c : Bool) → leb (length bytes) (length buf) ≡ c → fitted buf bytes c .answer ≡ Written.Length m → (length bytes ≤ length buf) × (m ≡ length bytes)
+      fits bytes true q a = (leb-true (length bytes) (length buf) q, cc)
+      fits bytes false q a = never cc
+
+      go : (j : Judged (List ℕ)) → made plant ≡ j → left j buf .answer ≡ Written.Length m
+          → (bytes : List ℕ) × (made plant ≡ good bytes) × (length bytes ≤ length buf) × (m ≡ length bytes)
+      go (good bytes) q a = let w = fits bytes (leb (length bytes) (length buf)) refl a in (bytes, q, w .0, w .1)
+      go (bad f) q a = never cc
 
   -- a buffer of 30,039 bytes is long enough for any
   pub maker-fits : 30_039 ≤ length buf → makerLeft plant buf .answer ≡ Written.Refused short → ⊥

@@ -1,5 +1,5 @@
--- What an answer shows (meaning's page Refusals) says which answer it is: two that show the same number, place, step and values are the same. Of answers that
--- pass a refusal on, its number has to be known not to be 0 (page Told). So a promise may be stated by what is shown (page Shown). Assumes nothing.
+-- What an answer shows (meaning's page Refusals) says which answer it is: two that show the same number, place, step and values are the same; of verdicts and
+-- of a controller's answers where no refusal's number is 0 (page Told says so). So a promise may be stated by what is shown (page Shown). Assumes nothing.
 use Prim.Native.Nat.{ℕ}
 use mathlib.Core.Path.{_≡_, refl, sym, ap}
 use mathlib.Core.List.{List, [], _∷_}
@@ -99,41 +99,55 @@ whole-exactly k a b = (go a b, λ e. ap (wholeShown k) e)
     go Whole.Out (Whole.Near v) e = differ 14 0 (λ q. omega arith) e
     go Whole.Out Whole.Out e = refl
 
--- ---- answers that pass a refusal on, whose number is not 0
+-- ---- answers that pass a refusal on: where they are done they show values, and a refusal shows none
 
--- a refusal's number is none but 0
+pub written-exactly : (a b : Written) → (writtenShown a ≡ writtenShown b) ↔ (a ≡ b)
+written-exactly a b = (go a b, λ e. ap writtenShown e)
+  where
+    go : (a b : Written) → writtenShown a ≡ writtenShown b → a ≡ b
+    go (Written.Length m) (Written.Length n) e = let q = same-values e in cc
+    go (Written.Length m) (Written.Refused f) e = let q = same-values e in never cc
+    go (Written.Refused f) (Written.Length n) e = let q = same-values e in never cc
+    go (Written.Refused f) (Written.Refused g) e = ap Written.Refused (same-refusal f g [] [] e)
+
+pub walk-exactly : (a b : Walk) → (walkShown a ≡ walkShown b) ↔ (a ≡ b)
+walk-exactly a b = (go a b, λ e. ap walkShown e)
+  where
+    go : (a b : Walk) → walkShown a ≡ walkShown b → a ≡ b
+    go (Walk.Next m) (Walk.Next n) e = let q = same-values e in cc
+    go (Walk.Next m) (Walk.Refused f) e = let q = same-values e in never cc
+    go (Walk.Refused f) (Walk.Next n) e = let q = same-values e in never cc
+    go (Walk.Refused f) (Walk.Refused g) e = ap Walk.Refused (same-refusal f g [] [] e)
+
+pub found-exactly : (a b : Found) → (foundShown a ≡ foundShown b) ↔ (a ≡ b)
+found-exactly a b = (go a b, λ e. ap foundShown e)
+  where
+    go : (a b : Found) → foundShown a ≡ foundShown b → a ≡ b
+    go (Found.Tile m i) (Found.Tile n j) e = let q = same-values e in cc
+    go (Found.Tile m i) (Found.Refused f) e = let q = same-values e in never cc
+    go (Found.Refused f) (Found.Tile n j) e = let q = same-values e in never cc
+    go (Found.Refused f) (Found.Refused g) e = ap Found.Refused (same-refusal f g [] [] e)
+
+-- ---- those that a refusal of number 0 could be taken for
+
+-- a refusal's number is not 0
 abbrev pub Some : Refusal → Type 0
 Some e = e .number ≡ 0 → ⊥
 
 abbrev pub SomeVerdict : Verdict → Type 0
-SomeVerdict Verdict.Accepted = Unit {0}
-SomeVerdict (Verdict.Refused e) = Some e
+SomeVerdict v = (e : Refusal) → v ≡ Verdict.Refused e → Some e
 
 pub verdict-exactly : (a b : Verdict) → SomeVerdict a → SomeVerdict b → (verdictShown a ≡ verdictShown b) ↔ (a ≡ b)
 verdict-exactly a b h k = (go a b h k, λ e. ap verdictShown e)
   where
     go : (a b : Verdict) → SomeVerdict a → SomeVerdict b → verdictShown a ≡ verdictShown b → a ≡ b
     go Verdict.Accepted Verdict.Accepted h k e = refl
-    go Verdict.Accepted (Verdict.Refused f) h k e = absurd (k (sym (same-number e)))
-    go (Verdict.Refused f) Verdict.Accepted h k e = absurd (h (same-number e))
+    go Verdict.Accepted (Verdict.Refused f) h k e = absurd (k f refl (sym (same-number e)))
+    go (Verdict.Refused f) Verdict.Accepted h k e = absurd (h f refl (same-number e))
     go (Verdict.Refused f) (Verdict.Refused g) h k e = ap Verdict.Refused (same-refusal f g [] [] e)
 
-abbrev pub SomeWritten : Written → Type 0
-SomeWritten (Written.Length m) = Unit {0}
-SomeWritten (Written.Refused e) = Some e
-
-pub written-exactly : (a b : Written) → SomeWritten a → SomeWritten b → (writtenShown a ≡ writtenShown b) ↔ (a ≡ b)
-written-exactly a b h k = (go a b h k, λ e. ap writtenShown e)
-  where
-    go : (a b : Written) → SomeWritten a → SomeWritten b → writtenShown a ≡ writtenShown b → a ≡ b
-    go (Written.Length m) (Written.Length n) h k e = let q = same-values e in cc
-    go (Written.Length m) (Written.Refused f) h k e = absurd (k (sym (same-number e)))
-    go (Written.Refused f) (Written.Length n) h k e = absurd (h (same-number e))
-    go (Written.Refused f) (Written.Refused g) h k e = ap Written.Refused (same-refusal f g [] [] e)
-
 abbrev pub SomeAnswer : Answer → Type 0
-SomeAnswer (Answer.Mode u then) = Unit {0}
-SomeAnswer (Answer.Refused e) = Some e
+SomeAnswer a = (e : Refusal) → a ≡ Answer.Refused e → Some e
 
 same-state : (u v : ℕ) (s t : State) → pos u ∷ pos (s .place) ∷ pos (s .left) ∷ [] ≡ pos v ∷ pos (t .place) ∷ pos (t .left) ∷ [] → Answer.Mode u s ≡ Answer.Mode v t
 same-state u v s t e =
@@ -147,34 +161,19 @@ answer-exactly a b h k = (go a b h k, λ e. ap answerShown e)
   where
     go : (a b : Answer) → SomeAnswer a → SomeAnswer b → answerShown a ≡ answerShown b → a ≡ b
     go (Answer.Mode u s) (Answer.Mode v t) h k e = same-state u v s t (same-values e)
-    go (Answer.Mode u s) (Answer.Refused f) h k e = absurd (k (sym (same-number e)))
-    go (Answer.Refused f) (Answer.Mode v t) h k e = absurd (h (same-number e))
+    go (Answer.Mode u s) (Answer.Refused f) h k e = absurd (k f refl (sym (same-number e)))
+    go (Answer.Refused f) (Answer.Mode v t) h k e = absurd (h f refl (same-number e))
     go (Answer.Refused f) (Answer.Refused g) h k e = ap Answer.Refused (same-refusal f g noMode noMode e)
 
--- those between parts
+-- what is done is no refusal
+pub accepted-some : SomeVerdict Verdict.Accepted
+accepted-some e q = never cc
 
-abbrev pub SomeWalk : Walk → Type 0
-SomeWalk (Walk.Next m) = Unit {0}
-SomeWalk (Walk.Refused e) = Some e
+pub refused-some : (f : Refusal) → Some f → SomeVerdict (Verdict.Refused f)
+refused-some f s e q = let z : f ≡ e = cc in rw z at s
 
-pub walk-exactly : (a b : Walk) → SomeWalk a → SomeWalk b → (walkShown a ≡ walkShown b) ↔ (a ≡ b)
-walk-exactly a b h k = (go a b h k, λ e. ap walkShown e)
-  where
-    go : (a b : Walk) → SomeWalk a → SomeWalk b → walkShown a ≡ walkShown b → a ≡ b
-    go (Walk.Next m) (Walk.Next n) h k e = let q = same-values e in cc
-    go (Walk.Next m) (Walk.Refused f) h k e = absurd (k (sym (same-number e)))
-    go (Walk.Refused f) (Walk.Next n) h k e = absurd (h (same-number e))
-    go (Walk.Refused f) (Walk.Refused g) h k e = ap Walk.Refused (same-refusal f g [] [] e)
+pub mode-some : (u : ℕ) (then : State) → SomeAnswer (Answer.Mode u then)
+mode-some u then e q = never cc
 
-abbrev pub SomeFound : Found → Type 0
-SomeFound (Found.Tile from k) = Unit {0}
-SomeFound (Found.Refused e) = Some e
-
-pub found-exactly : (a b : Found) → SomeFound a → SomeFound b → (foundShown a ≡ foundShown b) ↔ (a ≡ b)
-found-exactly a b h k = (go a b h k, λ e. ap foundShown e)
-  where
-    go : (a b : Found) → SomeFound a → SomeFound b → foundShown a ≡ foundShown b → a ≡ b
-    go (Found.Tile m i) (Found.Tile n j) h k e = let q = same-values e in cc
-    go (Found.Tile m i) (Found.Refused f) h k e = absurd (k (sym (same-number e)))
-    go (Found.Refused f) (Found.Tile n j) h k e = absurd (h (same-number e))
-    go (Found.Refused f) (Found.Refused g) h k e = ap Found.Refused (same-refusal f g [] [] e)
+pub call-some : (f : Refusal) → Some f → SomeAnswer (Answer.Refused f)
+call-some f s e q = let z : f ≡ e = cc in rw z at s

@@ -43,7 +43,7 @@ use Rattle.promises.specs.Boxes.{points, points-fit}
 use Rattle.promises.specs.Faults.{lies-size, dimension-in, plantNumbers, plant-told, sheetNumbers, sheet-told}
 use Rattle.promises.specs.Judged.{judged-sound}
 use Rattle.promises.specs.Made.{made-told}
-use Rattle.promises.specs.Shows.{refusing, noMode}
+use Rattle.promises.specs.Shows.{refusing, noMode, Some}
 use Rattle.promises.specs.Sound.{Sound}
 use Rattle.promises.specs.Telling.{oneOf, areOf, Telling, guard-keeps, told-more, not-told}
 use Rattle.promises.specs.WalkTold.{WalkTells, FoundTells, walk-keeps, table-told, header-tells, walk-tells, find-tells, rule-tells}
@@ -191,7 +191,7 @@ pub record Showing (Done : Type 0) (Tells : Refusal → Type 0) (otherwise : Lis
   pub zero-exactly : (a .number ≡ 0) ↔ Done
   pub or-told : (a .number ≡ 0 → ⊥) → (e : Refusal) × (a ≡ refusing e otherwise) × Tells e
 
-module _ (Tells : Refusal → Type 0) (some : (e : Refusal) → Tells e → e .number ≡ 0 → ⊥) where
+module _ (Tells : Refusal → Type 0) (some : (e : Refusal) → Tells e → Some e) where
   verdict-shows : (v : Verdict) → ((e : Refusal) → v ≡ Verdict.Refused e → Tells e) → Showing (v ≡ Verdict.Accepted) Tells [] (verdictShown v)
   verdict-shows Verdict.Accepted h = record { zero-exactly = (λ _. refl, λ _. refl); or-told = λ z. absurd (z refl) }
   verdict-shows (Verdict.Refused e) h =
@@ -211,12 +211,18 @@ module _ (Tells : Refusal → Type 0) (some : (e : Refusal) → Tells e → e .n
       record { zero-exactly = (λ z. absurd (some e t z), λ w. let z = w .2 in never cc); or-told = λ _. (e, refl, t) }
 
 -- no refusal is told by 0
-telling-some : (numbers : List ℕ) (size : ℕ) → oneOf numbers 0 ≡ false → (e : Refusal) → Telling numbers size e → e .number ≡ 0 → ⊥
+telling-some : (numbers : List ℕ) (size : ℕ) → oneOf numbers 0 ≡ false → (e : Refusal) → Telling numbers size e → Some e
 telling-some numbers size h e t = not-told t 0 h
 
-told-some : (plant table numbers : List ℕ) → oneOf numbers 0 ≡ false → (e : Refusal) → Told plant table numbers e → e .number ≡ 0 → ⊥
+told-some : (plant table numbers : List ℕ) → oneOf numbers 0 ≡ false → (e : Refusal) → Told plant table numbers e → Some e
 told-some plant table numbers h e (of-plant q t) = not-told t 0 refl
 told-some plant table numbers h e (of-table p q t) = not-told t 0 h
+
+pub checker-some : (plant table : List ℕ) (e : Refusal) → checked plant table ≡ Verdict.Refused e → Some e
+checker-some plant table e q = told-some plant table checkerNumbers refl e (checker-told plant table e q)
+
+pub controller-some : (plant table : List ℕ) (st : State) (x : List ℤ) (e : Refusal) → controlled plant table st x ≡ Answer.Refused e → Some e
+controller-some plant table st x e q = told-some plant table controllerNumbers refl e (controller-told plant table st x e q)
 
 pub plant-shows : (plant : List ℕ) → Showing (plantRead plant .verdict ≡ Verdict.Accepted) (Telling plantNumbers (length plant)) [] (verdictShown (plantRead plant .verdict))
 plant-shows plant = verdict-shows (Telling plantNumbers (length plant)) (telling-some plantNumbers (length plant) refl) (plantRead plant .verdict) (go (plantJudged plant) refl)

@@ -58,13 +58,13 @@ module _ {A : Type 0} (P : A → Type 0) where
       go (Number.Value v next) q = b v next (stand-within s (bytesOf v) at next (was v at next s q .1) (bytes-some v))
 
 module _ (numbers : List ℕ) (size : ℕ) where
-  -- goes on in the file, or is refused so; is done, or is refused so
+  -- goes on in the file, or is refused so; is a tile of some modes, or is refused so
   abbrev pub WalkTells : Walk → Type 0
   WalkTells (Walk.Next m) = m ≤ size
   WalkTells (Walk.Refused e) = Telling numbers size e
 
   abbrev pub FoundTells : Found → Type 0
-  FoundTells (Found.Tile from k) = Unit {0}
+  FoundTells (Found.Tile from k) = 1 ≤ k
   FoundTells (Found.Refused e) = Telling numbers size e
 
   pub walk-keeps : {A : Type 0} (P : A → Type 0) (w : Walk) (refuse : Refusal → A) (rest : ℕ → A) → WalkTells w
@@ -153,25 +153,25 @@ module _ (r : Rules) (numbers s : List ℕ) (one : oneOf numbers 1 ≡ true) (si
         go true later = ih at b l
         go false later = walk-keeps numbers (length s) (FoundTells numbers (length s)) (walk r (λ _ _. Works) d s at b) Found.Refused _ (pass-tells d at b l) (λ e t. t) later
 
-    found-tells : (k next : ℕ) → next ≤ length s → FoundTells numbers (length s) (tileFound (modesAt r k s next) next k)
-    found-tells k next m = go (modesAt r k s next) (modes-tell k next m)
+    found-tells : (k next : ℕ) → 1 ≤ k → next ≤ length s → FoundTells numbers (length s) (tileFound (modesAt r k s next) next k)
+    found-tells k next some m = go (modesAt r k s next) (modes-tell k next m)
       where
         go : (t : Read (List ℕ)) → ReadTells numbers (length s) t → FoundTells numbers (length s) (tileFound t next k)
         go (refused e) h = h
-        go (read us end) h = tt
+        go (read us end) h = some
 
     pub find-tells : (d at : ℕ) (b : Box) → at ≤ length s → FoundTells numbers (length s) (find r d s at b x)
     unfolding C.find
     find-tells zero at b l =
         node-keeps (FoundTells numbers (length s)) at Found.Refused (λ next. Found.Refused (badTable at)) (λ k next. tileFound (modesAt r k s next) next k) l
-        (λ e t. t) (λ next m. table-told at l) (λ k next some few m. found-tells k next m)
+        (λ e t. t) (λ next m. table-told at l) (λ k next some few m. found-tells k next some m)
     find-tells (suc d) at b l =
         node-keeps (FoundTells numbers (length s)) at Found.Refused
         (λ next. splitAt (children b) (Found.Refused (badTable at)) λ cs. lookAmong r x d s at cs next)
         (λ k next. tileFound (modesAt r k s next) next k) l (λ e t. t)
         (λ next m. split-keeps (FoundTells numbers (length s)) (children b) _ (table-told at l)
         (λ cs. among-tells d (λ p c k. find-tells d p c k) at l cs next m))
-        (λ k next some few m. found-tells k next m)
+        (λ k next some few m. found-tells k next some m)
 
   -- the header: 2 besides
   pub header-tells : oneOf numbers 2 ≡ true → WalkTells numbers (length s) (header r s)
