@@ -3,10 +3,10 @@
 -- which number of the plant file. Any form whose fields tell only such refusals; then the forms of plants and sheets, and the tests behind them.
 -- Which of them it is the definitions `plantJudged` and `sheetJudged` say.
 use Prim.Native.Nat.{ℕ, zero, suc, _+_, _-_, _*_, _≤_, _<_}
-use mathlib.Core.Path.{_≡_, refl, sym, ap}
+use mathlib.Core.Path.{_≡_, refl}
 use mathlib.Core.Bool.{Bool, true, false}
 use mathlib.Core.List.{List, [], _∷_, _++_, map}
-use native.Mathlib.Nat.{mul-le-mul, le-refl}
+use native.Mathlib.Nat.{mul-le-mul}
 use native.Mathlib.Omega.{arith}
 use lib.Dec.{eqb}
 use lib.ListN.{length, length-append, length-map}
@@ -14,35 +14,33 @@ use lib.Pow.{pow-mono}
 use lib.IntN.{ℤ, pos, natAbs}
 use lib.Ieee.{Float}
 use Rattle.laws.specs.Guards.{guard}
-use Rattle.laws.specs.Lists as L
 use Rattle.laws.specs.Lists.{at, tab, tabs, all, firstFalse}
 use Rattle.laws.specs.Standing.{stand-within}
 use Rattle.laws.specs.Tabs.{length-tab, length-tabs}
 use Rattle.laws.specs.Tests.{never}
-use Rattle.meaning.specs.declared.Plant.{Plant}
 use Rattle.meaning.specs.declared.Refusal.{Refusal}
 use Rattle.meaning.specs.declared.Sheet.{Sheet}
 use Rattle.meaning.specs.declared.Whole.{Whole}
 use Rattle.meaning.specs.Boxes as B
 use Rattle.meaning.specs.Boxes.{Side, sideAt, lies}
 use Rattle.meaning.specs.Files as F
-use Rattle.meaning.specs.Files.{Kind, plain, signed, float, Field, Form, end, field, Taken, taken, none, takenAs, bytesAs, Read, read, refused, before, onTaken, valuesAt, ended, valuesOf, Judged, good, bad}
+use Rattle.meaning.specs.Files.{Kind, plain, signed, float, Form, end, field, Taken, taken, none, takenAs, bytesAs, Read, read, refused, before, onTaken, valuesAt, ended, valuesOf, Judged, good, bad}
 use Rattle.meaning.specs.Numbers.{stored}
 use Rattle.meaning.specs.Plants as P
 use Rattle.meaning.specs.Plants.{edgeLimit, bandLimit, entryLimit, offsetLimit, edgesOf, counted, from, limited, span, times, edgesAndBands, row, headed, plantForm, plantOf, rootOf, safeOf, bandsOf, wide, related, plantRelated, plantJudged}
 use Rattle.meaning.specs.Refusals.{unfit}
 use Rattle.meaning.specs.Sheets as S
-use Rattle.meaning.specs.Sheets.{floating, notBelow, anyFloat, above, emitterForm, roomForm, sheetForm, sheetOf, sheetEdges, emitters, madeModes, madeBand, madeRow, madeNumbers, isNear, fitting, rootSheet, safeSheet, bandsSheet, sheetRelated, sheetJudged}
+use Rattle.meaning.specs.Sheets.{floating, notBelow, anyFloat, above, emitterForm, roomForm, sheetForm, sheetOf, sheetEdges, madeModes, madeBand, madeRow, madeNumbers, isNear, fitting, rootSheet, safeSheet, bandsSheet, sheetRelated, sheetJudged}
 use Rattle.promises.specs.Bytes.{bytes-some}
 use Rattle.promises.specs.Files.{taken-was, file-writes}
+use Rattle.promises.specs.Firsts.{false-inside}
 use Rattle.promises.specs.Floats.{low-length}
 use Rattle.promises.specs.Forms.{values-right}
 use Rattle.promises.specs.Framed.{framed}
-use Rattle.promises.specs.PlantShapes.{numbers-few}
 use Rattle.promises.specs.SheetNumbers.{entryAt, offsetAt}
 use Rattle.promises.specs.SheetPlants.{emitters-few}
 use Rattle.promises.specs.SheetShapes.{floatsForm}
-use Rattle.promises.specs.Telling.{oneOf, Telling, guard-keeps}
+use Rattle.promises.specs.Telling.{oneOf, Telling, guard-keeps, told-more}
 
 -- ---- any form
 
@@ -170,12 +168,6 @@ module _ (numbers : List ℕ) (size : ℕ) (three : oneOf numbers 3 ≡ true) wh
 
 -- ---- the tests behind the forms: the first that fails is one of them
 
-pub false-inside : (ts : List Bool) → all ts ≡ false → firstFalse ts < length ts
-unfolding L.all L.firstFalse
-false-inside [] e = never (sym e)
-false-inside (false ∷ ts) e = omega arith
-false-inside (true ∷ ts) e = omega (arith, false-inside ts e)
-
 -- as many as there are dimensions
 pub lies-size : (m : ℕ) (a b : List Side) → length a ≤ m → length b ≤ m → length (lies a b) ≤ m
 unfolding B.lies
@@ -230,9 +222,21 @@ plant-told plant = judged-told plantNumbers (length plant) (plantJudged plant) (
 abbrev pub sheetNumbers : List ℕ
 sheetNumbers = 1 ∷ 2 ∷ 3 ∷ 4 ∷ 5 ∷ 13 ∷ 14 ∷ []
 
-sheet-tells : (size : ℕ) → Tells sheetNumbers size sheetForm
+-- those of the values, and of bytes left over
+abbrev pub sheetFormNumbers : List ℕ
+sheetFormNumbers = 1 ∷ 2 ∷ 3 ∷ 13 ∷ []
+
+sheet-tells : (size : ℕ) → Tells sheetFormNumbers size sheetForm
 unfolding S.sheetForm
-sheet-tells size = headed-tells sheetNumbers size refl refl 1_000 _ (λ n r. edges-tell sheetNumbers size refl n (floatsForm n) (floats-tell sheetNumbers size refl refl n))
+sheet-tells size =
+    headed-tells sheetFormNumbers size refl refl 1_000 _ (λ n r. edges-tell sheetFormNumbers size refl n (floatsForm n) (floats-tell sheetFormNumbers size refl refl n))
+
+pub sheet-values-told : (sheet : List ℕ) (e : Refusal) → valuesOf sheetForm sheet ≡ refused e → Telling sheetFormNumbers (length sheet) e
+sheet-values-told sheet e = go (valuesOf sheetForm sheet) (file-tells sheetFormNumbers sheet refl refl sheetForm (sheet-tells (length sheet)))
+  where
+    go : (t : Read (List ℤ)) → ReadTells sheetFormNumbers (length sheet) t → t ≡ refused e → Telling sheetFormNumbers (length sheet) e
+    go (read vs next) h q = never cc
+    go (refused f) h q = let z : f ≡ e = cc in rw z at h
 
 -- the numbers of the plant file that a sheet makes: 6, 4 and 2 a dimension, and at most 320 coefficients
 numbers-many : (h : Sheet) → h .n ≤ 4 → length (madeNumbers h) ≤ 350
@@ -261,14 +265,14 @@ numbers-many h few =
 
 pub sheet-told : (sheet : List ℕ) (e : Refusal) → sheetJudged sheet ≡ bad e → Telling sheetNumbers (length sheet) e
 unfolding S.sheetJudged S.sheetForm S.sheetOf
-sheet-told sheet = judged-told sheetNumbers (length sheet) (sheetJudged sheet) (go (valuesOf sheetForm sheet) refl (file-tells sheetNumbers sheet refl refl sheetForm (sheet-tells (length sheet))))
+sheet-told sheet = judged-told sheetNumbers (length sheet) (sheetJudged sheet) (go (valuesOf sheetForm sheet) refl)
   where
     few : (vs : List ℤ) (next : ℕ) → valuesOf sheetForm sheet ≡ read vs next → sheetOf vs .n ≤ 4
     few vs next e = framed 1_000 (λ n r. floatsForm n) vs (values-right sheetForm sheet 0 vs next (file-writes sheetForm sheet e .0)) .0 .n-high
 
-    go : (t : Read (List ℤ)) → valuesOf sheetForm sheet ≡ t → ReadTells sheetNumbers (length sheet) t → JudgedTells sheetNumbers (length sheet) (sheetRelated t)
-    go (refused e) q h = h
-    go (read vs next) q k =
+    go : (t : Read (List ℤ)) → valuesOf sheetForm sheet ≡ t → JudgedTells sheetNumbers (length sheet) (sheetRelated t)
+    go (refused e) q = told-more (sheet-values-told sheet e q) sheetNumbers refl
+    go (read vs next) q =
         let h = sheetOf vs in
         let l = few vs next q in
         let fit = map isNear (madeNumbers h) in

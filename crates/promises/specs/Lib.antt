@@ -14,6 +14,7 @@ pub mod Files
 pub mod Finds
 pub mod First
 pub mod FirstFault
+pub mod Firsts
 pub mod Floats
 pub mod FormShapes
 pub mod Forms
@@ -43,6 +44,7 @@ pub mod Plants
 pub mod Promise
 pub mod Reached
 pub mod Related
+pub mod Results
 pub mod Shapes
 pub mod SheetFiles
 pub mod SheetFloats

@@ -2,7 +2,7 @@
 -- accepted or not: running, the state's test says so; idle, the tile's modes were read, each below N, and the first of them is the byte at its place.
 -- So the C face shows a mode below N, or 255 exactly where the call is refused. Relies on page Local for the tile that was found, and on page Judged.
 use Prim.Native.Nat.{ℕ, zero, suc, _+_, _≤_, _<_}
-use mathlib.Core.Path.{_≡_, refl, ap, _∙_}
+use mathlib.Core.Path.{_≡_, refl, _∙_}
 use mathlib.Core.Bool.{Bool, true, false, _&&_}
 use mathlib.Core.List.{List, [], _∷_, _++_}
 use mathlib.Core.Logic.{_↔_}
@@ -22,7 +22,7 @@ use Rattle.meaning.specs.declared.State.{State}
 use Rattle.meaning.specs.declared.Answer.{Answer}
 use Rattle.meaning.specs.Control as C
 use Rattle.meaning.specs.Control.{modeAt, onFound, find, canRun, stateCall, call}
-use Rattle.meaning.specs.Files.{Judged, good, bad, read}
+use Rattle.meaning.specs.Files.{Judged, good, bad}
 use Rattle.meaning.specs.Plants.{plantJudged}
 use Rattle.meaning.specs.Refusals.{answerShown}
 use Rattle.meaning.specs.Rules.{Rules, holds}
@@ -30,7 +30,7 @@ use Rattle.meaning.specs.Tables as T
 use Rattle.meaning.specs.Tables.{rulesOf, onPlant, controlled}
 use Rattle.meaning.specs.Trees as Y
 use Rattle.meaning.specs.Trees.{modesBytes}
-use Rattle.meaning.specs.Verdicts.{modesAt, header}
+use Rattle.meaning.specs.Verdicts.{header}
 use Rattle.promises.specs.Bytes.{one-byte}
 use Rattle.promises.specs.Judged.{judged-sound}
 use Rattle.promises.specs.Laws.{Sizes, OneByte}

@@ -4,10 +4,11 @@
 use Prim.Native.Nat.{ℕ, zero, suc, _+_, _-_, _*_, _/_, _%_, _^_, _≤_, _<_}
 use mathlib.Core.Path.{_≡_, refl, sym, ap, _∙_, subst}
 use mathlib.Core.Bool.{Bool, true, false, _&&_, cond}
+use mathlib.Core.Logic.{_↔_}
 use native.Mathlib.Nat.{le-of-suc-le-suc, lt-of-not-le, lt-irrefl, lt-of-lt-of-le, div-one, div-eq-of-lt, mul-one, zero-mul, mul-assoc, mul-left-comm, mul-comm, add-mul, mod-lt, div-add-mod'}
 use native.Mathlib.Omega.{arith}
 use lib.Dec.{T, eqb, ltb, leb, leb→le}
-use borrow.Author.Tests.{leb-true}
+use borrow.Author.Tests.{leb-true, le-leb}
 use lib.Pow.{pow-add, pow-pos, pow-lt, shl-shr}
 use lib.IntN.{ℤ, pos, negsuc, negℤ, natAbs, _+ℤ_, _-ℤ_, _*ℤ_}
 use lib.Ieee as F
@@ -20,7 +21,7 @@ use Rattle.laws.specs.Integers.{P, N, zarith, sub, neg, abs, apart, abs-neg, mu
 use Rattle.laws.specs.Tests.{never}
 use Rattle.meaning.specs.declared.Whole.{Whole}
 use Rattle.meaning.specs.Sheets as S
-use Rattle.meaning.specs.Sheets.{signedBy, nearest, limitedTo, wholeOf, units, unitsOf}
+use Rattle.meaning.specs.Sheets.{finite, signedBy, nearest, limitedTo, wholeOf, units, unitsOf}
 
 -- v is the whole number nearest z / u: no farther than a half, and where it is a half the one away from zero
 pub record Nearest (u : ℕ) (z v : ℤ) : Type 0 where
@@ -213,3 +214,19 @@ module _ (u : ℕ) (z : ℤ) where
           let a : 2 * off v ≡ u = omega (arith, between v w, n .half, m .half) in
           let b : 2 * off w ≡ u = omega (arith, between v w, n .half, m .half) in
           absurd (one-side p v w a (n .away a) b (m .away b) (omega (arith, spread v w)))
+
+-- ---- so the number is told exactly: it is the nearest one of a finite float, and within the limit
+
+pub near-exactly : (limit k : ℕ) (x : Float) (v : ℤ) → T (fits binary64 x)
+    → (wholeOf limit k x ≡ Whole.Near v) ↔ ((finite x ≡ true) × Nearest units (pos k *ℤ unitsOf x) v × (natAbs v ≤ limit))
+unfolding S.wholeOf S.unitsOf S.finite
+near-exactly limit k nan v t = (λ h. out-near h, λ w. never (w .0))
+near-exactly limit k (inf s) v t = (λ h. out-near h, λ w. never (w .0))
+near-exactly limit k (fin s m e) v t = (
+  λ h. (refl, whole-nearest limit k (fin s m e) v t h, whole-limit limit k (fin s m e) v h),
+  λ w.
+      let size = m * up e * units / down e in
+      let here = nearest-is s k m e units size (pow-pos 1074) (units-exact s m e t) in
+      let q : signedBy s (nearest k m e) ≡ v = one-nearest units (pos k *ℤ signedBy s size) (pow-pos 1074) v (signedBy s (nearest k m e)) (w .1) here in
+      rw (q, le-leb (natAbs v) limit (w .2)) refl,
+)

@@ -1,16 +1,17 @@
 -- The promises by what each answer shows (document 01, "How to write each place": a definition sets out the paper's number and values for each case of an answer,
 -- and the promises use that definition). Each line has the number, the place, the step and the values themselves, exactly where the promise's own
--- condition holds: S1 the reader of numbers, S5 the tile rule, S6 the checker, S7 the maker, S8 and S9 a call, S10 a whole number of a float.
+-- condition holds: S1 the reader of numbers, S5 the tile rule, S6 the checker, S7 the maker, S8 and S9 a call. A whole number of a float is page Results.
 -- Relies on the pages of those promises, on page Shows, and on page Told for that no refusal is told by 0.
 use Prim.Native.Nat.{ℕ, zero, suc, _+_, _^_, _≤_, _<_}
 use mathlib.Core.Path.{_≡_, refl, sym, ap, _∙_}
-use mathlib.Core.Bool.{Bool, true, false}
-use mathlib.Core.List.{List, [], _∷_, _++_, map}
+use mathlib.Core.Bool.{Bool, true, false, cond}
+use mathlib.Core.List.{List, [], _∷_, _++_}
 use mathlib.Core.Logic.{_↔_, Iff·trans}
 use native.Mathlib.Omega.{arith}
-use lib.Dec.{T, leb, eqb}
-use lib.ListN.{length, getD}
-use lib.IntN.{ℤ, pos, natAbs, _*ℤ_}
+use lib.Dec.{eqb}
+use lib.ListN.{length}
+use lib.IntN.{ℤ, pos}
+use Rattle.laws.specs.Guards.{guard}
 use Rattle.laws.specs.Lists.{all, firstFalse}
 use Rattle.laws.specs.Standing.{Stands}
 use Rattle.laws.specs.Tests.{never}
@@ -18,27 +19,36 @@ use Rattle.meaning.specs.declared.Refusal.{Refusal}
 use Rattle.meaning.specs.declared.Number.{Number}
 use Rattle.meaning.specs.declared.Signed.{Signed}
 use Rattle.meaning.specs.declared.Rule.{Rule}
+use Rattle.meaning.specs.declared.Walk.{Walk}
+use Rattle.meaning.specs.declared.Found.{Found}
 use Rattle.meaning.specs.declared.Plant.{Plant}
 use Rattle.meaning.specs.declared.Verdict.{Verdict}
 use Rattle.meaning.specs.declared.Written.{Written}
 use Rattle.meaning.specs.declared.State.{State}
 use Rattle.meaning.specs.declared.Answer.{Answer}
-use Rattle.meaning.specs.Refusals.{numberShown, signedShown, ruleShown, verdictShown, writtenShown, answerShown, foundShown, noTable, short}
-use Rattle.meaning.specs.Control.{idle, find, stateWith}
-use Rattle.meaning.specs.Files.{Judged, good, bad}
+use Rattle.meaning.specs.Refusals.{Shown, numberShown, signedShown, ruleShown, walkShown, foundShown, verdictShown, writtenShown, answerShown, badTable, noTable, short}
+use Rattle.meaning.specs.Control as C
+use Rattle.meaning.specs.Control.{idle, stateWith, modeAt, onFound, find}
+use Rattle.meaning.specs.Files.{good}
 use Rattle.meaning.specs.Numbers.{numberAt, asSigned, signedAt, bytesOf, stored, restored}
 use Rattle.meaning.specs.Plants.{plantJudged, rootOf}
-use Rattle.meaning.specs.Rules.{Rules, rule}
+use Rattle.meaning.specs.Rules.{Rules, rule, holds}
 use Rattle.meaning.specs.Tables.{rulesOf, checked, made, makerLeft, controlled, startsIn, TableRun}
+use Rattle.meaning.specs.Verdicts as W
+use Rattle.meaning.specs.Verdicts.{walk, header, verdict}
 use Rattle.promises.specs.Checked.{Tiled, checked-exactly}
 use Rattle.promises.specs.Chosen.{Chosen, chosen}
+use Rattle.promises.specs.Laws.{Sizes}
+use Rattle.promises.specs.Layouts.{TreeStands, walk-stands, walk-reads, header-stands, header-read}
 use Rattle.promises.specs.Made.{maker-nine, maker-ten, maker-length}
 use Rattle.promises.specs.Modes.{isMode}
 use Rattle.promises.specs.Numbers.{reads, was, restored-stored, stored-restored}
 use Rattle.promises.specs.Patterns.{Lands, works-exactly, staying, landing, leaves-exactly, misses-exactly}
+use Rattle.promises.specs.PlantRules.{checked-as, controlled-as}
 use Rattle.promises.specs.Promise.{promise}
-use Rattle.promises.specs.Shows.{shows, refusing, noMode, Some, number-exactly, signed-exactly, rule-exactly, verdict-exactly, written-exactly, answer-exactly, accepted-some, refused-some, mode-some, call-some}
-use Rattle.promises.specs.Told.{checker-some, controller-some}
+use Rattle.promises.specs.Shows.{shows, refusing, noMode, same-refusal, Some, number-exactly, signed-exactly, rule-exactly, written-exactly, walk-exactly, verdict-exactly, answer-exactly, accepted-some, refused-some, mode-some, call-some}
+use Rattle.promises.specs.Told.{controllerNumbers, checker-some, controller-some}
+use Rattle.promises.specs.WalkTold.{WalkTells, FoundTells, header-tells, find-tells}
 
 -- ---- S1: 0 with the value and the place behind it exactly where the number's bytes stand there, and else 1 there
 
@@ -150,3 +160,80 @@ module _ (plant table : List ℕ) (st : State) (x : List ℤ) where
   pub call-refused-shown : (e : Refusal) → Some e
       → (answerShown (controlled plant table st x) ≡ refusing e (pos 255 ∷ pos 0 ∷ pos 0 ∷ [])) ↔ (controlled plant table st x ≡ Answer.Refused e)
   call-refused-shown e s = answer-exactly (controlled plant table st x) (Answer.Refused e) (controller-some plant table st x) (call-some e s)
+
+-- ---- S6 and S8 in their parts, which show what they pass on
+
+module _ (r : Rules) (z : Sizes r) (s : List ℕ) where
+  -- the header and a tree: 0 with the place behind it exactly where it stands
+  pub header-shown : (m : ℕ) → (walkShown (header r s) ≡ shows 0 0 0 (pos m ∷ [])) ↔ Stands s 0 (bytesOf 1 ++ bytesOf (r .n)) m
+  header-shown m = Iff·trans (walk-exactly (header r s) (Walk.Next m)) (λ e. header-stands r s m e, λ w. header-read r z s m w)
+
+  pub walk-shown : (judge : r .Box → List ℕ → Rule) (d at : ℕ) (b : r .Box) (m : ℕ)
+      → (walkShown (walk r judge d s at b) ≡ shows 0 0 0 (pos m ∷ [])) ↔ TreeStands r judge d s at b m
+  walk-shown judge d at b m =
+      Iff·trans (walk-exactly (walk r judge d s at b) (Walk.Next m)) (λ e. walk-stands r judge d s at b m e, λ w. walk-reads r z judge (w .tree) d s at b m (w .over) (w .stand))
+
+module _ (plant : List ℕ) (p : Plant) (good-plant : plantJudged plant ≡ good p) (table : List ℕ) where
+  -- the checker shows what the header shows that is refused; then what the walk shows; then 6 where bytes are left over
+  pub header-first : (e : Refusal) → walkShown (header (rulesOf p) table) ≡ refusing e [] → verdictShown (checked plant table) ≡ refusing e []
+  unfolding W.verdict
+  header-first e h =
+      let q = walk-exactly (header (rulesOf p) table) (Walk.Refused e) .0 h in
+      let is : checked plant table ≡ Verdict.Refused e = checked-as plant p good-plant table ∙ rw q refl in
+      ap verdictShown is
+
+  module _ (at : ℕ) (head : walkShown (header (rulesOf p) table) ≡ shows 0 0 0 (pos at ∷ [])) where
+    abbrev walked : Walk
+    walked = walk (rulesOf p) (rule (rulesOf p)) (p .d) table at (rootOf p)
+
+    head-is : header (rulesOf p) table ≡ Walk.Next at
+    head-is = walk-exactly (header (rulesOf p) table) (Walk.Next at) .0 head
+
+    pub walk-next : (e : Refusal) → walkShown walked ≡ refusing e [] → verdictShown (checked plant table) ≡ refusing e []
+    unfolding W.verdict
+    walk-next e h =
+        let q = walk-exactly walked (Walk.Refused e) .0 h in
+        let is : checked plant table ≡ Verdict.Refused e = checked-as plant p good-plant table ∙ rw (head-is, q) refl in
+        ap verdictShown is
+
+    pub leftover-last : (m : ℕ) → walkShown walked ≡ shows 0 0 0 (pos m ∷ [])
+        → verdictShown (checked plant table) ≡ cond (eqb m (length table)) (shows 0 0 0 []) (shows 6 m 0 [])
+    unfolding W.verdict
+    leftover-last m h =
+        let q = walk-exactly walked (Walk.Next m) .0 h in
+        let is : checked plant table ≡ guard (eqb m (length table)) (Verdict.Refused (badTable m)) (λ _. Verdict.Accepted) =
+        checked-as plant p good-plant table ∙ rw (head-is, q) refl in
+        ap verdictShown is ∙ go (eqb m (length table))
+      where
+        go : (t : Bool) → verdictShown (guard t (Verdict.Refused (badTable m)) λ _. Verdict.Accepted) ≡ cond t (shows 0 0 0 []) (shows 6 m 0 [])
+        go true = refl
+        go false = refl
+
+    -- an idle call on a reading in R is refused exactly as the look for its tile is, whatever the table
+    pub look-shown : (x : List ℤ) → startsIn plant x ≡ true → (e : Refusal) → Some e
+        → (foundShown (find (rulesOf p) (p .d) table at (rootOf p) x) ≡ refusing e []) ↔ (answerShown (controlled plant table idle x) ≡ refusing e noMode)
+    unfolding C.call
+    look-shown x h e s =
+        let r = rulesOf p in
+        let held : holds r (rootOf p) x ≡ true = rw good-plant at h in
+        let is : controlled plant table idle x ≡ onFound table (find r (p .d) table at (rootOf p) x) = controlled-as plant p good-plant table idle x ∙ rw (head-is, held) refl in
+        rw is (go (find r (p .d) table at (rootOf p) x) (find-tells r controllerNumbers table refl refl x (p .d) at (rootOf p) inside))
+      where
+        inside : at ≤ length table
+        inside = go (header (rulesOf p) table) (header-tells (rulesOf p) controllerNumbers table refl refl refl) head-is
+          where
+            go : (w : Walk) → WalkTells controllerNumbers (length table) w → w ≡ Walk.Next at → at ≤ length table
+            go (Walk.Refused f) t q = never cc
+            go (Walk.Next m) t q = let z : m ≡ at = cc in rw z at t
+
+        tile : (from k : ℕ) → 1 ≤ k → answerShown (modeAt table from k) ≡ refusing e noMode → foundShown (Found.Tile from k) ≡ refusing e []
+        tile from zero l q = absurd (omega arith)
+        tile from (suc zero) l q = absurd (s (sym (ap (λ (a : Shown). a .number) q)))
+        tile from (suc (suc k)) l q = absurd (s (sym (ap (λ (a : Shown). a .number) q)))
+
+        go : (f : Found) → FoundTells controllerNumbers (length table) f → (foundShown f ≡ refusing e []) ↔ (answerShown (onFound table f) ≡ refusing e noMode)
+        go (Found.Tile from k) l = (λ q. let z = ap (λ (a : Shown). a .values) q in never cc, tile from k l)
+        go (Found.Refused f) t = (
+          λ q. ap (λ (g : Refusal). refusing g noMode) (same-refusal f e [] [] q),
+          λ q. ap (λ (g : Refusal). refusing g []) (same-refusal f e noMode noMode q),
+        )

@@ -12,13 +12,12 @@ use Rattle.meaning.specs.declared.Number.{Number}
 use Rattle.meaning.specs.declared.Signed.{Signed}
 use Rattle.meaning.specs.declared.Rule.{Rule}
 use Rattle.meaning.specs.declared.Walk.{Walk}
-use Rattle.meaning.specs.declared.Found.{Found}
 use Rattle.meaning.specs.declared.Whole.{Whole}
 use Rattle.meaning.specs.declared.Verdict.{Verdict}
 use Rattle.meaning.specs.declared.Written.{Written}
 use Rattle.meaning.specs.declared.State.{State}
 use Rattle.meaning.specs.declared.Answer.{Answer}
-use Rattle.meaning.specs.Refusals.{Shown, numberShown, signedShown, ruleShown, walkShown, foundShown, wholeShown, verdictShown, writtenShown, answerShown}
+use Rattle.meaning.specs.Refusals.{Shown, numberShown, signedShown, ruleShown, walkShown, wholeShown, verdictShown, writtenShown, answerShown}
 
 -- number, place, step and values
 abbrev pub shows : ℕ → ℕ → ℕ → List ℤ → Shown
@@ -48,7 +47,7 @@ module _ {n m p q i j : ℕ} {vs ws : List ℤ} (e : shows n p i vs ≡ shows m 
   same-values : vs ≡ ws
   same-values = ap (λ (a : Shown). a .values) e
 
-same-refusal : (e f : Refusal) (vs ws : List ℤ) → refusing e vs ≡ refusing f ws → e ≡ f
+pub same-refusal : (e f : Refusal) (vs ws : List ℤ) → refusing e vs ≡ refusing f ws → e ≡ f
 same-refusal e f vs ws q = λ k. record { number = same-number q k; place = same-place q k; step = same-step q k }
 
 -- numbers that differ
@@ -118,15 +117,6 @@ walk-exactly a b = (go a b, λ e. ap walkShown e)
     go (Walk.Next m) (Walk.Refused f) e = let q = same-values e in never cc
     go (Walk.Refused f) (Walk.Next n) e = let q = same-values e in never cc
     go (Walk.Refused f) (Walk.Refused g) e = ap Walk.Refused (same-refusal f g [] [] e)
-
-pub found-exactly : (a b : Found) → (foundShown a ≡ foundShown b) ↔ (a ≡ b)
-found-exactly a b = (go a b, λ e. ap foundShown e)
-  where
-    go : (a b : Found) → foundShown a ≡ foundShown b → a ≡ b
-    go (Found.Tile m i) (Found.Tile n j) e = let q = same-values e in cc
-    go (Found.Tile m i) (Found.Refused f) e = let q = same-values e in never cc
-    go (Found.Refused f) (Found.Tile n j) e = let q = same-values e in never cc
-    go (Found.Refused f) (Found.Refused g) e = ap Found.Refused (same-refusal f g [] [] e)
 
 -- ---- those that a refusal of number 0 could be taken for
 

@@ -3,7 +3,7 @@
 -- 1, 2, 6, 7 and 8, the controller 1, 2, 6, 11 and 12. Places and steps are as page Telling says. And what is shown is 0 exactly where it is accepted,
 -- written, answered. Of all inputs. Relies on pages Faults, WalkTold and Made. Which refusal it is the definitions say.
 use Prim.Native.Nat.{ℕ, zero, suc, _≤_}
-use mathlib.Core.Path.{_≡_, refl, sym, ap, _∙_}
+use mathlib.Core.Path.{_≡_, refl, ap}
 use mathlib.Core.Bool.{Bool, true, false}
 use mathlib.Core.List.{List, [], _∷_}
 use mathlib.Core.Logic.{_↔_}
@@ -19,24 +19,23 @@ use Rattle.laws.specs.Tests.{never}
 use Rattle.meaning.specs.declared.Plant.{Plant}
 use Rattle.meaning.specs.declared.Sheet.{Sheet}
 use Rattle.meaning.specs.declared.Refusal.{Refusal}
-use Rattle.meaning.specs.declared.Walk.{Walk}
 use Rattle.meaning.specs.declared.Found.{Found}
 use Rattle.meaning.specs.declared.Verdict.{Verdict}
 use Rattle.meaning.specs.declared.Written.{Written}
 use Rattle.meaning.specs.declared.State.{State}
 use Rattle.meaning.specs.declared.Answer.{Answer}
-use Rattle.meaning.specs.Refusals.{Shown, badTable, badState, short, verdictShown, writtenShown, answerShown}
-use Rattle.meaning.specs.Boxes.{Side, side, sideAt, sidesOf, fits}
-use Rattle.meaning.specs.Buffers.{Left, left, refusedWith}
+use Rattle.meaning.specs.Refusals.{Shown, badState, short, verdictShown, writtenShown, answerShown}
+use Rattle.meaning.specs.Boxes.{side, sideAt, sidesOf, fits}
+use Rattle.meaning.specs.Buffers.{left, refusedWith}
 use Rattle.meaning.specs.Files.{Judged, good, bad}
-use Rattle.meaning.specs.Plants.{plantJudged, plantRead, readOf, rootOf, safeOf}
+use Rattle.meaning.specs.Plants.{plantJudged, plantRead, readOf}
 use Rattle.meaning.specs.Rules.{Rules, rule, holds}
 use Rattle.meaning.specs.Sheets as S
 use Rattle.meaning.specs.Sheets.{plantFileMade, sheetJudged, sheetRead, sheetReadOf, madeLeft}
 use Rattle.meaning.specs.Tables as T
 use Rattle.meaning.specs.Tables.{readingOf, rulesOf, onPlant, checked, made, makerLeft, controlled}
 use Rattle.meaning.specs.Verdicts as W
-use Rattle.meaning.specs.Verdicts.{onWalk, walk, header, verdict}
+use Rattle.meaning.specs.Verdicts.{walk, header, verdict}
 use Rattle.meaning.specs.Control as C
 use Rattle.meaning.specs.Control.{modeAt, onFound, find, canRun, inside, stateCall, call}
 use Rattle.promises.specs.Boxes.{points, points-fit}
@@ -44,9 +43,8 @@ use Rattle.promises.specs.Faults.{lies-size, dimension-in, plantNumbers,
 use Rattle.promises.specs.Judged.{judged-sound}
 use Rattle.promises.specs.Made.{made-told}
 use Rattle.promises.specs.Shows.{refusing, noMode, Some}
-use Rattle.promises.specs.Sound.{Sound}
 use Rattle.promises.specs.Telling.{oneOf, areOf, Telling, guard-keeps, told-more, not-told}
-use Rattle.promises.specs.WalkTold.{WalkTells, FoundTells, walk-keeps, table-told, header-tells, walk-tells, find-tells, rule-tells}
+use Rattle.promises.specs.WalkTold.{FoundTells, walk-keeps, table-told, header-tells, walk-tells, find-tells, rule-tells}
 
 -- ---- the numbers, besides those of a plant and of a sheet (page Faults); those of checker and controller are about the table
 
@@ -231,12 +229,19 @@ plant-shows plant = verdict-shows (Telling plantNumbers (length plant)) (telling
     go (good p) q e a = never cc
     go (bad f) q e a = let z : f ≡ e = cc in plant-told plant e (rw z at q)
 
-pub sheet-shows : (sheet : List ℕ) → Showing (sheetRead sheet .verdict ≡ Verdict.Accepted) (Telling sheetNumbers (length sheet)) [] (verdictShown (sheetRead sheet .verdict))
-sheet-shows sheet = verdict-shows (Telling sheetNumbers (length sheet)) (telling-some sheetNumbers (length sheet) refl) (sheetRead sheet .verdict) (go (sheetJudged sheet) refl)
+-- a sheet that is refused by its reader is judged so
+sheet-refused : (sheet : List ℕ) (e : Refusal) → sheetRead sheet .verdict ≡ Verdict.Refused e → Telling sheetNumbers (length sheet) e
+sheet-refused sheet e = go (sheetJudged sheet) refl
   where
-    go : (j : Judged Sheet) → sheetJudged sheet ≡ j → (e : Refusal) → sheetReadOf j .verdict ≡ Verdict.Refused e → Telling sheetNumbers (length sheet) e
-    go (good h) q e a = never cc
-    go (bad f) q e a = let z : f ≡ e = cc in sheet-told sheet e (rw z at q)
+    go : (j : Judged Sheet) → sheetJudged sheet ≡ j → sheetReadOf j .verdict ≡ Verdict.Refused e → Telling sheetNumbers (length sheet) e
+    go (good h) q a = never cc
+    go (bad f) q a = let z : f ≡ e = cc in sheet-told sheet e (rw z at q)
+
+pub sheet-some : (sheet : List ℕ) (e : Refusal) → sheetRead sheet .verdict ≡ Verdict.Refused e → Some e
+sheet-some sheet e q = telling-some sheetNumbers (length sheet) refl e (sheet-refused sheet e q)
+
+pub sheet-shows : (sheet : List ℕ) → Showing (sheetRead sheet .verdict ≡ Verdict.Accepted) (Telling sheetNumbers (length sheet)) [] (verdictShown (sheetRead sheet .verdict))
+sheet-shows sheet = verdict-shows (Telling sheetNumbers (length sheet)) (telling-some sheetNumbers (length sheet) refl) (sheetRead sheet .verdict) (sheet-refused sheet)
 
 pub sheet-maker-shows : (sheet buf : List ℕ)
     → Showing ((m : ℕ) × (madeLeft sheet buf .answer ≡ Written.Length m)) (Telling sheetMakerNumbers (length sheet)) [] (writtenShown (madeLeft sheet buf .answer))

@@ -2,38 +2,33 @@
 -- with a step that the tile has. Places lie in the table or just behind it. Of any bytes, over any rules, and any judge of a tile; what a judge tells is
 -- a parameter. Relies on S5 (page Patterns) for the steps of the tile rule. What is told of a plant and a table is page Told.
 use Prim.Native.Nat.{ℕ, zero, suc, _≤_}
-use mathlib.Core.Path.{_≡_, refl, sym, ap, _∙_}
+use mathlib.Core.Path.{_≡_, refl, ap, _∙_}
 use mathlib.Core.Bool.{Bool, true, false}
-use mathlib.Core.List.{List, [], _∷_, map}
-use mathlib.Core.Logic.{_↔_}
+use mathlib.Core.List.{List, [], _∷_}
 use native.Mathlib.Omega.{arith}
 use lib.Dec.{leb, ltb, eqb}
 use lib.ListN.{length, length-map}
-use lib.IntN.{ℤ}
 use borrow.Author.Tests.{leb-true}
 use Rattle.laws.specs.Guards.{guard, choose}
 use Rattle.laws.specs.Lists.{firstFalse}
 use Rattle.laws.specs.Standing.{stand-within}
-use Rattle.laws.specs.Tests.{never}
 use Rattle.meaning.specs.declared.Refusal.{Refusal}
 use Rattle.meaning.specs.declared.Number.{Number}
 use Rattle.meaning.specs.declared.Rule.{Rule}
 use Rattle.meaning.specs.declared.Rule.the-variants.{Works, Leaves, Misses}
 use Rattle.meaning.specs.declared.Walk.{Walk}
 use Rattle.meaning.specs.declared.Found.{Found}
-use Rattle.meaning.specs.declared.Verdict.{Verdict}
-use Rattle.meaning.specs.declared.State.{State}
-use Rattle.meaning.specs.declared.Answer.{Answer}
 use Rattle.meaning.specs.Refusals.{broken, badTable}
 use Rattle.meaning.specs.Numbers.{numberAt, bytesOf}
 use Rattle.meaning.specs.Files.{Read, read, refused, before}
 use Rattle.meaning.specs.Rules.{Rules, rule, holds}
 use Rattle.meaning.specs.Verdicts as W
-use Rattle.meaning.specs.Verdicts.{onNumber, onWalk, onRule, onModes, each, splitAt, onSize, modesAt, nodeAt, walk, header, verdict}
+use Rattle.meaning.specs.Verdicts.{onNumber, onWalk, onRule, onModes, each, splitAt, onSize, modesAt, nodeAt, walk, header}
 use Rattle.meaning.specs.Control as C
-use Rattle.meaning.specs.Control.{tileFound, among, modeAt, onFound, find, canRun, inside, stateCall, call}
+use Rattle.meaning.specs.Control.{tileFound, among, find}
 use Rattle.promises.specs.Bytes.{bytes-some}
-use Rattle.promises.specs.Faults.{ReadTells, before-tells, dimension-in, false-inside}
+use Rattle.promises.specs.Faults.{ReadTells, before-tells}
+use Rattle.promises.specs.Firsts.{false-inside}
 use Rattle.promises.specs.Layouts.{modes-stand}
 use Rattle.promises.specs.Numbers.{was}
 use Rattle.promises.specs.Patterns as Q
