@@ -110,6 +110,10 @@ mode-most plant u = go (plantJudged plant) refl
     go (bad f) q e = never e
     go (good p) q e = omega (arith, ltb-true u (p .modes) e, judged-sound plant p q .modes-high)
 
+-- so one byte carries what is answered
+pub answered-most : (plant table : List ℕ) (st : State) (x : List ℤ) {u : ℕ} {then : State} → controlled plant table st x ≡ Answer.Mode u then → u ≤ 15
+answered-most plant table st x {u} e = mode-most plant u (answered-is-mode plant table st x e)
+
 -- ---- what the C face shows of a call: its mode is the first of the values
 
 -- 255 exactly where it is refused, and a mode of the plant, which is at most 15, exactly where it is answered
@@ -131,6 +135,6 @@ mode-shown plant table st x = go (controlled plant table st x) refl
     go (Answer.Mode u then) q =
         let m = answered-is-mode plant table st x q in
         record {
-          refused = (λ y. let k : u ≡ 255 = cc in absurd (omega (arith, mode-most plant u m)), λ w. let y = w .1 in never cc);
+          refused = (λ y. let k : u ≡ 255 = cc in absurd (omega (arith, answered-most plant table st x q)), λ w. let y = w .1 in never cc);
           answered = (λ _. (u, then, refl), λ _. (u, refl, m));
         }

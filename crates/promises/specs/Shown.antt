@@ -68,7 +68,16 @@ module _ (s : List ℕ) (at : ℕ) where
 
   -- signed: the same of what is stored
   as-value : (n : Number) (v : ℤ) (next : ℕ) → (asSigned n ≡ Signed.Value v next) ↔ (n ≡ Number.Value (stored v) next)
-  as-value (Number.Value u m) v next = (λ e. let z : restored u ≡ v = cc in let k = stored-restored u in let y : m ≡ next = cc in rw (← z, k, y) refl, λ e. let k = restored-stored v in let z : u ≡ stored v = cc in let y : m ≡ next = cc in rw (z, k, y) refl)
+  as-value (Number.Value u m) v next = (
+    λ e.
+        let z : restored u ≡ v = cc in
+        let y : m ≡ next = cc in
+        rw (← z, stored-restored u, y) refl,
+    λ e.
+        let z : u ≡ stored v = cc in
+        let y : m ≡ next = cc in
+        rw (z, restored-stored v, y) refl,
+  )
   as-value Number.Broken v next = (λ e. never cc, λ e. never cc)
 
   as-broken : (n : Number) → (asSigned n ≡ Signed.Broken) ↔ (n ≡ Number.Broken)
