@@ -28,7 +28,6 @@ pub mod Lengths
 pub mod Local
 pub mod LongestTable
 pub mod Made
-pub mod ModeBytes
 pub mod Modes
 pub mod Nearest
 pub mod Numbers
