@@ -17,10 +17,11 @@ pub fn verdict(v: Verdict, out: &mut [u64; 2]) -> u64
             0
         }
         Verdict::Refused(e) => {
+            let number = e.number as u64;
             let place = e.place as u64;
             let step = e.step as u64;
             *out = [place, step];
-            e.number as u64
+            number
         }
     }
 }
