@@ -15,9 +15,11 @@ use lib.IntN.{ℤ, pos, natAbs}
 use lib.Ieee.{Float}
 use Rattle.laws.specs.Guards.{guard}
 use Rattle.laws.specs.Lists.{at, tab, tabs, all, firstFalse}
-use Rattle.laws.specs.Standing.{stand-within}
+use Rattle.laws.specs.Standing.{Stands, stand-within}
 use Rattle.laws.specs.Tabs.{length-tab, length-tabs}
 use Rattle.laws.specs.Tests.{never}
+use Rattle.meaning.specs.declared.Number.{Number}
+use Rattle.meaning.specs.declared.Plant.{Plant}
 use Rattle.meaning.specs.declared.Refusal.{Refusal}
 use Rattle.meaning.specs.declared.Sheet.{Sheet}
 use Rattle.meaning.specs.declared.Whole.{Whole}
@@ -25,9 +27,10 @@ use Rattle.meaning.specs.Boxes as B
 use Rattle.meaning.specs.Boxes.{Side, sideAt, lies}
 use Rattle.meaning.specs.Files as F
 use Rattle.meaning.specs.Files.{Kind, plain, signed, float, Form, end, field, Taken, taken, none, takenAs, bytesAs, Read, read, refused, before, onTaken, valuesAt, ended, valuesOf, Judged, good, bad}
-use Rattle.meaning.specs.Numbers.{stored}
+use Rattle.meaning.specs.Numbers as N
+use Rattle.meaning.specs.Numbers.{numberAt, bytesOf, stored}
 use Rattle.meaning.specs.Plants as P
-use Rattle.meaning.specs.Plants.{edgeLimit, bandLimit, entryLimit, offsetLimit, edgesOf, counted, from, limited, span, times, edgesAndBands, row, headed, plantForm, plantOf, rootOf, safeOf, bandsOf, wide, related, plantRelated, plantJudged}
+use Rattle.meaning.specs.Plants.{edgeLimit, bandLimit, entryLimit, offsetLimit, edgesOf, depth, counted, from, limited, span, times, edgesAndBands, row, headed, plantForm, plantOf, rootOf, safeOf, bandsOf, wide, related, plantRelated, plantJudged}
 use Rattle.meaning.specs.Refusals.{unfit}
 use Rattle.meaning.specs.Sheets as S
 use Rattle.meaning.specs.Sheets.{floating, notBelow, anyFloat, above, emitterForm, roomForm, sheetForm, sheetOf, sheetEdges, madeModes, madeBand, madeRow, madeNumbers, isNear, fitting, rootSheet, safeSheet, bandsSheet, sheetRelated, sheetJudged}
@@ -37,9 +40,13 @@ use Rattle.promises.specs.Firsts.{false-inside}
 use Rattle.promises.specs.Floats.{low-length}
 use Rattle.promises.specs.Forms.{values-right}
 use Rattle.promises.specs.Framed.{framed}
+use Rattle.promises.specs.Numbers.{reads}
+use Rattle.promises.specs.PlantFiles.{plantFile}
+use Rattle.promises.specs.PlantShapes.{plantBody}
 use Rattle.promises.specs.SheetNumbers.{entryAt, offsetAt}
 use Rattle.promises.specs.SheetPlants.{emitters-few}
-use Rattle.promises.specs.SheetShapes.{floatsForm}
+use Rattle.promises.specs.SheetFiles.{sheetFile}
+use Rattle.promises.specs.SheetShapes.{floatsForm, sheetBody}
 use Rattle.promises.specs.Telling.{oneOf, Telling, guard-keeps, told-more}
 
 -- ---- any form
@@ -90,15 +97,19 @@ module _ (numbers s : List ℕ) (one : oneOf numbers 1 ≡ true) (three : oneOf 
           guard-keeps (ReadTells numbers (length s)) (f .right v) (λ _. before v (valuesAt (rest v) s next)) (λ _. h .0 i l)
           (λ _. before-tells numbers (length s) v (valuesAt (rest v) s next) (ih v next (taken-inside s (f .kind) i v next q)))
 
+  ended-tells : (t : Read (List ℤ)) → ReadTells numbers (length s) t → ReadTells numbers (length s) (ended s t)
+  ended-tells (refused e) h = h
+  ended-tells (read vs next) l =
+      guard-keeps (ReadTells numbers (length s)) (eqb next (length s)) (λ _. read vs next) (λ _. record { number = three; place = l; step = refl }) (λ _. l)
+
   file-tells : (form : Form) → Tells numbers (length s) form → ReadTells numbers (length s) (valuesOf form s)
-  file-tells form h = go (valuesAt form s 0) (values-tell form h 0 (omega arith))
-    where
-      go : (t : Read (List ℤ)) → ReadTells numbers (length s) t → ReadTells numbers (length s) (ended s t)
-      go (refused e) h = h
-      go (read vs next) l =
-          guard-keeps (ReadTells numbers (length s)) (eqb next (length s)) (λ _. read vs next) (λ _. record { number = three; place = l; step = refl }) (λ _. l)
+  file-tells form h = ended-tells (valuesAt form s 0) (values-tell form h 0 (omega arith))
 
 -- ---- the parts of the two forms
+
+-- the header behind its form
+abbrev formed : ℕ → (ℕ → ℕ → Form) → Form
+formed most rest = counted (from 1 4) λ n. counted (from 1 most) λ m. counted (from 1 10_000) λ q. counted (from 1 6) λ k. counted (depth n) λ d. rest n m
 
 module _ (numbers : List ℕ) (size : ℕ) (three : oneOf numbers 3 ≡ true) where
   abbrev T : Form → Type 0
@@ -139,12 +150,13 @@ module _ (numbers : List ℕ) (size : ℕ) (three : oneOf numbers 3 ≡ true) wh
   row-tells n rest t = times-tell n (limited entryLimit) (limited-tells entryLimit) (limited offsetLimit rest) (limited-tells offsetLimit rest t)
 
   -- the header: 2 at its form, 3 at the rest
+  rest-tells : (most : ℕ) (rest : ℕ → ℕ → Form) → ((n m : ℕ) → T (rest n m)) → T (formed most rest)
+  unfolding Tells
+  rest-tells most rest t = (unfit-told, λ n. (unfit-told, λ m. (unfit-told, λ q. (unfit-told, λ k. (unfit-told, λ d. t (natAbs n) (natAbs m))))))
+
   headed-tells : oneOf numbers 2 ≡ true → (most : ℕ) (rest : ℕ → ℕ → Form) → ((n m : ℕ) → T (rest n m)) → T (headed most rest)
   unfolding Tells P.headed
-  headed-tells two most rest t = (
-    λ at l. record { number = two; place = refl; step = refl },
-    λ form. (unfit-told, λ n. (unfit-told, λ m. (unfit-told, λ q. (unfit-told, λ k. (unfit-told, λ d. t (natAbs n) (natAbs m)))))),
-  )
+  headed-tells two most rest t = (λ at l. record { number = two; place = refl; step = refl }, λ form. rest-tells most rest t)
 
   -- a float: 13
   module _ (thirteen : oneOf numbers 13 ≡ true) where
@@ -165,6 +177,16 @@ module _ (numbers : List ℕ) (size : ℕ) (three : oneOf numbers 3 ≡ true) wh
 
     floats-tell : (n : ℕ) → T (floatsForm n)
     floats-tell n = floating-tells above _ (floating-tells anyFloat _ (times-tell n (roomForm n) (room-tells n) end end-tells))
+
+-- where the form is 1, as in a file that was written, 2 is not told
+written-tells : (numbers s : List ℕ) (one : oneOf numbers 1 ≡ true) (three : oneOf numbers 3 ≡ true) (most : ℕ) (rest : ℕ → ℕ → Form)
+    → ((n m : ℕ) → Tells numbers (length s) (rest n m)) → (next : ℕ) → Stands s 0 (bytesOf 1) next → ReadTells numbers (length s) (valuesOf (headed most rest) s)
+unfolding F.valuesAt P.headed
+written-tells numbers s one three most rest t next w =
+    let first : numberAt s 0 ≡ Number.Value 1 next = reads 1 0 next s (omega arith) w in
+    ended-tells numbers s one three (valuesAt (headed most rest) s 0)
+    (rw first (before-tells numbers (length s) (pos 1) (valuesAt (formed most rest) s next)
+    (values-tell numbers s one three (formed most rest) (rest-tells numbers (length s) three most rest t) next (stand-within s (bytesOf 1) 0 next w (bytes-some 1)))))
 
 -- ---- the tests behind the forms: the first that fails is one of them
 
@@ -195,27 +217,49 @@ module _ (numbers : List ℕ) (size : ℕ) (four : oneOf numbers 4 ≡ true) (fi
 abbrev pub plantNumbers : List ℕ
 plantNumbers = 1 ∷ 2 ∷ 3 ∷ 4 ∷ 5 ∷ []
 
-plant-tells : (size : ℕ) → Tells plantNumbers size plantForm
-unfolding P.plantForm
-plant-tells size =
-    headed-tells plantNumbers size refl refl 16 _ (λ n modes. edges-tell plantNumbers size refl n (times (modes * n) (row n) end)
-    (times-tell plantNumbers size refl (modes * n) (row n) (row-tells plantNumbers size refl n) end (end-tells plantNumbers size refl)))
+-- what stands behind the header
+plant-body-tells : (numbers : List ℕ) (size : ℕ) → oneOf numbers 3 ≡ true → (n modes : ℕ) → Tells numbers size (plantBody n modes)
+plant-body-tells numbers size three n modes =
+    edges-tell numbers size three n (times (modes * n) (row n) end) (times-tell numbers size three (modes * n) (row n) (row-tells numbers size three n) end (end-tells numbers size three))
+
+module _ (numbers plant : List ℕ) (four : oneOf numbers 4 ≡ true) (five : oneOf numbers 5 ≡ true) where
+  plant-tells : ReadTells numbers (length plant) (valuesOf plantForm plant) → JudgedTells numbers (length plant) (plantJudged plant)
+  unfolding P.plantJudged P.plantForm P.plantOf
+  plant-tells = go (valuesOf plantForm plant) refl
+    where
+      few : (vs : List ℤ) (next : ℕ) → valuesOf plantForm plant ≡ read vs next → plantOf vs .n ≤ 4
+      few vs next e = framed 16 (λ n modes. times (modes * n) (row n) end) vs (values-right plantForm plant 0 vs next (file-writes plantForm plant e .0)) .0 .n-high
+
+      go : (t : Read (List ℤ)) → valuesOf plantForm plant ≡ t → ReadTells numbers (length plant) t → JudgedTells numbers (length plant) (plantRelated t)
+      go (refused e) q h = h
+      go (read vs next) q h =
+          let p = plantOf vs in
+          let l = few vs next q in
+          related-tells numbers (length plant) four five (p .q) (rootOf p) (safeOf p) (bandsOf p) (λ _. good p)
+          (omega (arith, length-tab (sideAt (p .rlo) (p .rhi)) (p .n) 0)) (omega (arith, length-tab (sideAt (p .slo) (p .shi)) (p .n) 0))
+          (omega (arith, length-tab (sideAt (p .wlo) (p .whi)) (p .n) 0)) tt
 
 pub plant-told : (plant : List ℕ) (e : Refusal) → plantJudged plant ≡ bad e → Telling plantNumbers (length plant) e
-unfolding P.plantJudged P.plantForm P.plantOf
-plant-told plant = judged-told plantNumbers (length plant) (plantJudged plant) (go (valuesOf plantForm plant) refl (file-tells plantNumbers plant refl refl plantForm (plant-tells (length plant))))
-  where
-    few : (vs : List ℤ) (next : ℕ) → valuesOf plantForm plant ≡ read vs next → plantOf vs .n ≤ 4
-    few vs next e = framed 16 (λ n modes. times (modes * n) (row n) end) vs (values-right plantForm plant 0 vs next (file-writes plantForm plant e .0)) .0 .n-high
+unfolding P.plantForm
+plant-told plant =
+    judged-told plantNumbers (length plant) (plantJudged plant) (plant-tells plantNumbers plant refl refl
+    (file-tells plantNumbers plant refl refl plantForm (headed-tells plantNumbers (length plant) refl refl 16 plantBody (plant-body-tells plantNumbers (length plant) refl))))
 
-    go : (t : Read (List ℤ)) → valuesOf plantForm plant ≡ t → ReadTells plantNumbers (length plant) t → JudgedTells plantNumbers (length plant) (plantRelated t)
-    go (refused e) q h = h
-    go (read vs next) q h =
-        let p = plantOf vs in
-        let l = few vs next q in
-        related-tells plantNumbers (length plant) refl refl (p .q) (rootOf p) (safeOf p) (bandsOf p) (λ _. good p)
-        (omega (arith, length-tab (sideAt (p .rlo) (p .rhi)) (p .n) 0)) (omega (arith, length-tab (sideAt (p .slo) (p .shi)) (p .n) 0))
-        (omega (arith, length-tab (sideAt (p .wlo) (p .whi)) (p .n) 0)) tt
+-- a plant handed over as values, whose form is right
+abbrev pub plantValueNumbers : List ℕ
+plantValueNumbers = 1 ∷ 3 ∷ 4 ∷ 5 ∷ []
+
+-- the first number of a file that was written stands in front
+form-stands : (bytes : List ℕ) → Stands (bytesOf 1 ++ bytes) 0 (bytesOf 1) 1
+unfolding N.groupsOf
+form-stands bytes = record { end = refl; bytes = refl }
+
+pub plant-file-told : (p : Plant) (e : Refusal) → plantJudged (plantFile p) ≡ bad e → Telling plantValueNumbers (length (plantFile p)) e
+unfolding P.plantForm P.numbersOf F.fileOf P.headed
+plant-file-told p =
+    let s = plantFile p in
+    judged-told plantValueNumbers (length s) (plantJudged s) (plant-tells plantValueNumbers s refl refl
+    (written-tells plantValueNumbers s refl refl 16 plantBody (plant-body-tells plantValueNumbers (length s) refl) 1 (form-stands _)))
 
 -- ---- sheets
 
@@ -226,17 +270,18 @@ sheetNumbers = 1 ∷ 2 ∷ 3 ∷ 4 ∷ 5 ∷ 13 ∷ 14 ∷ []
 abbrev pub sheetFormNumbers : List ℕ
 sheetFormNumbers = 1 ∷ 2 ∷ 3 ∷ 13 ∷ []
 
-sheet-tells : (size : ℕ) → Tells sheetFormNumbers size sheetForm
-unfolding S.sheetForm
-sheet-tells size =
-    headed-tells sheetFormNumbers size refl refl 1_000 _ (λ n r. edges-tell sheetFormNumbers size refl n (floatsForm n) (floats-tell sheetFormNumbers size refl refl n))
+sheet-body-tells : (numbers : List ℕ) (size : ℕ) → oneOf numbers 3 ≡ true → oneOf numbers 13 ≡ true → (n r : ℕ) → Tells numbers size (sheetBody n r)
+sheet-body-tells numbers size three thirteen n r = edges-tell numbers size three n (floatsForm n) (floats-tell numbers size three thirteen n)
+
+read-told : (numbers : List ℕ) (size : ℕ) (t : Read (List ℤ)) → ReadTells numbers size t → (e : Refusal) → t ≡ refused e → Telling numbers size e
+read-told numbers size (read vs next) h e q = never cc
+read-told numbers size (refused f) h e q = let z : f ≡ e = cc in rw z at h
 
 pub sheet-values-told : (sheet : List ℕ) (e : Refusal) → valuesOf sheetForm sheet ≡ refused e → Telling sheetFormNumbers (length sheet) e
-sheet-values-told sheet e = go (valuesOf sheetForm sheet) (file-tells sheetFormNumbers sheet refl refl sheetForm (sheet-tells (length sheet)))
-  where
-    go : (t : Read (List ℤ)) → ReadTells sheetFormNumbers (length sheet) t → t ≡ refused e → Telling sheetFormNumbers (length sheet) e
-    go (read vs next) h q = never cc
-    go (refused f) h q = let z : f ≡ e = cc in rw z at h
+unfolding S.sheetForm
+sheet-values-told sheet =
+    read-told sheetFormNumbers (length sheet) (valuesOf sheetForm sheet) (file-tells sheetFormNumbers sheet refl refl sheetForm
+    (headed-tells sheetFormNumbers (length sheet) refl refl 1_000 sheetBody (sheet-body-tells sheetFormNumbers (length sheet) refl refl)))
 
 -- the numbers of the plant file that a sheet makes: 6, 4 and 2 a dimension, and at most 320 coefficients
 numbers-many : (h : Sheet) → h .n ≤ 4 → length (madeNumbers h) ≤ 350
@@ -263,21 +308,39 @@ numbers-many h few =
       mul-le-mul (mul-le-mul a few) modes,
     )
 
-pub sheet-told : (sheet : List ℕ) (e : Refusal) → sheetJudged sheet ≡ bad e → Telling sheetNumbers (length sheet) e
-unfolding S.sheetJudged S.sheetForm S.sheetOf
-sheet-told sheet = judged-told sheetNumbers (length sheet) (sheetJudged sheet) (go (valuesOf sheetForm sheet) refl)
-  where
-    few : (vs : List ℤ) (next : ℕ) → valuesOf sheetForm sheet ≡ read vs next → sheetOf vs .n ≤ 4
-    few vs next e = framed 1_000 (λ n r. floatsForm n) vs (values-right sheetForm sheet 0 vs next (file-writes sheetForm sheet e .0)) .0 .n-high
+module _ (numbers sheet : List ℕ) (four : oneOf numbers 4 ≡ true) (five : oneOf numbers 5 ≡ true) (fourteen : oneOf numbers 14 ≡ true) where
+  sheet-tells : ReadTells numbers (length sheet) (valuesOf sheetForm sheet) → JudgedTells numbers (length sheet) (sheetJudged sheet)
+  unfolding S.sheetJudged S.sheetForm S.sheetOf
+  sheet-tells = go (valuesOf sheetForm sheet) refl
+    where
+      few : (vs : List ℤ) (next : ℕ) → valuesOf sheetForm sheet ≡ read vs next → sheetOf vs .n ≤ 4
+      few vs next e = framed 1_000 (λ n r. floatsForm n) vs (values-right sheetForm sheet 0 vs next (file-writes sheetForm sheet e .0)) .0 .n-high
 
-    go : (t : Read (List ℤ)) → valuesOf sheetForm sheet ≡ t → JudgedTells sheetNumbers (length sheet) (sheetRelated t)
-    go (refused e) q = told-more (sheet-values-told sheet e q) sheetNumbers refl
-    go (read vs next) q =
-        let h = sheetOf vs in
-        let l = few vs next q in
-        let fit = map isNear (madeNumbers h) in
-        related-tells sheetNumbers (length sheet) refl refl (h .q) (rootSheet h) (safeSheet h) (bandsSheet h) (λ _. fitting h λ _. good h)
-        (omega (arith, length-tab (sideAt (h .rlo) (h .rhi)) (h .n) 0)) (omega (arith, length-tab (sideAt (h .slo) (h .shi)) (h .n) 0))
-        (omega (arith, length-tab (sideAt (h .wlo) (h .whi)) (h .n) 0))
-        (guard-keeps (JudgedTells sheetNumbers (length sheet)) (all fit) (λ _. good h)
-        (λ e. record { number = refl; place = omega (arith, false-inside fit e, length-map (madeNumbers h) isNear, numbers-many h l); step = refl }) (λ _. tt))
+      go : (t : Read (List ℤ)) → valuesOf sheetForm sheet ≡ t → ReadTells numbers (length sheet) t → JudgedTells numbers (length sheet) (sheetRelated t)
+      go (refused e) q k = k
+      go (read vs next) q k =
+          let h = sheetOf vs in
+          let l = few vs next q in
+          let fit = map isNear (madeNumbers h) in
+          related-tells numbers (length sheet) four five (h .q) (rootSheet h) (safeSheet h) (bandsSheet h) (λ _. fitting h λ _. good h)
+          (omega (arith, length-tab (sideAt (h .rlo) (h .rhi)) (h .n) 0)) (omega (arith, length-tab (sideAt (h .slo) (h .shi)) (h .n) 0))
+          (omega (arith, length-tab (sideAt (h .wlo) (h .whi)) (h .n) 0))
+          (guard-keeps (JudgedTells numbers (length sheet)) (all fit) (λ _. good h)
+          (λ e. record { number = fourteen; place = omega (arith, false-inside fit e, length-map (madeNumbers h) isNear, numbers-many h l); step = refl }) (λ _. tt))
+
+pub sheet-told : (sheet : List ℕ) (e : Refusal) → sheetJudged sheet ≡ bad e → Telling sheetNumbers (length sheet) e
+unfolding S.sheetForm
+sheet-told sheet =
+    judged-told sheetNumbers (length sheet) (sheetJudged sheet) (sheet-tells sheetNumbers sheet refl refl refl
+    (file-tells sheetNumbers sheet refl refl sheetForm (headed-tells sheetNumbers (length sheet) refl refl 1_000 sheetBody (sheet-body-tells sheetNumbers (length sheet) refl refl))))
+
+-- a sheet handed over as values, whose form is right
+abbrev pub sheetValueNumbers : List ℕ
+sheetValueNumbers = 1 ∷ 3 ∷ 4 ∷ 5 ∷ 13 ∷ 14 ∷ []
+
+pub sheet-file-told : (h : Sheet) (e : Refusal) → sheetJudged (sheetFile h) ≡ bad e → Telling sheetValueNumbers (length (sheetFile h)) e
+unfolding S.sheetForm S.sheetValues F.fileOf P.headed
+sheet-file-told h =
+    let s = sheetFile h in
+    judged-told sheetValueNumbers (length s) (sheetJudged s) (sheet-tells sheetValueNumbers s refl refl refl
+    (written-tells sheetValueNumbers s refl refl 1_000 sheetBody (sheet-body-tells sheetValueNumbers (length s) refl refl) 1 (form-stands _)))

@@ -8,6 +8,7 @@ pub mod Checked
 pub mod Children
 pub mod Chosen
 pub mod Demand
+pub mod EachTold
 pub mod Exists
 pub mod Faults
 pub mod Files

@@ -1,5 +1,5 @@
--- Which numbers each entry point can tell, and of which file (document 01, "What each number says" and the order of judgement): a plant 1 to 5; sheet to plant
--- 1 to 5, 10, 13 and 14; the maker 1 to 5, 9 and 10; the checker and the controller the plant's own refusal, or, the plant being good, the table's: the checker
+-- Which numbers each entry point can tell, and of which file (document 01, "What each number says" and the order of judgement): a plant 1 to 5, a sheet 13 and
+-- 14 besides; their writers no 2, and 10; sheet to plant 1 to 5, 10, 13 and 14; the maker 1 to 5, 9 and 10; the checker and the controller the plant's own refusal, or, the plant being good, the table's: the checker
 -- 1, 2, 6, 7 and 8, the controller 1, 2, 6, 11 and 12. Places and steps are as page Telling says. And what is shown is 0 exactly where it is accepted,
 -- written, answered. Of all inputs. Relies on pages Faults, WalkTold and Made. Which refusal it is the definitions say.
 use Prim.Native.Nat.{ℕ, zero, suc, _≤_}
@@ -27,11 +27,12 @@ use Rattle.meaning.specs.declared.Answer.{Answer}
 use Rattle.meaning.specs.Refusals.{Shown, badState, short, verdictShown, writtenShown, answerShown}
 use Rattle.meaning.specs.Boxes.{side, sideAt, sidesOf, fits}
 use Rattle.meaning.specs.Buffers.{left, refusedWith}
-use Rattle.meaning.specs.Files.{Judged, good, bad}
-use Rattle.meaning.specs.Plants.{plantJudged, plantRead, readOf}
+use Rattle.meaning.specs.Files.{Judged, good, bad, fileJudged}
+use Rattle.meaning.specs.Plants as P
+use Rattle.meaning.specs.Plants.{plantJudged, plantRead, readOf, plantLeft}
 use Rattle.meaning.specs.Rules.{Rules, rule, holds}
 use Rattle.meaning.specs.Sheets as S
-use Rattle.meaning.specs.Sheets.{plantFileMade, sheetJudged, sheetRead, sheetReadOf, madeLeft}
+use Rattle.meaning.specs.Sheets.{plantFileMade, sheetJudged, sheetRead, sheetReadOf, madeLeft, sheetLeft}
 use Rattle.meaning.specs.Tables as T
 use Rattle.meaning.specs.Tables.{readingOf, rulesOf, onPlant, checked, made, makerLeft, controlled}
 use Rattle.meaning.specs.Verdicts as W
@@ -39,9 +40,11 @@ use Rattle.meaning.specs.Verdicts.{walk, header, verdict}
 use Rattle.meaning.specs.Control as C
 use Rattle.meaning.specs.Control.{modeAt, onFound, find, canRun, inside, stateCall, call}
 use Rattle.promises.specs.Boxes.{points, points-fit}
-use Rattle.promises.specs.Faults.{lies-size, dimension-in, plantNumbers, plant-told, sheetNumbers, sheet-told}
+use Rattle.promises.specs.Faults.{lies-size, dimension-in, plantNumbers, plant-told, plantValueNumbers, plant-file-told, sheetNumbers, sheet-told, sheetValueNumbers, sheet-file-told}
 use Rattle.promises.specs.Judged.{judged-sound}
 use Rattle.promises.specs.Made.{made-told}
+use Rattle.promises.specs.PlantFiles.{plantFile}
+use Rattle.promises.specs.SheetFiles.{sheetFile}
 use Rattle.promises.specs.Shows.{refusing, noMode, Some}
 use Rattle.promises.specs.Telling.{oneOf, areOf, Telling, guard-keeps, told-more, not-told}
 use Rattle.promises.specs.WalkTold.{FoundTells, walk-keeps, table-told, header-tells, walk-tells, find-tells, rule-tells}
@@ -53,6 +56,12 @@ sheetMakerNumbers = 1 ∷ 2 ∷ 3 ∷ 4 ∷ 5 ∷ 10 ∷ 13 ∷ 14 ∷ []
 
 abbrev pub makerNumbers : List ℕ
 makerNumbers = 1 ∷ 2 ∷ 3 ∷ 4 ∷ 5 ∷ 9 ∷ 10 ∷ []
+
+abbrev pub plantWriterNumbers : List ℕ
+plantWriterNumbers = 1 ∷ 3 ∷ 4 ∷ 5 ∷ 10 ∷ []
+
+abbrev pub sheetWriterNumbers : List ℕ
+sheetWriterNumbers = 1 ∷ 3 ∷ 4 ∷ 5 ∷ 10 ∷ 13 ∷ 14 ∷ []
 
 abbrev pub checkerNumbers : List ℕ
 checkerNumbers = 1 ∷ 2 ∷ 6 ∷ 7 ∷ 8 ∷ []
@@ -183,6 +192,24 @@ sheet-maker-told sheet buf =
     go (good h) w e q = never cc
     go (bad f) w e q = let z : f ≡ e = cc in sheet-told sheet e (rw z at w)
 
+-- writers of values
+file-told : {A : Type 0} (numbers : List ℕ) (size : ℕ) (bytes : List ℕ) (j : Judged A) → ((e : Refusal) → j ≡ bad e → Telling numbers size e)
+    → (e : Refusal) → fileJudged bytes j ≡ bad e → Telling numbers size e
+file-told numbers size bytes (good a) h e q = never cc
+file-told numbers size bytes (bad f) h e q = let z : f ≡ e = cc in h e (ap bad z)
+
+pub plant-writer-told : (p : Plant) (buf : List ℕ) (e : Refusal) → plantLeft p buf .answer ≡ Written.Refused e → Telling plantWriterNumbers (length (plantFile p)) e
+unfolding P.plantLeft
+plant-writer-told p buf =
+    let s = plantFile p in
+    left-told plantValueNumbers plantWriterNumbers (length s) (fileJudged s (plantJudged s)) (file-told plantValueNumbers (length s) s (plantJudged s) (plant-file-told p)) refl refl buf
+
+pub sheet-writer-told : (h : Sheet) (buf : List ℕ) (e : Refusal) → sheetLeft h buf .answer ≡ Written.Refused e → Telling sheetWriterNumbers (length (sheetFile h)) e
+unfolding S.sheetLeft
+sheet-writer-told h buf =
+    let s = sheetFile h in
+    left-told sheetValueNumbers sheetWriterNumbers (length s) (fileJudged s (sheetJudged s)) (file-told sheetValueNumbers (length s) s (sheetJudged s) (sheet-file-told h)) refl refl buf
+
 -- ---- what each entry point shows: 0 exactly where it is done, and else a refusal as above, with these values
 
 pub record Showing (Done : Type 0) (Tells : Refusal → Type 0) (otherwise : List ℤ) (a : Shown) : Type 0 where
@@ -262,3 +289,16 @@ pub controller-shows : (plant table : List ℕ) (st : State) (x : List ℤ)
     (answerShown (controlled plant table st x))
 controller-shows plant table st x =
     answer-shows (Told plant table controllerNumbers) (told-some plant table controllerNumbers refl) (controlled plant table st x) (controller-told plant table st x)
+
+-- the writers of values: places are those of the file that they would be
+pub plant-writer-shows : (p : Plant) (buf : List ℕ)
+    → Showing ((m : ℕ) × (plantLeft p buf .answer ≡ Written.Length m)) (Telling plantWriterNumbers (length (plantFile p))) [] (writtenShown (plantLeft p buf .answer))
+plant-writer-shows p buf =
+    let size = length (plantFile p) in
+    written-shows (Telling plantWriterNumbers size) (telling-some plantWriterNumbers size refl) (plantLeft p buf .answer) (plant-writer-told p buf)
+
+pub sheet-writer-shows : (h : Sheet) (buf : List ℕ)
+    → Showing ((m : ℕ) × (sheetLeft h buf .answer ≡ Written.Length m)) (Telling sheetWriterNumbers (length (sheetFile h))) [] (writtenShown (sheetLeft h buf .answer))
+sheet-writer-shows h buf =
+    let size = length (sheetFile h) in
+    written-shows (Telling sheetWriterNumbers size) (telling-some sheetWriterNumbers size refl) (sheetLeft h buf .answer) (sheet-writer-told h buf)
