@@ -12,8 +12,8 @@ enum-known-v : tie.Need-enum-known-v
 enum-known-v c = search needs
 
 -- a number has eight bits
-cast-result : tie.Need-cast-result
-cast-result c = search needs
+cast-number : tie.Need-cast-number
+cast-number c = search needs
 
 returns : tie.Need-returns
 returns c = of-case (sym (c .before .enum-told .given .1))
@@ -22,4 +22,4 @@ returns-2 : tie.Need-returns-2
 returns-2 c = of-case (sym (c .before .before .before .v .given .1))
 
 pub verdict-spec : {M : Type 1} → statement M
-verdict-spec = tie.close (tie.spec enum-told enum-known-v cast-result returns returns-2)
+verdict-spec = tie.close (tie.spec enum-told enum-known-v cast-number returns returns-2)
