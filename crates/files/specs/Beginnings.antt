@@ -64,8 +64,8 @@ beginningOf vs =
 
 -- ---- R lies within S, each band is wide enough: a verdict, which is told behind leftover bytes
 
-abbrev pub verdictOf : Judged (Unit {0}) → Verdict
-verdictOf (good u) = Verdict.Accepted
+abbrev pub verdictOf : {A : Type 0} → Judged A → Verdict
+verdictOf (good a) = Verdict.Accepted
 verdictOf (bad e) = Verdict.Refused e
 
 abbrev pub byVerdict : {A : Type 0} → Verdict → (Unit {0} → Judged A) → Judged A
@@ -77,7 +77,7 @@ abbrev pub relatedIn : {A : Type 0} → Beginning → (Unit {0} → Judged A) �
 relatedIn b rest = related (b .q) (sidesOf (b .n) (b .rlo) (b .rhi)) (sidesOf (b .n) (b .slo) (b .shi)) (sidesOf (b .n) (b .wlo) (b .whi)) rest
 
 abbrev pub relation : Beginning → Verdict
-relation b = verdictOf (relatedIn b λ _. good tt)
+relation b = verdictOf {A = Unit {0}} (relatedIn b λ _. good tt)
 
 -- the verdict says all that `related` does
 pub related-by : {A : Type 0} (b : Beginning) (rest : Unit {0} → Judged A) → relatedIn b rest ≡ byVerdict (relation b) rest
@@ -91,7 +91,7 @@ related-by b rest = go (all inSafe) (all allWide)
 
     go : (x y : Bool)
         → guard x (bad (notInSafe (firstFalse inSafe))) (λ _. guard y (bad (narrow (firstFalse allWide))) rest)
-        ≡ byVerdict (verdictOf (guard x (bad (notInSafe (firstFalse inSafe))) (λ _. guard y (bad (narrow (firstFalse allWide))) (λ _. good tt)))) rest
+        ≡ byVerdict (verdictOf {A = Unit {0}} (guard x (bad (notInSafe (firstFalse inSafe))) (λ _. guard y (bad (narrow (firstFalse allWide))) (λ _. good tt)))) rest
     go true true = refl
     go true false = refl
     go false y = refl

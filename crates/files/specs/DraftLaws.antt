@@ -1,35 +1,110 @@
--- A file put into an array first and then into a lent buffer, by a writer that stops at the end (laws, page Writing): what the array holds, and what is left
--- of the buffer. Assumes nothing.
-use Prim.Native.Nat.{ℕ, _≤_, _<_}
-use mathlib.Core.Path.{_≡_, refl, _∙_}
-use mathlib.Core.List.{List, _++_}
+-- A drafted file: how long it can be, that its array holds it, and that it is judged as the file that the values are, whatever is judged (plants and
+-- sheets). It is the same bytes where n and m are in range, and else refused alike. Relies on pages BeginningFiles and Refusing.
+use Prim.Native.Nat.{ℕ, _+_, _≤_, _<_}
+use mathlib.Core.Path.{_≡_, refl, sym, ap, _∙_}
+use mathlib.Core.List.{List, [], _++_}
 use native.Mathlib.Omega.{arith}
 use native.Mathlib.Nat.{zero-add}
-use lib.ListN.{length, drop, take}
+use native.Mathlib.Decide.{decLt}
+use lib.ListN.{length, drop, take, replicate, length-append, length-replicate}
 use lib.Seq.{take-append-seam, sets-eq}
-use borrow.Author.Tests.{lt-leb, le-leb}
+use lib.IntN.{ℤ}
+use borrow.Author.Tests.{lt-ltb, le-ltb}
 use Rattle.laws.specs.Writing.{Put, put-length}
-use Rattle.meaning.specs.declared.Written.{Written}
-use Rattle.meaning.specs.Refusals.{short}
-use Rattle.meaning.specs.Buffers.{left, refusedWith}
-use Rattle.meaning.specs.Files.{good}
+use Rattle.meaning.specs.declared.Refusal.{Refusal}
+use Rattle.meaning.specs.declared.Verdict.{Verdict}
+use Rattle.meaning.specs.Buffers.{left}
+use Rattle.meaning.specs.Files.{Form, Read, refused, ended, valuesAt, valuesOf, fileOf, Judged, good, bad, fileJudged}
+use Rattle.meaning.specs.Plants.{edgesAndBands}
+use Rattle.files.specs.declared.beginnings.Beginning.{Beginning}
+use Rattle.files.specs.Refusing.{Refusing, n-refusing, m-refusing}
+use Rattle.files.specs.Beginnings.{beginningForm, headOf, beginningNumbers, verdictOf, byVerdict, beginningBytes}
+use Rattle.files.specs.BeginningFiles.{file-drafted, draft-fails, file-fails, beginning-long}
+use Rattle.files.specs.Drafts.{draftBytes}
 
-module _ (bs buf : List ℕ) (r : ℕ) (out : List ℕ) (t : Put buf 0 bs r out) where
-  pub short-file : length buf < r → left (good bs) buf ≡ refusedWith short buf
-  short-file l = let g : length buf < length bs = omega (arith, t .place) in simp (lt-leb _ _ g)
+-- ---- the three cases of a draft
 
-  pub done-file : r ≤ length buf → left (good bs) buf ≡ record { answer = Written.Length r; buffer = out }
-  done-file l =
-      let g : length bs ≤ length buf = omega (arith, t .place) in
-      let q : length bs ≡ r = omega (arith, t .place) in
-      simp (le-leb _ _ g) (rw (q, t .bytes) refl)
+module _ (most : ℕ) (b : Beginning) (rest : List ℕ) where
+  pub wide-draft : 4 < b .n → draftBytes most b rest ≡ beginningBytes b ++ []
+  unfolding draftBytes
+  wide-draft h = simp (lt-ltb _ _ h)
+
+  pub many-draft : b .n ≤ 4 → most < b .m → draftBytes most b rest ≡ beginningBytes b ++ []
+  unfolding draftBytes
+  many-draft h l = simp (le-ltb _ _ h, lt-ltb _ _ l)
+
+  pub whole-draft : b .n ≤ 4 → b .m ≤ most → draftBytes most b rest ≡ beginningBytes b ++ rest
+  unfolding draftBytes
+  whole-draft h l = simp (le-ltb _ _ h, le-ltb _ _ l)
+
+-- either the header is refused, whatever stands behind it, or all is drafted
+data Drafted (most : ℕ) (b : Beginning) (rest : List ℕ) : Type 0 where
+  header-out : draftBytes most b rest ≡ beginningBytes b ++ [] → Refusing most (headOf b) → Drafted most b rest
+  all-drafted : b .n ≤ 4 → b .m ≤ most → draftBytes most b rest ≡ beginningBytes b ++ rest → Drafted most b rest
+
+module _ (most : ℕ) (some : 1 ≤ most) (b : Beginning) (rest : List ℕ) where
+  drafted : Drafted most b rest
+  drafted = go (decLt 4 (b .n)) (decLt most (b .m))
+    where
+      go : Dec (4 < b .n) → Dec (most < b .m) → Drafted most b rest
+      go (yes h) l = header-out (wide-draft most b rest h) (n-refusing most (headOf b) h)
+      go (no h) (yes l) = header-out (many-draft most b rest (omega arith) l) (m-refusing most (headOf b) (omega arith) some l)
+      go (no h) (no l) = all-drafted (omega arith) (omega arith) (whole-draft most b rest (omega arith) (omega arith))
+
+  pub draft-long : (k : ℕ) → (b .n ≤ 4 → b .m ≤ most → length rest ≤ k) → length (draftBytes most b rest) ≤ 300 + k
+  draft-long k long = go drafted
+    where
+      go : Drafted most b rest → length (draftBytes most b rest) ≤ 300 + k
+      go (header-out e w) = rw e (omega (arith, length-append (beginningBytes b) [], beginning-long b))
+      go (all-drafted h l e) = rw e (omega (arith, length-append (beginningBytes b) rest, beginning-long b, long h l))
+
+  -- ---- judged as the file of the values is, behind the beginning's those that the rest says; and where it is taken it is that file
+
+  module _ {A : Type 0} (judged : Read (List ℤ) → Judged A) (refuses : (e : Refusal) → judged (refused e) ≡ bad e) (more : ℕ → ℕ → Form) (vs : List ℤ) (says : fileOf (more (b .n) (b .m)) vs ≡ rest) where
+    abbrev form : Form
+    form = beginningForm most more
+
+    abbrev file : List ℕ
+    file = fileOf form (beginningNumbers b ++ vs)
+
+    abbrev draft : List ℕ
+    draft = draftBytes most b rest
+
+    abbrev judgedFile : List ℕ → Judged (List ℕ)
+    judgedFile s = fileJudged s (judged (valuesOf form s))
+
+    draft-judged : judgedFile file ≡ judgedFile draft
+    draft-judged = go drafted
+      where
+        out : (s : List ℕ) (e : Refusal) → valuesAt form s 0 ≡ refused e → judgedFile s ≡ bad e
+        out s e q = ap (fileJudged s) (ap (λ (x : Read (List ℤ)). judged (ended s x)) q ∙ refuses e)
+
+        go : Drafted most b rest → judgedFile file ≡ judgedFile draft
+        go (header-out e w) =
+            out file (w .refusal) (file-fails b w (λ n m. edgesAndBands n (more n m)) more vs)
+            ∙ sym (out draft (w .refusal) (ap (λ (s : List ℕ). valuesAt form s 0) e ∙ draft-fails b w (λ n m. edgesAndBands n (more n m)) []))
+        go (all-drafted h l e) = ap judgedFile (file-drafted b h most more vs ∙ ap (λ (bs : List ℕ). beginningBytes b ++ bs) says ∙ sym e)
+
+    -- so what is left of a lent buffer is told by the draft s and its verdict v
+    pub draft-left : (s : List ℕ) (v : Verdict) → s ≡ draft → v ≡ verdictOf (judged (valuesOf form s)) → (buf : List ℕ) → left (byVerdict v λ _. good s) buf ≡ left (judgedFile file) buf
+    draft-left s v e q buf =
+        ap (λ (x : Verdict). left (byVerdict x λ _. good s) buf) q
+        ∙ ap (λ (j : Judged (List ℕ)). left j buf) (told (judged (valuesOf form s)) ∙ ap judgedFile e ∙ sym draft-judged)
+      where
+        told : (j : Judged A) → byVerdict (verdictOf j) (λ _. good s) ≡ fileJudged s j
+        told (good a) = refl
+        told (bad r) = refl
+
+-- ---- in an array of k bytes
 
 pub record InDraft (bs : List ℕ) (r : ℕ) (out : List ℕ) : Type 0 where
   pub fits : r ≤ length out
   pub front : take r out ≡ bs
 
-pub file-in-draft : (bs b : List ℕ) (r : ℕ) (out : List ℕ) → length bs ≤ length b → Put b 0 bs r out → InDraft bs r out
-file-in-draft bs b r out l t =
+pub in-array : (k : ℕ) (bs : List ℕ) (r : ℕ) (out : List ℕ) → length bs ≤ k → Put (replicate k 0) 0 bs r out → InDraft bs r out
+in-array k bs r out l t =
+    let b : List ℕ = replicate k 0 in
+    let n : length b ≡ k = length-replicate {A = ℕ} k 0 in
     let q : r ≡ length bs = omega (arith, t .place) in
     let e : out ≡ bs ++ drop (length bs) b = t .bytes ∙ sets-eq bs b 0 (omega arith) ∙ rw (zero-add (length bs)) refl in
     record { fits = omega (arith, put-length t); front = rw (q, e) (take-append-seam bs (drop (length bs) b)) }

@@ -10,6 +10,6 @@ pub mod Rows
 pub mod Beginnings
 pub mod BeginningLaws
 pub mod BeginningFiles
-pub mod Plants
 pub mod Drafts
 pub mod DraftLaws
+pub mod Plants

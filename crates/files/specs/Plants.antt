@@ -1,17 +1,20 @@
--- A plant's file as the code reads it: what stands behind the beginning. Assumes nothing.
+-- A plant's file as the code reads it, what stands behind the beginning, and as it drafts it. Definitions alone.
 use Prim.Native.Nat.{ℕ, _*_}
 use mathlib.Core.List.{List}
 use lib.IntN.{ℤ}
+use Rattle.laws.specs.Lists.{at, tab}
 use Rattle.meaning.specs.declared.Refusal.{Refusal}
 use Rattle.meaning.specs.declared.Walk.{Walk}
 use Rattle.meaning.specs.declared.Plant.{Plant}
 use Rattle.meaning.specs.declared.PlantRead.{PlantRead}
 use Rattle.meaning.specs.Refusals.{unfit}
 use Rattle.meaning.specs.Files.{Form, end, Read, ended, valuesAt}
-use Rattle.meaning.specs.Plants.{times, row, plantRelated, readOf}
+use Rattle.meaning.specs.Plants.{times, row, coefCount, plantRelated, readOf}
 use Rattle.files.specs.declared.beginnings.Beginning.{Beginning}
 use Rattle.files.specs.Parts.{behind}
+use Rattle.files.specs.Signed.{signedBytes}
 use Rattle.files.specs.Beginnings.{beginningNumbers}
+use Rattle.files.specs.Drafts.{draftBytes}
 
 abbrev pub refusalOf : Walk → Refusal
 refusalOf (Walk.Refused e) = e
@@ -58,3 +61,11 @@ plantBeginning p = record {
   wlo = p .wlo;
   whi = p .whi;
 }
+
+-- ---- drafted: the coefficients behind the beginning
+
+abbrev pub coefNumbers : Plant → List ℤ
+coefNumbers p = tab (at (p .coef)) (coefCount (p .modes) (p .n)) 0
+
+unfoldable pub plantDraft : Plant → List ℕ
+plantDraft p = draftBytes 16 (plantBeginning p) (signedBytes (coefNumbers p))

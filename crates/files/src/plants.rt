@@ -15,8 +15,7 @@ ghost use Rattle.meaning.specs.Files.{good, bad};
 ghost use Rattle.laws.specs.Writing.{Put};
 ghost use Rattle.meaning.specs.Plants.{readOf, plantRead, plantLeft};
 ghost use Rattle.files.specs.Beginnings.{relation, Begun};
-ghost use Rattle.files.specs.Plants.{refusalOf, bodyRead, plantFrom};
-ghost use Rattle.files.specs.Drafts.{draftBytes};
+ghost use Rattle.files.specs.Plants.{refusalOf, bodyRead, plantFrom, plantDraft};
 
 // A refused plant is all zeros.
 fn refused(e: Refusal) -> PlantRead
@@ -117,7 +116,7 @@ pub fn read_plant(s: &[u8]) -> PlantRead
 
 // The file that the values would be, as far as there is room; the place behind it. Where n or N is out of range what follows is left out: the header is refused first.
 fn put_plant(p: Plant, buf: &mut [u8]) -> usize
-    ensures { λ r. ⌜ Put (now (buf .entry)) 0 (draftBytes p) r (now (buf .exit)) ⌝ }
+    ensures { λ r. ⌜ Put (now (buf .entry)) 0 (plantDraft p) r (now (buf .exit)) ⌝ }
 {
     let n = p.n;
     let modes = p.modes;
@@ -158,20 +157,8 @@ pub fn write_plant(p: Plant, buf: &mut [u8]) -> Written
 {
     let mut draft = [0u8; 3500];
     let drafted = put_plant(p, &mut draft);
-    let read = read_plant(&draft[..drafted]);
+    let file = &draft[..drafted];
+    let read = read_plant(file);
     let verdict = read.verdict;
-    match verdict {
-        Verdict::Refused(e) => {
-            buffers::clear(buf);
-            Written::Refused(e)
-        }
-        Verdict::Accepted => {
-            let length = put_plant(p, buf);
-            if buf.len() < length {
-                buffers::clear(buf);
-                return Written::Refused(refusals::short());
-            }
-            Written::Length(length)
-        }
-    }
+    buffers::leave(verdict, file, buf)
 }

@@ -2,9 +2,8 @@
 -- Relies on promises' page SheetRooms.
 use Prim.Native.Nat.{ℕ}
 use mathlib.Core.Path.{_≡_, refl}
-use mathlib.Core.Bool.{Bool, true, false, cond}
+use mathlib.Core.Bool.{Bool, true, false}
 use mathlib.Core.List.{List, [], _∷_, _++_, map}
-use lib.Dec.{ltb}
 use lib.IntN.{ℤ}
 use lib.Ieee.{Float}
 use Rattle.laws.specs.Guards.{guard}
@@ -21,7 +20,8 @@ use Rattle.meaning.specs.Sheets.{bitsOf, floating, anyFloat, above, roomForm, s
 use Rattle.promises.specs.SheetRooms.{Held}
 use Rattle.files.specs.declared.beginnings.Beginning.{Beginning}
 use Rattle.files.specs.Parts.{behind, Holds, Fails}
-use Rattle.files.specs.Beginnings.{beginningNumbers, beginningBytes}
+use Rattle.files.specs.Beginnings.{beginningNumbers}
+use Rattle.files.specs.Drafts.{draftBytes}
 use Rattle.sheets.specs.declared.sheets.TimeOutside.{TimeOutside}
 use Rattle.sheets.specs.Floats.{floatBytes}
 use Rattle.sheets.specs.Rooms.{bytesOfRoom}
@@ -130,10 +130,10 @@ SizedAs h (Verdict.Refused e) = Unit {0}
 abbrev pub TakenSized : SheetRead → Type 0
 TakenSized r = SizedAs (r .sheet) (r .verdict)
 
--- ---- drafted: an n over 4 is refused in the header, before anything behind it is read
+-- ---- drafted: the two floats and the rooms behind the beginning
 
 abbrev pub restBytes : Sheet → List ℕ
 restBytes h = floatBytes (h .time) ++ (floatBytes (h .outside) ++ tabs (bytesOfRoom (h .n) (h .rooms)) (h .n) 0)
 
-unfoldable pub draftBytes : Sheet → List ℕ
-draftBytes h = beginningBytes (sheetBeginning h) ++ cond (ltb 4 (h .n)) [] (restBytes h)
+unfoldable pub sheetDraft : Sheet → List ℕ
+sheetDraft h = draftBytes 1000 (sheetBeginning h) (restBytes h)

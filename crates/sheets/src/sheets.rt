@@ -23,7 +23,7 @@ ghost use Rattle.meaning.specs.Files.{good, bad};
 ghost use Rattle.meaning.specs.Sheets.{sheetReadOf, sheetRead, sheetLeft, madeLeft};
 ghost use Rattle.files.specs.Plants.{refusalOf};
 ghost use Rattle.files.specs.Beginnings.{relation, Begun};
-ghost use Rattle.sheets.specs.Sheets.{TimeTold, unfitted, thenFitting, bodyRead, sheetFrom, TakenSized, draftBytes};
+ghost use Rattle.sheets.specs.Sheets.{TimeTold, unfitted, thenFitting, bodyRead, sheetFrom, TakenSized, sheetDraft};
 ghost use Rattle.sheets.specs.Sizes.{Sized};
 
 // A refused sheet is all zeros.
@@ -186,11 +186,12 @@ pub fn read_sheet(s: &[u8]) -> SheetRead
     }
 }
 
-// The file that the values would be, as far as there is room; the place behind it. Where n is out of range the header says it all.
+// The file that the values would be, as far as there is room; the place behind it. Where n or r is out of range what follows is left out: the header is refused first.
 fn put_sheet(h: Sheet, buf: &mut [u8]) -> usize
-    ensures { λ r. ⌜ Put (now (buf .entry)) 0 (draftBytes h) r (now (buf .exit)) ⌝ }
+    ensures { λ r. ⌜ Put (now (buf .entry)) 0 (sheetDraft h) r (now (buf .exit)) ⌝ }
 {
     let n = h.n;
+    let r = h.r;
     let rlo = h.rlo;
     let rhi = h.rhi;
     let slo = h.slo;
@@ -199,7 +200,7 @@ fn put_sheet(h: Sheet, buf: &mut [u8]) -> usize
     let whi = h.whi;
     let b = Beginning {
         n,
-        m: h.r,
+        m: r,
         q: h.q,
         k: h.k,
         d: h.d,
@@ -212,6 +213,9 @@ fn put_sheet(h: Sheet, buf: &mut [u8]) -> usize
     };
     let past = beginnings::put_beginning(buf, b);
     if 4 < n {
+        return past;
+    }
+    if 1_000 < r {
         return past;
     }
     let past_time = floats::put_float(buf, past, h.time);
@@ -227,22 +231,10 @@ pub fn write_sheet(h: Sheet, buf: &mut [u8]) -> Written
 {
     let mut draft = [0u8; 512];
     let drafted = put_sheet(h, &mut draft);
-    let read = read_sheet(&draft[..drafted]);
+    let file = &draft[..drafted];
+    let read = read_sheet(file);
     let verdict = read.verdict;
-    match verdict {
-        Verdict::Refused(e) => {
-            buffers::clear(buf);
-            Written::Refused(e)
-        }
-        Verdict::Accepted => {
-            let length = put_sheet(h, buf);
-            if buf.len() < length {
-                buffers::clear(buf);
-                return Written::Refused(files::refusals::short());
-            }
-            Written::Length(length)
-        }
-    }
+    buffers::leave(verdict, file, buf)
 }
 
 // The plant file of a sheet's file, judged as the sheet, then 10. Finished, only the file's bytes are changed; refused, the buffer is all zeros.
@@ -253,18 +245,14 @@ pub fn make_plant(sheet: &[u8], buf: &mut [u8]) -> Written
     let read = read_values(sheet);
     let verdict = read.verdict;
     match verdict {
-        Verdict::Refused(e) => {
-            buffers::clear(buf);
-            Written::Refused(e)
-        }
+        Verdict::Refused(e) => buffers::refuse(e, buf),
         Verdict::Accepted => {
             let made = made::make(read.sheet);
             if made.fits {
                 let plant = made.plant;
                 return plants::write_plant(plant, buf);
             }
-            buffers::clear(buf);
-            Written::Refused(refusals::bad_result(made.place))
+            buffers::refuse(refusals::bad_result(made.place), buf)
         }
     }
 }

@@ -2,8 +2,10 @@
 use mathlib.Core.List.{append-nil}
 use native.Mathlib.Omega.{arith}
 use Rattle.laws.specs.Writing.{put-append, put-length}
+use Rattle.files.specs.Signed.{signedBytes}
+use Rattle.files.specs.DraftLaws.{wide-draft, many-draft, whole-draft}
+use Rattle.files.specs.Plants.{plantBeginning, coefNumbers, plantDraft}
 use Rattle.files.proofs.rows.Laws.{few-numbers}
-use Rattle.files.proofs.plants.Drafts.{wide-draft, many-draft, whole-draft}
 use borrow.Author.Needs.{needs}
 use Rattle.files.proofs.plants.put_plant.Statement.{statement}
 use Rattle.files.proofs.plants.put_plant.Tie as tie
@@ -15,13 +17,19 @@ same-length : tie.Need-same-length
 same-length c = search needs
 
 returns : tie.Need-returns
-returns c = rw (wide-draft (c .before .before .before .before .before .before .before .before .before .before .before .before .args .p) (c .if1 .taken), append-nil) (c .before .before .before .put-beginning .ensures)
+unfolding plantDraft
+returns c =
+    let p = c .before .before .before .before .before .before .before .before .before .before .before .before .args .p in
+    rw (wide-draft 16 (plantBeginning p) (signedBytes (coefNumbers p)) (c .if1 .taken), append-nil) (c .before .before .before .put-beginning .ensures)
 
 same-length-2 : tie.Need-same-length-2
 same-length-2 c = search needs
 
 returns-2 : tie.Need-returns-2
-returns-2 c = rw (many-draft (c .before .before .before .before .before .before .before .before .before .before .before .before .before .args .p) (c .before .if1 .left) (c .if2 .taken), append-nil) (c .before .before .before .before .put-beginning .ensures)
+unfolding plantDraft
+returns-2 c =
+    let p = c .before .before .before .before .before .before .before .before .before .before .before .before .before .args .p in
+    rw (many-draft 16 (plantBeginning p) (signedBytes (coefNumbers p)) (c .before .if1 .left) (c .if2 .taken), append-nil) (c .before .before .before .before .put-beginning .ensures)
 
 mul-put-rows : tie.Need-mul-put-rows
 mul-put-rows c =
@@ -46,8 +54,10 @@ same-length-3 : tie.Need-same-length-3
 same-length-3 c = search needs
 
 returns-3 : tie.Need-returns-3
+unfolding plantDraft
 returns-3 c =
-    rw (whole-draft (c .before .before .before .before .before .before .before .before .before .before .before .before .before .before .before .before .before .before .args .p) (c .before .before .before .before .before .before .if1 .left) (c .before .before .before .before .before .if2 .left))
+    let p = c .before .before .before .before .before .before .before .before .before .before .before .before .before .before .before .before .before .before .args .p in
+    rw (whole-draft 16 (plantBeginning p) (signedBytes (coefNumbers p)) (c .before .before .before .before .before .before .if1 .left) (c .before .before .before .before .before .if2 .left))
     (put-append (c .before .before .before .before .before .before .before .before .before .put-beginning .ensures) (c .before .before .put-rows .ensures))
 
 pub put-plant-spec : {M : Type 1} → statement M

@@ -1,8 +1,8 @@
 -- `sheets::make_plant`: what was read up to and with 5, then 14 of the plant that is made, then the plant's writer. Assumes nothing.
 use mathlib.Core.Path.{sym, ap, _∙_, subst}
 use denote.Ref.{now}
-use Rattle.meaning.specs.declared.Written.{Written}
-use Rattle.meaning.specs.Buffers.{Left}
+use Rattle.meaning.specs.declared.Refusal.{Refusal}
+use Rattle.meaning.specs.Buffers.{Left, refusedWith}
 use Rattle.promises.specs.SheetPlants.{made-refused}
 use Rattle.sheets.specs.Sheets.{SizedAs}
 use Rattle.sheets.proofs.sheets.Fitting.{values-refused, unfit-left, fit-left}
@@ -16,8 +16,8 @@ read-values-requires c κs = search needs
 enum-known-verdict : tie.Need-enum-known-verdict
 enum-known-verdict c = search needs
 
-clear-requires : tie.Need-clear-requires
-clear-requires c κs = search needs
+refuse-requires : tie.Need-refuse-requires
+refuse-requires c κs = search needs
 
 enum-told : tie.Need-enum-told
 enum-told c = search needs
@@ -42,11 +42,11 @@ returns c =
     let e = fit-left (now (z .sheet)) (r .result) (r .ensures .0) (c .before .before .before .before .before .before .before .enum-told .given .1) (m .result) (m .ensures) (now (z .buf)) (c .before .before .before .before .before .if1 .taken) in
     (w .ensures .0 ∙ ap (λ (x : Left). x .answer) (sym e), w .ensures .1 ∙ ap (λ (x : Left). x .buffer) (sym e))
 
-clear-requires-2 : tie.Need-clear-requires-2
-clear-requires-2 c κs = search needs
-
 bad-result-requires : tie.Need-bad-result-requires
 bad-result-requires c κs = search needs
+
+refuse-requires-2 : tie.Need-refuse-requires-2
+refuse-requires-2 c κs = search needs
 
 same-length-2 : tie.Need-same-length-2
 same-length-2 c = search needs
@@ -57,7 +57,8 @@ returns-2 c =
     let r = c .before .before .before .before .before .before .before .read-values in
     let g = c .before .before .before .before .before .verdict .given in
     let e = made-refused (now (z .sheet)) (g .0 .0) (values-refused (now (z .sheet)) (r .result) (r .ensures .0) (g .0 .0) (g .1)) (now (z .buf)) in
-    (ap (λ (x : Left). x .answer) (sym e), c .before .before .clear .ensures ∙ ap (λ (x : Left). x .buffer) (sym e))
+    let w = c .before .before .refuse in
+    (w .ensures .0 ∙ ap (λ (x : Left). x .answer) (sym e), w .ensures .1 ∙ ap (λ (x : Left). x .buffer) (sym e))
 
 same-length-3 : tie.Need-same-length-3
 same-length-3 c = search needs
@@ -67,8 +68,11 @@ returns-3 c =
     let z = c .before .before .before .before .before .before .before .before .before .before .before .before .args in
     let r = c .before .before .before .before .before .before .before .before .before .read-values in
     let m = c .before .before .before .before .before .before .make in
-    let e = unfit-left (now (z .sheet)) (r .result) (r .ensures .0) (c .before .before .before .before .before .before .before .enum-told .given .1) (m .result) (m .ensures) (now (z .buf)) (c .before .before .before .before .before .if1 .left) in
-    (ap Written.Refused (c .bad-result .ensures) ∙ ap (λ (x : Left). x .answer) (sym e), c .before .before .before .clear2 .ensures ∙ ap (λ (x : Left). x .buffer) (sym e))
+    let e =
+    ap (λ (x : Refusal). refusedWith x (now (z .buf))) (c .before .before .before .before .bad-result .ensures)
+    ∙ sym (unfit-left (now (z .sheet)) (r .result) (r .ensures .0) (c .before .before .before .before .before .before .before .enum-told .given .1) (m .result) (m .ensures) (now (z .buf)) (c .before .before .before .before .before .if1 .left)) in
+    let w = c .before .before .refuse2 in
+    (w .ensures .0 ∙ ap (λ (x : Left). x .answer) e, w .ensures .1 ∙ ap (λ (x : Left). x .buffer) e)
 
 pub make-plant-spec : {M : Type 1} → statement M
 make-plant-spec =
@@ -76,14 +80,14 @@ make-plant-spec =
     (tie.spec
     read-values-requires
     enum-known-verdict
-    clear-requires
+    refuse-requires
     enum-told
     make-requires
     write-plant-requires
     same-length
     returns
-    clear-requires-2
     bad-result-requires
+    refuse-requires-2
     same-length-2
     returns-2
     same-length-3
