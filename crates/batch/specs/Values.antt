@@ -23,8 +23,8 @@ abbrev pub plantEdges : Plant → List (List ℤ)
 plantEdges p = p .rlo ∷ p .rhi ∷ p .slo ∷ p .shi ∷ p .wlo ∷ p .whi ∷ []
 
 -- the plant that is handed in
-abbrev pub plantFrom : List ℕ → List (List ℤ) → List ℤ → Plant
-plantFrom header edges coef =
+abbrev pub plantHanded : List ℕ → List (List ℤ) → List ℤ → Plant
+plantHanded header edges coef =
     record {
       n = getD header 0 0;
       modes = getD header 1 0;
@@ -97,8 +97,8 @@ abbrev pub sheetTimes : Sheet → List Float
 sheetTimes h = h .time ∷ h .outside ∷ []
 
 -- the sheet that is handed in
-abbrev pub sheetFrom : List ℕ → List (List ℤ) → List Float → List ℕ → List (List Float) → Sheet
-sheetFrom header edges times kinds floats =
+abbrev pub sheetHanded : List ℕ → List (List ℤ) → List Float → List ℕ → List (List Float) → Sheet
+sheetHanded header edges times kinds floats =
     record {
       n = getD header 0 0;
       r = getD header 1 0;

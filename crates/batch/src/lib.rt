@@ -12,7 +12,7 @@ ghost use Rattle.meaning.specs.Plants.{plantRead, plantLeft};
 ghost use Rattle.meaning.specs.Sheets.{sheetRead, sheetLeft};
 ghost use Rattle.meaning.specs.Refusals.{verdictShown, writtenShown};
 ghost use Rattle.face.specs.Shown.{placeAndStep, lengthOrPlace};
-ghost use Rattle.batch.specs.Values.{plantHeader, plantEdges, plantFrom, kindsOf, allFloatsOf, sheetHeader, sheetEdges, sheetTimes, sheetFrom};
+ghost use Rattle.batch.specs.Values.{plantHeader, plantEdges, plantHanded, kindsOf, allFloatsOf, sheetHeader, sheetEdges, sheetTimes, sheetHanded};
 
 // A plant file: 0, or the number that it is refused by; out holds place and step. Its values: n, N, q, K, D; R lo, R hi, S lo, S hi, w lo, w hi; the
 // coefficients.
@@ -56,9 +56,9 @@ pub extern "C" fn batch_write_plant(
     buf: &mut [u8],
     out: &mut [u64; 2],
 ) -> u64
-    ensures number { λ r. ⌜ r ≡ writtenShown (plantLeft (plantFrom (now (header .entry)) (now (edges .entry)) (now (coef .entry))) (now (buf .entry)) .answer) .number ⌝ }
-    ensures length { λ r. ⌜ now (out .exit) ≡ lengthOrPlace (plantLeft (plantFrom (now (header .entry)) (now (edges .entry)) (now (coef .entry))) (now (buf .entry)) .answer) ⌝ }
-    ensures bytes { λ r. ⌜ now (buf .exit) ≡ plantLeft (plantFrom (now (header .entry)) (now (edges .entry)) (now (coef .entry))) (now (buf .entry)) .buffer ⌝ }
+    ensures number { λ r. ⌜ r ≡ writtenShown (plantLeft (plantHanded (now (header .entry)) (now (edges .entry)) (now (coef .entry))) (now (buf .entry)) .answer) .number ⌝ }
+    ensures length { λ r. ⌜ now (out .exit) ≡ lengthOrPlace (plantLeft (plantHanded (now (header .entry)) (now (edges .entry)) (now (coef .entry))) (now (buf .entry)) .answer) ⌝ }
+    ensures bytes { λ r. ⌜ now (buf .exit) ≡ plantLeft (plantHanded (now (header .entry)) (now (edges .entry)) (now (coef .entry))) (now (buf .entry)) .buffer ⌝ }
 {
     let rlo = edges[0];
     let rhi = edges[1];
@@ -135,9 +135,9 @@ pub extern "C" fn batch_write_sheet(
     buf: &mut [u8],
     out: &mut [u64; 2],
 ) -> u64
-    ensures number { λ r. ⌜ r ≡ writtenShown (sheetLeft (sheetFrom (now (header .entry)) (now (edges .entry)) (now (times .entry)) (now (kinds .entry)) (now (floats .entry))) (now (buf .entry)) .answer) .number ⌝ }
-    ensures length { λ r. ⌜ now (out .exit) ≡ lengthOrPlace (sheetLeft (sheetFrom (now (header .entry)) (now (edges .entry)) (now (times .entry)) (now (kinds .entry)) (now (floats .entry))) (now (buf .entry)) .answer) ⌝ }
-    ensures bytes { λ r. ⌜ now (buf .exit) ≡ sheetLeft (sheetFrom (now (header .entry)) (now (edges .entry)) (now (times .entry)) (now (kinds .entry)) (now (floats .entry))) (now (buf .entry)) .buffer ⌝ }
+    ensures number { λ r. ⌜ r ≡ writtenShown (sheetLeft (sheetHanded (now (header .entry)) (now (edges .entry)) (now (times .entry)) (now (kinds .entry)) (now (floats .entry))) (now (buf .entry)) .answer) .number ⌝ }
+    ensures length { λ r. ⌜ now (out .exit) ≡ lengthOrPlace (sheetLeft (sheetHanded (now (header .entry)) (now (edges .entry)) (now (times .entry)) (now (kinds .entry)) (now (floats .entry))) (now (buf .entry)) .answer) ⌝ }
+    ensures bytes { λ r. ⌜ now (buf .exit) ≡ sheetLeft (sheetHanded (now (header .entry)) (now (edges .entry)) (now (times .entry)) (now (kinds .entry)) (now (floats .entry))) (now (buf .entry)) .buffer ⌝ }
 {
     let rlo = edges[0];
     let rhi = edges[1];

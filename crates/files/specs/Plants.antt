@@ -30,9 +30,9 @@ valuesBehind s b at = behind (beginningNumbers b) (valuesAt (rowsForm (b .n) (b 
 abbrev pub bodyRead : List ℕ → Beginning → ℕ → PlantRead
 bodyRead s b at = readOf (plantRelated (ended s (valuesBehind s b at)))
 
--- a beginning and the coefficients of the modes as a plant, and the beginning of a plant
-abbrev pub plantFrom : Beginning → List ℤ → Plant
-plantFrom b coef = record {
+-- a beginning with the coefficients of the modes as a plant, and the beginning of a plant
+abbrev pub plantWith : Beginning → List ℤ → Plant
+plantWith b coef = record {
   n = b .n;
   modes = b .m;
   q = b .q;

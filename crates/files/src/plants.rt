@@ -15,7 +15,7 @@ ghost use Rattle.meaning.specs.Files.{good, bad};
 ghost use Rattle.laws.specs.Writing.{Put};
 ghost use Rattle.meaning.specs.Plants.{readOf, plantRead, plantLeft};
 ghost use Rattle.files.specs.Beginnings.{relation, Begun};
-ghost use Rattle.files.specs.Plants.{refusalOf, bodyRead, plantFrom, plantDraft};
+ghost use Rattle.files.specs.Plants.{refusalOf, bodyRead, plantWith, plantDraft};
 
 // A refused plant is all zeros.
 fn refused(e: Refusal) -> PlantRead
@@ -52,7 +52,7 @@ fn refused_by(w: Walk) -> PlantRead
 
 // A beginning and the coefficients of the modes, put together.
 fn accepted(b: Beginning, coef: [i64; 320]) -> PlantRead
-    ensures { λ r. ⌜ r ≡ readOf (good (plantFrom b coef)) ⌝ }
+    ensures { λ r. ⌜ r ≡ readOf (good (plantWith b coef)) ⌝ }
 {
     let rlo = b.rlo;
     let rhi = b.rhi;

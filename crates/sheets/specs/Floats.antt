@@ -1,4 +1,4 @@
--- A float of a sheet as the code reads it: its pattern, what is asked of it, and the part of a form that it is. Relies on promises' page SheetRooms.
+-- A float of a sheet as the code reads it: its bits, what is asked of it, and the part of a form that it is. Relies on promises' page SheetRooms.
 use Prim.Native.Nat.{ℕ}
 use mathlib.Core.Bool.{Bool}
 use mathlib.Core.List.{List, [], _∷_}
@@ -8,20 +8,20 @@ use Rattle.meaning.specs.Files.{Taken, taken, none, lowFirst}
 use Rattle.meaning.specs.Sheets.{bitsOf, floating, anyFloat, notBelow, above}
 use Rattle.promises.specs.SheetRooms.{Held}
 use Rattle.files.specs.Parts.{Holds, Fails}
-use Rattle.sheets.specs.declared.floats.Pattern.{Pattern}
+use Rattle.sheets.specs.declared.floats.BitsRead.{BitsRead}
 use Rattle.sheets.specs.declared.floats.Asked.{Asked}
 use Rattle.sheets.specs.declared.floats.FloatRead.{FloatRead}
 
-abbrev pub patternTaken : Pattern → Taken
-patternTaken (Pattern.Bits v next) = taken (pos v) next
-patternTaken Pattern.Broken = none
+abbrev pub bitsTaken : BitsRead → Taken
+bitsTaken (BitsRead.Bits v next) = taken (pos v) next
+bitsTaken BitsRead.Broken = none
 
 abbrev pub okOf : Asked → Float → Bool
 okOf Asked.Any = anyFloat
 okOf Asked.NotBelow = notBelow
 okOf Asked.Above = above
 
--- a float that was taken; its pattern gives it back, since binary64 holds it
+-- a float that was taken; its bits give it back, since binary64 holds it
 pub record Floated (ok : Float → Bool) (s : List ℕ) (from : ℕ) (x : Float) (next : ℕ) : Type 0 where
   pub part : Holds (floating ok) s from (bitsOf x ∷ []) next
   pub held : Held x

@@ -87,9 +87,9 @@ valuesBehind s b at = behind (beginningNumbers b) (valuesAt (roomsForm (b .n) (b
 abbrev pub bodyRead : List ℕ → Beginning → ℕ → SheetRead
 bodyRead s b at = sheetReadOf (unfittedOf (ended s (valuesBehind s b at)))
 
--- a beginning and what stands behind it as a sheet, and the beginning of a sheet
-abbrev pub sheetFrom : Beginning → Float → Float → List Room → Sheet
-sheetFrom b time outside rooms = record {
+-- a beginning with what stands behind it as a sheet, and the beginning of a sheet
+abbrev pub sheetWith : Beginning → Float → Float → List Room → Sheet
+sheetWith b time outside rooms = record {
   n = b .n;
   r = b .m;
   q = b .q;

@@ -10,10 +10,10 @@ ghost use lib.ListN.{length};
 ghost use lib.Ieee.{binary64, toBits};
 ghost use Rattle.laws.specs.Writing.{Put};
 ghost use Rattle.meaning.specs.Files.{taken, floatAt};
-ghost use Rattle.sheets.specs.Floats.{okOf, patternTaken, FloatTold, floatBytes};
+ghost use Rattle.sheets.specs.Floats.{okOf, bitsTaken, FloatTold, floatBytes};
 
-// The bit pattern at a place, and the place behind it.
-pub enum Pattern {
+// The bits of the float at a place, and the place behind it.
+pub enum BitsRead {
     Bits(u64, usize),
     Broken,
 }
@@ -52,15 +52,15 @@ fn low_first(s: &[u8], at: usize) -> u64
     v
 }
 
-fn read_pattern(s: &[u8], at: usize) -> Pattern
-    ensures { λ r. ⌜ patternTaken r ≡ floatAt (now (s .entry)) at ⌝ }
+fn read_bits(s: &[u8], at: usize) -> BitsRead
+    ensures { λ r. ⌜ bitsTaken r ≡ floatAt (now (s .entry)) at ⌝ }
 {
     if 8 <= s.len() {
         if at <= s.len() - 8 {
-            return Pattern::Bits(low_first(s, at), at + 8);
+            return BitsRead::Bits(low_first(s, at), at + 8);
         }
     }
-    Pattern::Broken
+    BitsRead::Broken
 }
 
 fn passes(x: f64, asked: Asked) -> bool
@@ -77,7 +77,7 @@ fn passes(x: f64, asked: Asked) -> bool
 pub fn read_float(s: &[u8], at: usize, asked: Asked) -> FloatRead
     ensures { λ r. ⌜ FloatTold (okOf asked) (now (s .entry)) at r ⌝ }
 {
-    let Pattern::Bits(b, next) = read_pattern(s, at) else {
+    let BitsRead::Bits(b, next) = read_bits(s, at) else {
         return FloatRead::Refused(files::refusals::broken(at));
     };
     // all exponent bits set: an infinity, or no number, which passes every `<`
@@ -91,7 +91,7 @@ pub fn read_float(s: &[u8], at: usize, asked: Asked) -> FloatRead
     FloatRead::Refused(refusals::bad_float(at))
 }
 
-// A float's pattern; of no number the one that document 01's meaning gives it.
+// A float's bits; of no number those that document 01's meaning gives it.
 fn bits(x: f64) -> u64
     ensures { λ r. ⌜ r ≡ toBits binary64 x ⌝ }
 {

@@ -23,7 +23,7 @@ ghost use Rattle.meaning.specs.Files.{good, bad};
 ghost use Rattle.meaning.specs.Sheets.{sheetReadOf, sheetRead, sheetLeft, madeLeft};
 ghost use Rattle.files.specs.Plants.{refusalOf};
 ghost use Rattle.files.specs.Beginnings.{relation, Begun};
-ghost use Rattle.sheets.specs.Sheets.{TimeTold, unfitted, thenFitting, bodyRead, sheetFrom, TakenSized, sheetDraft};
+ghost use Rattle.sheets.specs.Sheets.{TimeTold, unfitted, thenFitting, bodyRead, sheetWith, TakenSized, sheetDraft};
 ghost use Rattle.sheets.specs.Sizes.{Sized};
 
 // A refused sheet is all zeros.
@@ -83,7 +83,7 @@ fn read_time(s: &[u8], at: usize) -> TimeOutside
 
 // A beginning and what stands behind it, put together.
 fn accepted(b: Beginning, time: f64, outside: f64, rooms: [Room; 4]) -> SheetRead
-    ensures { λ r. ⌜ r ≡ sheetReadOf (good (sheetFrom b time outside rooms)) ⌝ }
+    ensures { λ r. ⌜ r ≡ sheetReadOf (good (sheetWith b time outside rooms)) ⌝ }
 {
     let rlo = b.rlo;
     let rhi = b.rhi;

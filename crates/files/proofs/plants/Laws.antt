@@ -18,7 +18,7 @@ use Rattle.files.specs.declared.beginnings.Beginning.{Beginning}
 use Rattle.files.specs.Parts.{behind, behind-read, behind-refused, Fails}
 use Rattle.files.specs.Rows.{RowsRead}
 use Rattle.files.specs.Beginnings.{beginningForm, headNumbers, headOf, edgesIn, bandsIn, beginningNumbers, byVerdict, relation, related-by, Begun}
-use Rattle.files.specs.Plants.{rowsForm, valuesBehind, bodyRead, plantFrom}
+use Rattle.files.specs.Plants.{rowsForm, valuesBehind, bodyRead, plantWith}
 use Rattle.files.proofs.rows.Laws.{few-numbers}
 
 -- ---- the rows behind a beginning
@@ -30,7 +30,7 @@ module _ (s : List ℕ) (b : Beginning) (from : ℕ) where
 
   module _ (m : List ℤ) (next : ℕ) (v : RowsRead s from (b .n) (b .m) m next) where
     p : Plant
-    p = plantFrom b m
+    p = plantWith b m
 
     coefs : List ℤ
     coefs = tab (at m) (coefCount (b .m) (b .n)) 0
@@ -63,15 +63,15 @@ module _ (s : List ℕ) (b : Beginning) (from : ℕ) where
         coef-filled = v .filled;
       }
 
-      judged : bodyRead s b from ≡ readOf (byVerdict (relation b) λ _. good (plantFrom b m))
+      judged : bodyRead s b from ≡ readOf (byVerdict (relation b) λ _. good (plantWith b m))
       unfolding p
       judged =
           ap (λ (x : Read (List ℤ)). readOf (plantRelated (ended s x))) values ∙ simp (eq-eqb _ _ whole) refl
           ∙ ap (λ (x : Plant). readOf (related (x .q) (sidesOf (x .n) (x .rlo) (x .rhi)) (sidesOf (x .n) (x .slo) (x .shi)) (sidesOf (x .n) (x .wlo) (x .whi)) λ _. good x)) (plant-back p tidy)
           ∙ ap readOf (related-by b (λ _. good p))
 
-      pub by-verdict : (x y : Verdict) → x ≡ relation b → x ≡ y → bodyRead s b from ≡ readOf (byVerdict y λ _. good (plantFrom b m))
-      by-verdict x y e g = judged ∙ ap (λ (z : Verdict). readOf (byVerdict z λ _. good (plantFrom b m))) (sym e ∙ g)
+      pub by-verdict : (x y : Verdict) → x ≡ relation b → x ≡ y → bodyRead s b from ≡ readOf (byVerdict y λ _. good (plantWith b m))
+      by-verdict x y e g = judged ∙ ap (λ (z : Verdict). readOf (byVerdict z λ _. good (plantWith b m))) (sym e ∙ g)
 
 -- ---- the beginning in front
 

@@ -85,7 +85,7 @@ cut-short s from h =
     let long : length (take 8 (drop from s)) < 8 = omega (arith, length-take 8 (drop from s), length-drop from s) in
     simp (ne-eqb (length (take 8 (drop from s))) 8 (λ e. absurd (omega arith)))
 
--- ---- its pattern
+-- ---- its bits
 
 -- what `f64::from_bits` asks
 pub no-nan : (b : ℕ) → (exponent b ≡ 2047 → ⊥) → T (not (nanBits binary64 b))

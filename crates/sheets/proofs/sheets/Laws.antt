@@ -24,7 +24,7 @@ use Rattle.files.specs.Parts.{behind, behind-read, behind-refused, Fails, holds
 use Rattle.files.specs.Beginnings.{beginningForm, headNumbers, headOf, edgesIn, bandsIn, beginningNumbers, byVerdict, relation, related-by, Begun}
 use Rattle.sheets.specs.Floats.{Floated}
 use Rattle.sheets.specs.Rooms.{valuesOfRoom, RoomsHeld}
-use Rattle.sheets.specs.Sheets.{unfittedOf, unfitted, timePart, TimeRead, roomsForm, valuesBehind, bodyRead, sheetFrom, TakenSized}
+use Rattle.sheets.specs.Sheets.{unfittedOf, unfitted, timePart, TimeRead, roomsForm, valuesBehind, bodyRead, sheetWith, TakenSized}
 
 -- ---- sample time and outside temperature
 
@@ -54,7 +54,7 @@ module _ (s : List ℕ) (b : Beginning) (from : ℕ) where
 
     module _ (rooms : List Room) (next : ℕ) (v : RoomsHeld s mid (b .n) rooms next) where
       h : Sheet
-      h = sheetFrom b time outside rooms
+      h = sheetWith b time outside rooms
 
       rest : List ℤ
       rest = bitsOf time ∷ bitsOf outside ∷ tabs (valuesOfRoom (b .n) rooms) (b .n) 0
@@ -92,15 +92,15 @@ module _ (s : List ℕ) (b : Beginning) (from : ℕ) where
         unfolding h rest sheetValues beginningNumbers
         given-back = ap (λ (l : List ℤ). sheetOf (headNumbers (headOf b) ++ l)) (append-assoc (edgesIn b) (bandsIn b) rest) ∙ sheet-back h tidy held
 
-        judged : bodyRead s b from ≡ sheetReadOf (byVerdict (relation b) λ _. good (sheetFrom b time outside rooms))
+        judged : bodyRead s b from ≡ sheetReadOf (byVerdict (relation b) λ _. good (sheetWith b time outside rooms))
         unfolding h
         judged =
             ap (λ (x : Read (List ℤ)). sheetReadOf (unfittedOf (ended s x))) values ∙ simp (eq-eqb _ _ whole) refl
             ∙ ap (λ (x : Sheet). sheetReadOf (related (x .q) (sidesOf (x .n) (x .rlo) (x .rhi)) (sidesOf (x .n) (x .slo) (x .shi)) (sidesOf (x .n) (x .wlo) (x .whi)) λ _. good x)) given-back
             ∙ ap sheetReadOf (related-by b (λ _. good h))
 
-        pub by-verdict : (x y : Verdict) → x ≡ relation b → x ≡ y → bodyRead s b from ≡ sheetReadOf (byVerdict y λ _. good (sheetFrom b time outside rooms))
-        by-verdict x y e g = judged ∙ ap (λ (z : Verdict). sheetReadOf (byVerdict z λ _. good (sheetFrom b time outside rooms))) (sym e ∙ g)
+        pub by-verdict : (x y : Verdict) → x ≡ relation b → x ≡ y → bodyRead s b from ≡ sheetReadOf (byVerdict y λ _. good (sheetWith b time outside rooms))
+        by-verdict x y e g = judged ∙ ap (λ (z : Verdict). sheetReadOf (byVerdict z λ _. good (sheetWith b time outside rooms))) (sym e ∙ g)
 
 -- ---- the beginning in front
 
@@ -117,7 +117,7 @@ beginning-read s b next t = ap (λ (x : Read (List ℤ)). sheetReadOf (unfittedO
 pub refused-sized : (r : SheetRead) (e : Refusal) → r ≡ sheetReadOf (bad e) → TakenSized r
 refused-sized r e q = rw q tt
 
-pub taken-sized : (r : SheetRead) (s : List ℕ) (b : Beginning) (from : ℕ) (time outside : Float) (rooms : List Room) → r ≡ sheetReadOf (good (sheetFrom b time outside rooms)) → Begun 1000 s b from → TakenSized r
+pub taken-sized : (r : SheetRead) (s : List ℕ) (b : Beginning) (from : ℕ) (time outside : Float) (rooms : List Room) → r ≡ sheetReadOf (good (sheetWith b time outside rooms)) → Begun 1000 s b from → TakenSized r
 taken-sized r s b from time outside rooms q t = rw q (record {
   some = t .n-low;
   few = t .n-high;

@@ -1,4 +1,4 @@
--- What the fields of a binary64 pattern say of its float: its sign, the exponent's field, the digits; whether it is finite. Assumes nothing.
+-- What the fields of a float's 64 bits say of it: its sign, the exponent's field, the digits; whether it is finite. Assumes nothing.
 use Prim.Native.Nat.{ℕ, zero, suc, _+_, _*_, _/_, _%_, _^_, _<_}
 use mathlib.Core.Path.{_≡_, refl, sym, ap, _∙_, subst}
 use mathlib.Core.Bool.{Bool, true, false, cond}
@@ -22,7 +22,7 @@ digits bits = bits % 2 ^ 52
 pub digits-few : (bits : ℕ) → digits bits < 2 ^ 52
 digits-few bits = omega arith
 
--- a float is what its pattern's fields say
+-- a float is what the fields of its bits say
 pub of-fields : (x : Float) → T (fits binary64 x) → x ≡ ofFields binary64 (sign (toBits binary64 x)) (exponent (toBits binary64 x)) (digits (toBits binary64 x))
 unfolding ofBits
 of-fields x h = sym (ofBits-toBits binary64 x h)

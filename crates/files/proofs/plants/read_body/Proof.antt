@@ -12,7 +12,7 @@ use Rattle.meaning.specs.Files.{good, bad}
 use Rattle.meaning.specs.Plants.{readOf}
 use Rattle.files.specs.Beginnings.{byVerdict}
 use Rattle.files.specs.Rows.{RowsTold}
-use Rattle.files.specs.Plants.{refusalOf, bodyRead, plantFrom}
+use Rattle.files.specs.Plants.{refusalOf, bodyRead, plantWith}
 use Rattle.files.proofs.plants.Laws.{rows-refused, left-over, by-verdict}
 use borrow.Author.Needs.{needs}
 use Rattle.files.proofs.plants.read_body.Statement.{statement}
@@ -34,7 +34,7 @@ module _ (m : tie.After-read-rows) where
 
   -- they are whole and end the file: the verdict on the whole decides
   judged : (next : ℕ) → m .read-rows .result ≡ Walk.Next next → next ≡ length file → (y : Verdict) → start .args .related ≡ y
-      → bodyRead file (start .args .b) (start .args .at) ≡ readOf (byVerdict y λ _. good (plantFrom (start .args .b) coef))
+      → bodyRead file (start .args .b) (start .args .at) ≡ readOf (byVerdict y λ _. good (plantWith (start .args .b) coef))
   judged next e l y = by-verdict file (start .args .b) (start .args .at) coef next (told (Walk.Next next) e) (start .pre .0) l (start .args .related) y (start .pre .1)
 
 read-rows-requires : tie.Need-read-rows-requires

@@ -1,4 +1,4 @@
--- `floats::bits` has the one pattern of no number, and else asks the machine. Assumes nothing.
+-- `floats::bits` has the one choice of bits for no number, and else asks the machine. Assumes nothing.
 use borrow.Author.Needs.{needs}
 use Rattle.sheets.proofs.floats.Laws.{nan-bits}
 use Rattle.sheets.proofs.wholes.Laws.{itself}

@@ -14,7 +14,7 @@ use Rattle.sheets.proofs.wholes.whole.Statement.{statement}
 use Rattle.sheets.proofs.wholes.whole.Tie as tie
 
 module _ (c : tie.Start) where
-  -- x's pattern
+  -- x's bits
   abbrev bits : ℕ
   bits = toBits binary64 (c .args .x)
 
