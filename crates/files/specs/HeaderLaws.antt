@@ -1,9 +1,9 @@
--- The header's numbers one after another: where each one fails, the form is refused by its fault; where all are taken, their values stand in
--- front of what follows. Assumes nothing.
+-- The header's numbers one after another: where one fails, the form is refused by its fault; where all are taken, their values stand in front of what
+-- follows. Assumes nothing.
 use Prim.Native.Nat.{ℕ, _*_, _≤_, _<_}
-use mathlib.Core.Path.{_≡_, ap, _∙_}
+use mathlib.Core.Path.{_≡_, sym, ap, _∙_}
 use mathlib.Core.Bool.{false}
-use mathlib.Core.List.{List, [], _∷_}
+use mathlib.Core.List.{List, [], _∷_, _++_}
 use native.Mathlib.Omega.{arith}
 use native.Mathlib.Nat.{mul-le-mul}
 use mir.Syntax.{w64}
@@ -11,102 +11,98 @@ use mir.Val.{Fits}
 use lib.IntN.{ℤ, pos}
 use borrow.Author.Tests.{le-leb, lt-leb, ne-eqb}
 use Rattle.meaning.specs.declared.Number.{Number}
+use Rattle.meaning.specs.declared.Refusal.{Refusal}
 use Rattle.meaning.specs.Refusals.{broken, wrongForm, unfit}
 use Rattle.meaning.specs.Numbers.{numberAt}
-use Rattle.meaning.specs.Files.{Form, Read, refused, before, valuesAt}
-use Rattle.meaning.specs.Plants.{formOne, counted, from, depth, headed}
+use Rattle.meaning.specs.Files.{Form, refused, before, valuesAt}
+use Rattle.meaning.specs.Plants.{counted, from, depth, headed}
 use Rattle.files.specs.Fields.{countedAt, faultAt}
 use Rattle.files.specs.FieldLaws.{taken-right, taken-wrong, counted-was, counted-fault, range-holds, range-fails}
-use Rattle.files.specs.Parts.{behind}
+use Rattle.files.specs.Parts.{behind, behind-append, behind-refused}
 use Rattle.files.specs.Headers.{Headed}
 
-form-right : (rest : Form) (s : List ℕ) (a : ℕ) → numberAt s 0 ≡ Number.Value 1 a → valuesAt (formOne rest) s 0 ≡ before (pos 1) (valuesAt rest s a)
-unfolding valuesAt
-form-right rest s a e = simp e
+-- ---- what follows the number before: D, K, q, m, n
 
--- too deep: D over 6, or n·D over 12
-deep : (n d : ℕ) → 6 < d → depth n d ≡ false
-deep n d h = simp (lt-leb _ _ h)
+abbrev Rest : Type 0
+Rest = ℕ → ℕ → Form
 
-module _ (most : ℕ) (s : List ℕ) (rest : ℕ → ℕ → Form) where
-  -- what follows the number before: D, K, q, m, n
-  abbrev from-d : ℕ → ℕ → Form
-  from-d n m = counted (depth n) λ d. rest n m
+abbrev pub from-d : ℕ → ℕ → Rest → Form
+from-d n m rest = counted (depth n) λ d. rest n m
 
-  abbrev from-k : ℕ → ℕ → Form
-  from-k n m = counted (from 1 6) λ k. from-d n m
+abbrev pub from-k : ℕ → ℕ → Rest → Form
+from-k n m rest = counted (from 1 6) λ k. from-d n m rest
 
-  abbrev from-q : ℕ → ℕ → Form
-  from-q n m = counted (from 1 10000) λ q. from-k n m
+abbrev pub from-q : ℕ → ℕ → Rest → Form
+from-q n m rest = counted (from 1 10000) λ q. from-k n m rest
 
-  abbrev from-m : ℕ → Form
-  from-m n = counted (from 1 most) λ m. from-q n m
+abbrev pub from-m : ℕ → ℕ → Rest → Form
+from-m most n rest = counted (from 1 most) λ m. from-q n m rest
 
-  pub form-broken : numberAt s 0 ≡ Number.Broken → valuesAt (headed most rest) s 0 ≡ refused (broken 0)
+abbrev pub from-n : ℕ → Rest → Form
+from-n most rest = counted (from 1 4) λ n. from-m most n rest
+
+-- ---- the header read so far: the values vs up to `at`, where it goes on with `more`
+
+pub record Reached (most : ℕ) (s : List ℕ) (more : Rest → Form) (vs : List ℤ) (at : ℕ) : Type 0 where
+  pub goes : (rest : Rest) → valuesAt (headed most rest) s 0 ≡ behind vs (valuesAt (more rest) s at)
+
+module _ (most : ℕ) (s : List ℕ) where
+  pub form-broken : numberAt s 0 ≡ Number.Broken → (rest : Rest) → valuesAt (headed most rest) s 0 ≡ refused (broken 0)
   unfolding headed valuesAt
-  form-broken e = simp e
+  form-broken e rest = simp e
 
-  pub form-wrong : (form a : ℕ) → numberAt s 0 ≡ Number.Value form a → (form ≡ 1 → ⊥) → valuesAt (headed most rest) s 0 ≡ refused wrongForm
+  pub form-wrong : (form a : ℕ) → numberAt s 0 ≡ Number.Value form a → (form ≡ 1 → ⊥) → (rest : Rest) → valuesAt (headed most rest) s 0 ≡ refused wrongForm
   unfolding headed valuesAt
-  form-wrong form a e n = simp (e, ne-eqb _ _ n)
+  form-wrong form a e n rest = simp (e, ne-eqb _ _ n)
 
-  module _ (a : ℕ) (e₀ : numberAt s 0 ≡ Number.Value 1 a) where
-    to-n : valuesAt (headed most rest) s 0 ≡ before (pos 1) (valuesAt (counted (from 1 4) from-m) s a)
-    unfolding headed
-    to-n = form-right (counted (from 1 4) from-m) s a e₀
+  pub form-reached : (a : ℕ) → numberAt s 0 ≡ Number.Value 1 a → Reached most s (from-n most) (pos 1 ∷ []) a
+  unfolding headed valuesAt behind
+  form-reached a e = record { goes = λ rest. simp e }
 
-    pub n-fails : countedAt s a 1 4 ≡ Number.Broken → valuesAt (headed most rest) s 0 ≡ refused (faultAt s a)
-    n-fails e = to-n ∙ ap (before (pos 1)) (range-fails from-m s a 1 4 e)
+module _ {most : ℕ} {s : List ℕ} {vs : List ℤ} {at : ℕ} where
+  -- the form is refused where it goes on
+  refused-there : {more : Rest → Form} {e : Refusal} (w : Reached most s more vs at) (rest : Rest) → valuesAt (more rest) s at ≡ refused e → valuesAt (headed most rest) s 0 ≡ refused e
+  refused-there {e = e} w rest q = w .goes rest ∙ ap (behind vs) q ∙ behind-refused vs e
 
-    module _ (n b : ℕ) (e₁ : countedAt s a 1 4 ≡ Number.Value n b) where
-      to-m : valuesAt (headed most rest) s 0 ≡ before (pos 1) (before (pos n) (valuesAt (from-m n) s b))
-      to-m = to-n ∙ ap (before (pos 1)) (range-holds from-m s a 1 4 n b e₁)
+  -- or goes on behind one value more
+  taken-there : {more further : Rest → Form} (v : ℤ) (next : ℕ) → Reached most s more vs at → ((rest : Rest) → valuesAt (more rest) s at ≡ before v (valuesAt (further rest) s next)) → Reached most s further (vs ++ (v ∷ [])) next
+  unfolding behind
+  taken-there {further = further} v next w q = record {
+    goes = λ rest. w .goes rest ∙ ap (behind vs) (q rest) ∙ sym (behind-append vs (v ∷ []) (valuesAt (further rest) s next));
+  }
 
-      pub m-fails : countedAt s b 1 most ≡ Number.Broken → valuesAt (headed most rest) s 0 ≡ refused (faultAt s b)
-      m-fails e = to-m ∙ ap (λ (r : Read (List ℤ)). before (pos 1) (before (pos n) r)) (range-fails (from-q n) s b 1 most e)
+  module _ (least high : ℕ) (further : ℕ → Rest → Form) (w : Reached most s (λ rest. counted (from least high) λ v. further v rest) vs at) where
+    pub number-fails : countedAt s at least high ≡ Number.Broken → (rest : Rest) → valuesAt (headed most rest) s 0 ≡ refused (faultAt s at)
+    number-fails e rest = refused-there w rest (range-fails (λ v. further v rest) s at least high e)
 
-      module _ (m c : ℕ) (e₂ : countedAt s b 1 most ≡ Number.Value m c) where
-        to-q : valuesAt (headed most rest) s 0 ≡ before (pos 1) (before (pos n) (before (pos m) (valuesAt (from-q n m) s c)))
-        to-q = to-m ∙ ap (λ (r : Read (List ℤ)). before (pos 1) (before (pos n) r)) (range-holds (from-q n) s b 1 most m c e₂)
+    pub number-reached : (v next : ℕ) → countedAt s at least high ≡ Number.Value v next → Reached most s (further v) (vs ++ (pos v ∷ [])) next
+    number-reached v next e = taken-there (pos v) next w (λ rest. range-holds (λ v. further v rest) s at least high v next e)
 
-        pub q-fails : countedAt s c 1 10000 ≡ Number.Broken → valuesAt (headed most rest) s 0 ≡ refused (faultAt s c)
-        q-fails e = to-q ∙ ap (λ (r : Read (List ℤ)). before (pos 1) (before (pos n) (before (pos m) r))) (range-fails (λ q. from-k n m) s c 1 10000 e)
+  -- too deep: D over 6, or n·D over 12
+  module _ (n m : ℕ) (w : Reached most s (from-d n m) vs at) where
+    deep : (d : ℕ) → 6 < d → depth n d ≡ false
+    deep d h = simp (lt-leb _ _ h)
 
-        module _ (q f : ℕ) (e₃ : countedAt s c 1 10000 ≡ Number.Value q f) where
-          to-k : valuesAt (headed most rest) s 0 ≡ before (pos 1) (before (pos n) (before (pos m) (before (pos q) (valuesAt (from-k n m) s f))))
-          to-k = to-q ∙ ap (λ (r : Read (List ℤ)). before (pos 1) (before (pos n) (before (pos m) r))) (range-holds (λ q. from-k n m) s c 1 10000 q f e₃)
+    pub d-fails : countedAt s at 0 6 ≡ Number.Broken → (rest : Rest) → valuesAt (headed most rest) s 0 ≡ refused (faultAt s at)
+    d-fails e rest = refused-there w rest (counted-fault (depth n) (λ d. rest n m) s at 0 6 (λ v h. absurd (omega arith)) deep e)
 
-          pub k-fails : countedAt s f 1 6 ≡ Number.Broken → valuesAt (headed most rest) s 0 ≡ refused (faultAt s f)
-          k-fails e = to-k ∙ ap (λ (r : Read (List ℤ)). before (pos 1) (before (pos n) (before (pos m) (before (pos q) r)))) (range-fails (λ k. from-d n m) s f 1 6 e)
+    module _ (d next : ℕ) (e : countedAt s at 0 6 ≡ Number.Value d next) where
+      pub too-deep : 12 < n * d → (rest : Rest) → valuesAt (headed most rest) s 0 ≡ refused (unfit at)
+      too-deep h rest =
+          let c = counted-was s at 0 6 d next e in
+          refused-there w rest (taken-wrong (depth n) (λ d. rest n m) s at d next (c .number) (simp (le-leb _ _ (c .high), lt-leb _ _ h)))
 
-          module _ (k g : ℕ) (e₄ : countedAt s f 1 6 ≡ Number.Value k g) where
-            to-depth : valuesAt (headed most rest) s 0 ≡ before (pos 1) (before (pos n) (before (pos m) (before (pos q) (before (pos k) (valuesAt (from-d n m) s g)))))
-            to-depth = to-k ∙ ap (λ (r : Read (List ℤ)). before (pos 1) (before (pos n) (before (pos m) (before (pos q) r)))) (range-holds (λ k. from-d n m) s f 1 6 k g e₄)
-
-            behind-depth : {r t : Read (List ℤ)} → r ≡ t → before (pos 1) (before (pos n) (before (pos m) (before (pos q) (before (pos k) r))))
-                ≡ before (pos 1) (before (pos n) (before (pos m) (before (pos q) (before (pos k) t))))
-            behind-depth e = ap (λ (r : Read (List ℤ)). before (pos 1) (before (pos n) (before (pos m) (before (pos q) (before (pos k) r))))) e
-
-            pub d-fails : countedAt s g 0 6 ≡ Number.Broken → valuesAt (headed most rest) s 0 ≡ refused (faultAt s g)
-            d-fails e = to-depth ∙ behind-depth (counted-fault (depth n) (λ d. rest n m) s g 0 6 (λ v h. absurd (omega arith)) (λ v h. deep n v h) e)
-
-            module _ (d next : ℕ) (e₅ : countedAt s g 0 6 ≡ Number.Value d next) where
-              pub too-deep : 12 < n * d → valuesAt (headed most rest) s 0 ≡ refused (unfit g)
-              too-deep h =
-                  let w = counted-was s g 0 6 d next e₅ in
-                  to-depth ∙ behind-depth (taken-wrong (depth n) (λ d. rest n m) s g d next (w .number) (simp (le-leb _ _ (w .high), lt-leb _ _ h)))
-
-              pub all-taken : n * d ≤ 12 → valuesAt (headed most rest) s 0 ≡ behind (pos 1 ∷ pos n ∷ pos m ∷ pos q ∷ pos k ∷ pos d ∷ []) (valuesAt (rest n m) s next)
-              unfolding behind
-              all-taken h =
-                  let w = counted-was s g 0 6 d next e₅ in
-                  to-depth ∙ behind-depth (taken-right (depth n) (λ d. rest n m) s g d next (w .number) (simp (le-leb _ _ (w .high), le-leb _ _ h)))
+      pub d-reached : n * d ≤ 12 → Reached most s (λ rest. rest n m) (vs ++ (pos d ∷ [])) next
+      d-reached h =
+          let c = counted-was s at 0 6 d next e in
+          taken-there (pos d) next w (λ rest. taken-right (depth n) (λ d. rest n m) s at d next (c .number) (simp (le-leb _ _ (c .high), le-leb _ _ h)))
 
 -- what is known of the header's numbers
-pub headed-as : (most : ℕ) (s : List ℕ) (a n b m c q f k g d next : ℕ) → numberAt s 0 ≡ Number.Value 1 a → countedAt s a 1 4 ≡ Number.Value n b → countedAt s b 1 most ≡ Number.Value m c
-    → countedAt s c 1 10000 ≡ Number.Value q f → countedAt s f 1 6 ≡ Number.Value k g → countedAt s g 0 6 ≡ Number.Value d next → n * d ≤ 12
+pub headed-as : (most : ℕ) (s : List ℕ) (a n b m c q f k g d next : ℕ) → countedAt s a 1 4 ≡ Number.Value n b → countedAt s b 1 most ≡ Number.Value m c
+    → countedAt s c 1 10000 ≡ Number.Value q f → countedAt s f 1 6 ≡ Number.Value k g → countedAt s g 0 6 ≡ Number.Value d next
+    → Reached most s (λ rest. rest n m) (pos 1 ∷ pos n ∷ pos m ∷ pos q ∷ pos k ∷ pos d ∷ []) next
     → Headed most s (record { n = n; m = m; q = q; k = k; d = d }) next
-headed-as most s a n b m c q f k g d next e₀ e₁ e₂ e₃ e₄ e₅ h =
+headed-as most s a n b m c q f k g d next e₁ e₂ e₃ e₄ e₅ w =
     let w₁ = counted-was s a 1 4 n b e₁ in
     let w₂ = counted-was s b 1 most m c e₂ in
     let w₃ = counted-was s c 1 10000 q f e₃ in
@@ -122,7 +118,7 @@ headed-as most s a n b m c q f k g d next e₀ e₁ e₂ e₃ e₄ e₅ h =
       k-low = w₄ .low;
       k-high = w₄ .high;
       d-high = w₅ .high;
-      holds = λ rest. all-taken most s rest a e₀ n b e₁ m c e₂ q f e₃ k g e₄ d next e₅ h;
+      holds = w .goes;
     }
 
 -- n·D is small

@@ -3,13 +3,14 @@
 use Prim.Native.Nat.{ℕ, _+_, _^_, _≤_, _<_}
 use mathlib.Core.Path.{_≡_, refl, ap, _∙_}
 use mathlib.Core.Bool.{Bool, true, false, cond}
-use mathlib.Core.List.{List, _++_}
+use mathlib.Core.List.{List, [], _∷_, _++_}
 use native.Mathlib.Omega.{arith}
 use native.Mathlib.Nat.{zero-add}
 use native.Mathlib.Decide.{decLt}
 use lib.ListN.{length}
 use lib.Seq.{drop-append-seam}
 use lib.Dec.{ltb}
+use lib.IntN.{pos}
 use borrow.Author.Tests.{lt-ltb, le-ltb}
 use Rattle.laws.specs.Standing.{Stands, stand-front, stand-back}
 use Rattle.meaning.specs.declared.Refusal.{Refusal}
@@ -22,7 +23,7 @@ use Rattle.promises.specs.Numbers.{reads}
 use Rattle.files.specs.declared.headers.Header.{Header}
 use Rattle.files.specs.Fields.{inRange, faultOf}
 use Rattle.files.specs.Headers.{headBytes}
-use Rattle.files.specs.HeaderLaws.{n-fails, m-fails}
+use Rattle.files.specs.HeaderLaws.{from-q, from-m, from-n, Reached, form-reached, number-fails, number-reached}
 
 -- what is read of a number's bytes
 abbrev seen : ℕ → ℕ → Number
@@ -79,14 +80,17 @@ module _ (h : Header) (t : List ℕ) where
       (stand-front (bytesOf (h .m)) (bytesOf (h .q) ++ (bytesOf (h .k) ++ bytesOf (h .d)))
       (stand-back (bytesOf (h .n)) (bytesOf (h .m) ++ (bytesOf (h .q) ++ (bytesOf (h .k) ++ bytesOf (h .d)))) n-stand))
 
-  module _ (most : ℕ) (rest : ℕ → ℕ → Form) where
-    n-bad : inRange 1 4 (seen (h .n) second) ≡ Number.Broken → valuesAt (headed most rest) s 0 ≡ refused (faultOf 1 (seen (h .n) second))
-    n-bad q = n-fails most s rest 1 form-seen (ap (inRange 1 4) n-seen ∙ q) ∙ ap (λ (x : Number). refused (faultOf 1 x)) n-seen
+  module _ (most : ℕ) where
+    form-read : Reached most s (from-n most) (pos 1 ∷ []) 1
+    form-read = form-reached most s 1 form-seen
+
+    n-bad : inRange 1 4 (seen (h .n) second) ≡ Number.Broken → (rest : ℕ → ℕ → Form) → valuesAt (headed most rest) s 0 ≡ refused (faultOf 1 (seen (h .n) second))
+    n-bad q rest = number-fails 1 4 (from-m most) form-read (ap (inRange 1 4) n-seen ∙ q) rest ∙ ap (λ (x : Number). refused (faultOf 1 x)) n-seen
 
     m-bad : inRange 1 4 (seen (h .n) second) ≡ Number.Value (h .n) second → inRange 1 most (seen (h .m) (second + length (bytesOf (h .m)))) ≡ Number.Broken
-        → valuesAt (headed most rest) s 0 ≡ refused (faultOf second (seen (h .m) (second + length (bytesOf (h .m)))))
-    m-bad q r =
-        m-fails most s rest 1 form-seen (h .n) second (ap (inRange 1 4) n-seen ∙ q) (ap (inRange 1 most) m-seen ∙ r)
+        → (rest : ℕ → ℕ → Form) → valuesAt (headed most rest) s 0 ≡ refused (faultOf second (seen (h .m) (second + length (bytesOf (h .m)))))
+    m-bad q r rest =
+        number-fails 1 most (from-q (h .n)) (number-reached 1 4 (from-m most) form-read (h .n) second (ap (inRange 1 4) n-seen ∙ q)) (ap (inRange 1 most) m-seen ∙ r) rest
         ∙ ap (λ (x : Number). refused (faultOf second x)) m-seen
 
 -- the refusal of such a header
@@ -98,7 +102,7 @@ pub n-refusing : (most : ℕ) (h : Header) → 4 < h .n → Refusing most h
 unfolding s second
 n-refusing most h g = record {
   refusal = faultOf 1 (seen (h .n) (1 + length (bytesOf (h .n))));
-  fails = λ rest t. n-bad h t most rest (high-out 1 4 (h .n) (1 + length (bytesOf (h .n))) (omega arith) g);
+  fails = λ rest t. n-bad h t most (high-out 1 4 (h .n) (1 + length (bytesOf (h .n))) (omega arith) g) rest;
 }
 
 pub m-refusing : (most : ℕ) (h : Header) → h .n ≤ 4 → 1 ≤ most → most < h .m → Refusing most h
@@ -109,11 +113,11 @@ m-refusing most h g o l = go (decLt (h .n) 1)
     next = 1 + length (bytesOf (h .n))
 
     go : Dec (h .n < 1) → Refusing most h
-    go (yes a) = record { refusal = faultOf 1 (seen (h .n) next); fails = λ rest t. n-bad h t most rest (low-out 1 4 (h .n) next a) }
+    go (yes a) = record { refusal = faultOf 1 (seen (h .n) next); fails = λ rest t. n-bad h t most (low-out 1 4 (h .n) next a) rest }
     go (no a) =
         let b : 1 ≤ h .n = omega arith in
         let c : h .n < 2 ^ 35 = omega arith in
         record {
           refusal = faultOf next (seen (h .m) (next + length (bytesOf (h .m))));
-          fails = λ rest t. m-bad h t most rest (simp (lt-ltb _ _ c, le-ltb _ _ b, le-ltb _ _ g)) (high-out 1 most (h .m) (next + length (bytesOf (h .m))) (omega arith) l);
+          fails = λ rest t. m-bad h t most (simp (lt-ltb _ _ c, le-ltb _ _ b, le-ltb _ _ g)) (high-out 1 most (h .m) (next + length (bytesOf (h .m))) (omega arith) l) rest;
         }

@@ -1,15 +1,115 @@
 -- `headers::read_header` reads the header's numbers in order. Each return cites the law of the number that it stops at. Assumes nothing.
 use Prim.Native.Nat.{ℕ}
 use mathlib.Core.Path.{_≡_, sym, ap, _∙_}
+use mathlib.Core.List.{List, [], _∷_}
 use denote.Ref.{now}
+use lib.IntN.{pos}
 use Rattle.meaning.specs.declared.Number.{Number}
-use Rattle.meaning.specs.Numbers.{numberAt}
 use Rattle.meaning.specs.Files.{refused}
 use Rattle.files.specs.Fields.{countedAt}
-use Rattle.files.specs.HeaderLaws.{form-broken, form-wrong, n-fails, m-fails, q-fails, k-fails, d-fails, too-deep, headed-as, small-product}
+use Rattle.files.specs.HeaderLaws.{from-d, from-k, from-q, from-m, from-n, Reached, form-broken, form-wrong, form-reached, number-fails, number-reached, d-fails, too-deep, d-reached, headed-as, small-product}
 use borrow.Author.Needs.{needs}
 use Rattle.files.proofs.headers.read_header.Statement.{statement}
 use Rattle.files.proofs.headers.read_header.Tie as tie
+
+-- ---- what is known where the form, n, m, q, K and D were taken, each number with the place behind it
+
+module _ (t : tie.Start) where
+  abbrev file : List ℕ
+  file = now (t .args .s)
+
+  abbrev most : ℕ
+  most = t .args .most
+
+module _ (x : tie.Else1) where
+  abbrev start : tie.Start
+  start = x .before .before .before .before .before .before
+
+  abbrev a : ℕ
+  a = x .before .before .form .given .0 .1 .0
+
+  form-taken : Reached (most start) (file start) (from-n (most start)) (pos 1 ∷ []) a
+  form-taken = form-reached (most start) (file start) a (sym (x .before .before .before .before .number .ensures) ∙ x .before .before .form .given .1 ∙ ap (λ (v : ℕ). Number.Value v a) (x .if1 .left))
+
+module _ (x : tie.After-known-told2) where
+  abbrev at-n : tie.Else1
+  at-n = x .before .before .before .before
+
+  abbrev n : ℕ
+  n = x .before .n .given .0 .0
+
+  abbrev b : ℕ
+  b = x .before .n .given .0 .1 .0
+
+  n-is : countedAt (file (start at-n)) (a at-n) 1 4 ≡ Number.Value n b
+  n-is = sym (x .before .before .before .counted .ensures) ∙ x .before .n .given .1
+
+  n-taken : Reached (most (start at-n)) (file (start at-n)) (from-m (most (start at-n)) n) (pos 1 ∷ pos n ∷ []) b
+  n-taken = number-reached 1 4 (from-m (most (start at-n))) (form-taken at-n) n b n-is
+
+module _ (x : tie.After-known-told3) where
+  abbrev at-m : tie.After-known-told2
+  at-m = x .before .before .before .before
+
+  abbrev m : ℕ
+  m = x .before .m .given .0 .0
+
+  abbrev e : ℕ
+  e = x .before .m .given .0 .1 .0
+
+  m-is : countedAt (file (start (at-n at-m))) (b at-m) 1 (most (start (at-n at-m))) ≡ Number.Value m e
+  m-is = sym (x .before .before .before .counted2 .ensures) ∙ x .before .m .given .1
+
+  m-taken : Reached (most (start (at-n at-m))) (file (start (at-n at-m))) (from-q (n at-m) m) (pos 1 ∷ pos (n at-m) ∷ pos m ∷ []) e
+  m-taken = number-reached 1 (most (start (at-n at-m))) (from-q (n at-m)) (n-taken at-m) m e m-is
+
+module _ (x : tie.After-known-told4) where
+  abbrev at-q : tie.After-known-told3
+  at-q = x .before .before .before .before
+
+  abbrev q : ℕ
+  q = x .before .q .given .0 .0
+
+  abbrev f : ℕ
+  f = x .before .q .given .0 .1 .0
+
+  q-is : countedAt (file (start (at-n (at-m at-q)))) (e at-q) 1 10000 ≡ Number.Value q f
+  q-is = sym (x .before .before .before .counted3 .ensures) ∙ x .before .q .given .1
+
+  q-taken : Reached (most (start (at-n (at-m at-q)))) (file (start (at-n (at-m at-q)))) (from-k (n (at-m at-q)) (m at-q)) (pos 1 ∷ pos (n (at-m at-q)) ∷ pos (m at-q) ∷ pos q ∷ []) f
+  q-taken = number-reached 1 10000 (λ q. from-k (n (at-m at-q)) (m at-q)) (m-taken at-q) q f q-is
+
+module _ (x : tie.After-known-told5) where
+  abbrev at-k : tie.After-known-told4
+  at-k = x .before .before .before .before
+
+  abbrev k : ℕ
+  k = x .before .k .given .0 .0
+
+  abbrev g : ℕ
+  g = x .before .k .given .0 .1 .0
+
+  k-is : countedAt (file (start (at-n (at-m (at-q at-k))))) (f at-k) 1 6 ≡ Number.Value k g
+  k-is = sym (x .before .before .before .counted4 .ensures) ∙ x .before .k .given .1
+
+  k-taken : Reached (most (start (at-n (at-m (at-q at-k))))) (file (start (at-n (at-m (at-q at-k))))) (from-d (n (at-m (at-q at-k))) (m (at-q at-k)))
+      (pos 1 ∷ pos (n (at-m (at-q at-k))) ∷ pos (m (at-q at-k)) ∷ pos (q at-k) ∷ pos k ∷ []) g
+  k-taken = number-reached 1 6 (λ k. from-d (n (at-m (at-q at-k))) (m (at-q at-k))) (q-taken at-k) k g k-is
+
+module _ (x : tie.After-known-told6) where
+  abbrev at-d : tie.After-known-told5
+  at-d = x .before .before .before .before
+
+  abbrev d : ℕ
+  d = x .before .d .given .0 .0
+
+  abbrev next : ℕ
+  next = x .before .d .given .0 .1 .0
+
+  d-is : countedAt (file (start (at-n (at-m (at-q (at-k at-d)))))) (g at-d) 0 6 ≡ Number.Value d next
+  d-is = sym (x .before .before .before .counted5 .ensures) ∙ x .before .d .given .1
+
+-- ---- the needs
 
 number-requires : tie.Need-number-requires
 number-requires c κs = search needs
@@ -26,17 +126,16 @@ broken-requires c κs = search needs
 returns : tie.Need-returns
 returns c =
     let t = c .before .before .before .before .before in
-    λ rest. form-broken (t .args .most) (now (t .args .s)) rest (sym (c .before .before .before .number .ensures) ∙ c .before .enum-told .given .1) ∙ ap refused (sym (c .broken .ensures))
+    λ rest. form-broken (most t) (file t) (sym (c .before .before .before .number .ensures) ∙ c .before .enum-told .given .1) rest ∙ ap refused (sym (c .broken .ensures))
 
 wrong-form-requires : tie.Need-wrong-form-requires
 wrong-form-requires c κs = search needs
 
 returns-2 : tie.Need-returns-2
 returns-2 c =
-    let k₀ = c .before .before in
-    let g₀ = k₀ .before .form .given in
-    let t = k₀ .before .before .before .before .before in
-    λ rest. form-wrong (t .args .most) (now (t .args .s)) rest (g₀ .0 .0) (g₀ .0 .1 .0) (sym (k₀ .before .before .before .number .ensures) ∙ g₀ .1) (c .before .if1 .taken) ∙ ap refused (sym (c .wrong-form .ensures))
+    let t = c .before .before .before .before .before .before .before in
+    let g₀ = c .before .before .before .form .given in
+    λ rest. form-wrong (most t) (file t) (g₀ .0 .0) (g₀ .0 .1 .0) (sym (c .before .before .before .before .before .number .ensures) ∙ g₀ .1) (c .before .if1 .taken) rest ∙ ap refused (sym (c .wrong-form .ensures))
 
 counted-requires : tie.Need-counted-requires
 counted-requires c κs = search needs
@@ -52,14 +151,8 @@ fault-requires c κs = search needs
 
 returns-3 : tie.Need-returns-3
 returns-3 c =
-    let z = c .before .before .before .before in
-    let k₀ = z .before in
-    let g₀ = k₀ .before .form .given in
-    let t = k₀ .before .before .before .before .before in
-    let s = now (t .args .s) in
-    let a = g₀ .0 .1 .0 in
-    let e₀ : numberAt s 0 ≡ Number.Value 1 a = sym (k₀ .before .before .before .number .ensures) ∙ g₀ .1 ∙ ap (λ (x : ℕ). Number.Value x a) (z .if1 .left) in
-    λ rest. n-fails (t .args .most) s rest a e₀ (sym (c .before .before .before .counted .ensures) ∙ c .before .enum-told2 .given .1) ∙ ap refused (sym (c .fault .ensures))
+    let x = c .before .before .before .before in
+    λ rest. number-fails 1 4 (from-m (most (start x))) (form-taken x) (sym (c .before .before .before .counted .ensures) ∙ c .before .enum-told2 .given .1) rest ∙ ap refused (sym (c .fault .ensures))
 
 counted-requires-2 : tie.Need-counted-requires-2
 counted-requires-2 c κs = search needs
@@ -75,17 +168,8 @@ fault-requires-2 c κs = search needs
 
 returns-4 : tie.Need-returns-4
 returns-4 c =
-    let k₁ = c .before .before .before .before in
-    let z = k₁ .before .before .before .before in
-    let k₀ = z .before in
-    let g₀ = k₀ .before .form .given in
-    let t = k₀ .before .before .before .before .before in
-    let s = now (t .args .s) in
-    let a = g₀ .0 .1 .0 in
-    let e₀ : numberAt s 0 ≡ Number.Value 1 a = sym (k₀ .before .before .before .number .ensures) ∙ g₀ .1 ∙ ap (λ (x : ℕ). Number.Value x a) (z .if1 .left) in
-    let g₁ = k₁ .before .n .given in
-    let e₁ : countedAt s a 1 4 ≡ Number.Value (g₁ .0 .0) (g₁ .0 .1 .0) = sym (k₁ .before .before .before .counted .ensures) ∙ g₁ .1 in
-    λ rest. m-fails (t .args .most) s rest a e₀ (g₁ .0 .0) (g₁ .0 .1 .0) e₁ (sym (c .before .before .before .counted2 .ensures) ∙ c .before .enum-told3 .given .1) ∙ ap refused (sym (c .fault2 .ensures))
+    let x = c .before .before .before .before in
+    λ rest. number-fails 1 (most (start (at-n x))) (from-q (n x)) (n-taken x) (sym (c .before .before .before .counted2 .ensures) ∙ c .before .enum-told3 .given .1) rest ∙ ap refused (sym (c .fault2 .ensures))
 
 counted-requires-3 : tie.Need-counted-requires-3
 counted-requires-3 c κs = search needs
@@ -101,20 +185,8 @@ fault-requires-3 c κs = search needs
 
 returns-5 : tie.Need-returns-5
 returns-5 c =
-    let k₂ = c .before .before .before .before in
-    let k₁ = k₂ .before .before .before .before in
-    let z = k₁ .before .before .before .before in
-    let k₀ = z .before in
-    let g₀ = k₀ .before .form .given in
-    let t = k₀ .before .before .before .before .before in
-    let s = now (t .args .s) in
-    let a = g₀ .0 .1 .0 in
-    let e₀ : numberAt s 0 ≡ Number.Value 1 a = sym (k₀ .before .before .before .number .ensures) ∙ g₀ .1 ∙ ap (λ (x : ℕ). Number.Value x a) (z .if1 .left) in
-    let g₁ = k₁ .before .n .given in
-    let e₁ : countedAt s a 1 4 ≡ Number.Value (g₁ .0 .0) (g₁ .0 .1 .0) = sym (k₁ .before .before .before .counted .ensures) ∙ g₁ .1 in
-    let g₂ = k₂ .before .m .given in
-    let e₂ : countedAt s (g₁ .0 .1 .0) 1 (t .args .most) ≡ Number.Value (g₂ .0 .0) (g₂ .0 .1 .0) = sym (k₂ .before .before .before .counted2 .ensures) ∙ g₂ .1 in
-    λ rest. q-fails (t .args .most) s rest a e₀ (g₁ .0 .0) (g₁ .0 .1 .0) e₁ (g₂ .0 .0) (g₂ .0 .1 .0) e₂ (sym (c .before .before .before .counted3 .ensures) ∙ c .before .enum-told4 .given .1) ∙ ap refused (sym (c .fault3 .ensures))
+    let x = c .before .before .before .before in
+    λ rest. number-fails 1 10000 (λ q. from-k (n (at-m x)) (m x)) (m-taken x) (sym (c .before .before .before .counted3 .ensures) ∙ c .before .enum-told4 .given .1) rest ∙ ap refused (sym (c .fault3 .ensures))
 
 counted-requires-4 : tie.Need-counted-requires-4
 counted-requires-4 c κs = search needs
@@ -130,23 +202,8 @@ fault-requires-4 c κs = search needs
 
 returns-6 : tie.Need-returns-6
 returns-6 c =
-    let k₃ = c .before .before .before .before in
-    let k₂ = k₃ .before .before .before .before in
-    let k₁ = k₂ .before .before .before .before in
-    let z = k₁ .before .before .before .before in
-    let k₀ = z .before in
-    let g₀ = k₀ .before .form .given in
-    let t = k₀ .before .before .before .before .before in
-    let s = now (t .args .s) in
-    let a = g₀ .0 .1 .0 in
-    let e₀ : numberAt s 0 ≡ Number.Value 1 a = sym (k₀ .before .before .before .number .ensures) ∙ g₀ .1 ∙ ap (λ (x : ℕ). Number.Value x a) (z .if1 .left) in
-    let g₁ = k₁ .before .n .given in
-    let e₁ : countedAt s a 1 4 ≡ Number.Value (g₁ .0 .0) (g₁ .0 .1 .0) = sym (k₁ .before .before .before .counted .ensures) ∙ g₁ .1 in
-    let g₂ = k₂ .before .m .given in
-    let e₂ : countedAt s (g₁ .0 .1 .0) 1 (t .args .most) ≡ Number.Value (g₂ .0 .0) (g₂ .0 .1 .0) = sym (k₂ .before .before .before .counted2 .ensures) ∙ g₂ .1 in
-    let g₃ = k₃ .before .q .given in
-    let e₃ : countedAt s (g₂ .0 .1 .0) 1 10000 ≡ Number.Value (g₃ .0 .0) (g₃ .0 .1 .0) = sym (k₃ .before .before .before .counted3 .ensures) ∙ g₃ .1 in
-    λ rest. k-fails (t .args .most) s rest a e₀ (g₁ .0 .0) (g₁ .0 .1 .0) e₁ (g₂ .0 .0) (g₂ .0 .1 .0) e₂ (g₃ .0 .0) (g₃ .0 .1 .0) e₃ (sym (c .before .before .before .counted4 .ensures) ∙ c .before .enum-told5 .given .1) ∙ ap refused (sym (c .fault4 .ensures))
+    let x = c .before .before .before .before in
+    λ rest. number-fails 1 6 (λ k. from-d (n (at-m (at-q x))) (m (at-q x))) (q-taken x) (sym (c .before .before .before .counted4 .ensures) ∙ c .before .enum-told5 .given .1) rest ∙ ap refused (sym (c .fault4 .ensures))
 
 counted-requires-5 : tie.Need-counted-requires-5
 counted-requires-5 c κs = search needs
@@ -162,88 +219,31 @@ fault-requires-5 c κs = search needs
 
 returns-7 : tie.Need-returns-7
 returns-7 c =
-    let k₄ = c .before .before .before .before in
-    let k₃ = k₄ .before .before .before .before in
-    let k₂ = k₃ .before .before .before .before in
-    let k₁ = k₂ .before .before .before .before in
-    let z = k₁ .before .before .before .before in
-    let k₀ = z .before in
-    let g₀ = k₀ .before .form .given in
-    let t = k₀ .before .before .before .before .before in
-    let s = now (t .args .s) in
-    let a = g₀ .0 .1 .0 in
-    let e₀ : numberAt s 0 ≡ Number.Value 1 a = sym (k₀ .before .before .before .number .ensures) ∙ g₀ .1 ∙ ap (λ (x : ℕ). Number.Value x a) (z .if1 .left) in
-    let g₁ = k₁ .before .n .given in
-    let e₁ : countedAt s a 1 4 ≡ Number.Value (g₁ .0 .0) (g₁ .0 .1 .0) = sym (k₁ .before .before .before .counted .ensures) ∙ g₁ .1 in
-    let g₂ = k₂ .before .m .given in
-    let e₂ : countedAt s (g₁ .0 .1 .0) 1 (t .args .most) ≡ Number.Value (g₂ .0 .0) (g₂ .0 .1 .0) = sym (k₂ .before .before .before .counted2 .ensures) ∙ g₂ .1 in
-    let g₃ = k₃ .before .q .given in
-    let e₃ : countedAt s (g₂ .0 .1 .0) 1 10000 ≡ Number.Value (g₃ .0 .0) (g₃ .0 .1 .0) = sym (k₃ .before .before .before .counted3 .ensures) ∙ g₃ .1 in
-    let g₄ = k₄ .before .k .given in
-    let e₄ : countedAt s (g₃ .0 .1 .0) 1 6 ≡ Number.Value (g₄ .0 .0) (g₄ .0 .1 .0) = sym (k₄ .before .before .before .counted4 .ensures) ∙ g₄ .1 in
-    λ rest. d-fails (t .args .most) s rest a e₀ (g₁ .0 .0) (g₁ .0 .1 .0) e₁ (g₂ .0 .0) (g₂ .0 .1 .0) e₂ (g₃ .0 .0) (g₃ .0 .1 .0) e₃ (g₄ .0 .0) (g₄ .0 .1 .0) e₄ (sym (c .before .before .before .counted5 .ensures) ∙ c .before .enum-told6 .given .1) ∙ ap refused (sym (c .fault5 .ensures))
+    let x = c .before .before .before .before in
+    λ rest. d-fails (n (at-m (at-q (at-k x)))) (m (at-q (at-k x))) (k-taken x) (sym (c .before .before .before .counted5 .ensures) ∙ c .before .enum-told6 .given .1) rest ∙ ap refused (sym (c .fault5 .ensures))
 
 mul-if2 : tie.Need-mul-if2
 mul-if2 c =
-    let w = c .before .d .given in
-    let k₁ = c .before .before .before .before .before .before .before .before .before .before .before .before .before .before .before .before in
-    let v = k₁ .before .n .given in
-    small-product _ _ _ (v .0 .0) (v .0 .1 .0) (w .0 .0) (w .0 .1 .0) (sym (k₁ .before .before .before .counted .ensures) ∙ v .1) (sym (c .before .before .before .counted5 .ensures) ∙ w .1)
+    let y = at-m (at-q (at-k (at-d c))) in
+    small-product (file (start (at-n y))) (a (at-n y)) (g (at-d c)) (n y) (b y) (d c) (next c) (n-is y) (d-is c)
 
 unfit-requires : tie.Need-unfit-requires
 unfit-requires c κs = search needs
 
 returns-8 : tie.Need-returns-8
 returns-8 c =
-    let k₅ = c .before .before in
-    let k₄ = k₅ .before .before .before .before in
-    let k₃ = k₄ .before .before .before .before in
-    let k₂ = k₃ .before .before .before .before in
-    let k₁ = k₂ .before .before .before .before in
-    let z = k₁ .before .before .before .before in
-    let k₀ = z .before in
-    let g₀ = k₀ .before .form .given in
-    let t = k₀ .before .before .before .before .before in
-    let s = now (t .args .s) in
-    let a = g₀ .0 .1 .0 in
-    let e₀ : numberAt s 0 ≡ Number.Value 1 a = sym (k₀ .before .before .before .number .ensures) ∙ g₀ .1 ∙ ap (λ (x : ℕ). Number.Value x a) (z .if1 .left) in
-    let g₁ = k₁ .before .n .given in
-    let e₁ : countedAt s a 1 4 ≡ Number.Value (g₁ .0 .0) (g₁ .0 .1 .0) = sym (k₁ .before .before .before .counted .ensures) ∙ g₁ .1 in
-    let g₂ = k₂ .before .m .given in
-    let e₂ : countedAt s (g₁ .0 .1 .0) 1 (t .args .most) ≡ Number.Value (g₂ .0 .0) (g₂ .0 .1 .0) = sym (k₂ .before .before .before .counted2 .ensures) ∙ g₂ .1 in
-    let g₃ = k₃ .before .q .given in
-    let e₃ : countedAt s (g₂ .0 .1 .0) 1 10000 ≡ Number.Value (g₃ .0 .0) (g₃ .0 .1 .0) = sym (k₃ .before .before .before .counted3 .ensures) ∙ g₃ .1 in
-    let g₄ = k₄ .before .k .given in
-    let e₄ : countedAt s (g₃ .0 .1 .0) 1 6 ≡ Number.Value (g₄ .0 .0) (g₄ .0 .1 .0) = sym (k₄ .before .before .before .counted4 .ensures) ∙ g₄ .1 in
-    let g₅ = k₅ .before .d .given in
-    let e₅ : countedAt s (g₄ .0 .1 .0) 0 6 ≡ Number.Value (g₅ .0 .0) (g₅ .0 .1 .0) = sym (k₅ .before .before .before .counted5 .ensures) ∙ g₅ .1 in
-    λ rest. too-deep (t .args .most) s rest a e₀ (g₁ .0 .0) (g₁ .0 .1 .0) e₁ (g₂ .0 .0) (g₂ .0 .1 .0) e₂ (g₃ .0 .0) (g₃ .0 .1 .0) e₃ (g₄ .0 .0) (g₄ .0 .1 .0) e₄ (g₅ .0 .0) (g₅ .0 .1 .0) e₅ (c .before .if2 .taken) ∙ ap refused (sym (c .unfit .ensures))
+    let x = c .before .before in
+    let z = at-q (at-k (at-d x)) in
+    λ rest. too-deep (n (at-m z)) (m z) (k-taken (at-d x)) (d x) (next x) (d-is x) (c .before .if2 .taken) rest ∙ ap refused (sym (c .unfit .ensures))
 
 returns-9 : tie.Need-returns-9
 returns-9 c =
-    let k₅ = c .before in
-    let k₄ = k₅ .before .before .before .before in
-    let k₃ = k₄ .before .before .before .before in
-    let k₂ = k₃ .before .before .before .before in
-    let k₁ = k₂ .before .before .before .before in
-    let z = k₁ .before .before .before .before in
-    let k₀ = z .before in
-    let g₀ = k₀ .before .form .given in
-    let t = k₀ .before .before .before .before .before in
-    let s = now (t .args .s) in
-    let a = g₀ .0 .1 .0 in
-    let e₀ : numberAt s 0 ≡ Number.Value 1 a = sym (k₀ .before .before .before .number .ensures) ∙ g₀ .1 ∙ ap (λ (x : ℕ). Number.Value x a) (z .if1 .left) in
-    let g₁ = k₁ .before .n .given in
-    let e₁ : countedAt s a 1 4 ≡ Number.Value (g₁ .0 .0) (g₁ .0 .1 .0) = sym (k₁ .before .before .before .counted .ensures) ∙ g₁ .1 in
-    let g₂ = k₂ .before .m .given in
-    let e₂ : countedAt s (g₁ .0 .1 .0) 1 (t .args .most) ≡ Number.Value (g₂ .0 .0) (g₂ .0 .1 .0) = sym (k₂ .before .before .before .counted2 .ensures) ∙ g₂ .1 in
-    let g₃ = k₃ .before .q .given in
-    let e₃ : countedAt s (g₂ .0 .1 .0) 1 10000 ≡ Number.Value (g₃ .0 .0) (g₃ .0 .1 .0) = sym (k₃ .before .before .before .counted3 .ensures) ∙ g₃ .1 in
-    let g₄ = k₄ .before .k .given in
-    let e₄ : countedAt s (g₃ .0 .1 .0) 1 6 ≡ Number.Value (g₄ .0 .0) (g₄ .0 .1 .0) = sym (k₄ .before .before .before .counted4 .ensures) ∙ g₄ .1 in
-    let g₅ = k₅ .before .d .given in
-    let e₅ : countedAt s (g₄ .0 .1 .0) 0 6 ≡ Number.Value (g₅ .0 .0) (g₅ .0 .1 .0) = sym (k₅ .before .before .before .counted5 .ensures) ∙ g₅ .1 in
-    headed-as (t .args .most) s a (g₁ .0 .0) (g₁ .0 .1 .0) (g₂ .0 .0) (g₂ .0 .1 .0) (g₃ .0 .0) (g₃ .0 .1 .0) (g₄ .0 .0) (g₄ .0 .1 .0) (g₅ .0 .0) (g₅ .0 .1 .0) e₀ e₁ e₂ e₃ e₄ e₅ (c .if2 .left)
+    let x = c .before in
+    let w = at-k (at-d x) in
+    let z = at-q w in
+    let y = at-m z in
+    headed-as (most (start (at-n y))) (file (start (at-n y))) (a (at-n y)) (n y) (b y) (m z) (e z) (q w) (f w) (k (at-d x)) (g (at-d x)) (d x) (next x) (n-is y) (m-is z) (q-is w) (k-is (at-d x)) (d-is x)
+    (d-reached (n y) (m z) (k-taken (at-d x)) (d x) (next x) (d-is x) (c .if2 .left))
 
 pub read-header-spec : {M : Type 1} → statement M
 read-header-spec =
