@@ -10,6 +10,7 @@ pub mod Rows
 pub mod Beginnings
 pub mod BeginningLaws
 pub mod BeginningFiles
+pub mod Bodies
 pub mod Drafts
 pub mod DraftLaws
 pub mod Plants

@@ -2,14 +2,14 @@
 -- one another. Assumes nothing.
 use Prim.Native.Nat.{ℕ, suc, _+_, _-_, _≤_, _<_}
 use mathlib.Core.Path.{_≡_, refl, sym, ap, _∙_}
-use mathlib.Core.List.{List, [], _∷_, _++_}
+use mathlib.Core.List.{List, [], _∷_, _++_, append-nil}
 use native.Mathlib.Omega.{arith}
 use native.Mathlib.Nat.{zero-add}
 use lib.IntN.{ℤ}
 use Rattle.laws.specs.Lists.{tabs}
 use Rattle.laws.specs.Tabs.{tabs-snoc, tabs-same}
 use Rattle.meaning.specs.declared.Refusal.{Refusal}
-use Rattle.meaning.specs.Files.{Form, Read, read, refused, before, valuesAt}
+use Rattle.meaning.specs.Files.{Form, end, Read, read, refused, before, valuesAt}
 use Rattle.meaning.specs.Plants.{times}
 
 -- values in front of those that are read behind them
@@ -51,6 +51,11 @@ module _ {f g : Form → Form} {s : List ℕ} {at m : ℕ} {vs : List ℤ} where
 
 pub fails-then : {f g : Form → Form} {s : List ℕ} {at : ℕ} {e : Refusal} → Fails f s at e → Fails (λ rest. f (g rest)) s at e
 fails-then {g = g} p = record { fails = λ rest. p .fails (g rest) }
+
+-- the last part
+pub holds-last : {f : Form → Form} {s : List ℕ} {at next : ℕ} {vs : List ℤ} → Holds f s at vs next → valuesAt (f end) s at ≡ read vs next
+unfolding valuesAt
+holds-last {next = next} {vs = vs} p = p .holds end ∙ behind-read vs [] next ∙ rw append-nil refl
 
 -- ---- a part many times: n times from `at` on, of which i are done, the values of the k-th being f k, and p the place behind them
 

@@ -3,32 +3,21 @@ use Prim.Native.Nat.{ℕ, _*_}
 use mathlib.Core.List.{List}
 use lib.IntN.{ℤ}
 use Rattle.laws.specs.Lists.{at, tab}
-use Rattle.meaning.specs.declared.Refusal.{Refusal}
-use Rattle.meaning.specs.declared.Walk.{Walk}
 use Rattle.meaning.specs.declared.Plant.{Plant}
 use Rattle.meaning.specs.declared.PlantRead.{PlantRead}
-use Rattle.meaning.specs.Refusals.{unfit}
-use Rattle.meaning.specs.Files.{Form, end, Read, ended, valuesAt}
+use Rattle.meaning.specs.Files.{Form, end}
 use Rattle.meaning.specs.Plants.{times, row, coefCount, plantRelated, readOf}
 use Rattle.files.specs.declared.beginnings.Beginning.{Beginning}
-use Rattle.files.specs.Parts.{behind}
 use Rattle.files.specs.Signed.{signedBytes}
-use Rattle.files.specs.Beginnings.{beginningNumbers}
+use Rattle.files.specs.Bodies.{bodyJudged}
 use Rattle.files.specs.Drafts.{draftBytes}
-
-abbrev pub refusalOf : Walk → Refusal
-refusalOf (Walk.Refused e) = e
-refusalOf (Walk.Next at) = unfit at
 
 abbrev pub rowsForm : ℕ → ℕ → Form
 rowsForm n modes = times (modes * n) (row n) end
 
 -- the whole file, its beginning having been read
-abbrev pub valuesBehind : List ℕ → Beginning → ℕ → Read (List ℤ)
-valuesBehind s b at = behind (beginningNumbers b) (valuesAt (rowsForm (b .n) (b .m)) s at)
-
 abbrev pub bodyRead : List ℕ → Beginning → ℕ → PlantRead
-bodyRead s b at = readOf (plantRelated (ended s (valuesBehind s b at)))
+bodyRead s b at = readOf (bodyJudged plantRelated rowsForm s b at)
 
 -- a beginning with the coefficients of the modes as a plant, and the beginning of a plant
 abbrev pub plantWith : Beginning → List ℤ → Plant

@@ -15,7 +15,7 @@ ghost use Rattle.meaning.specs.Files.{good, bad};
 ghost use Rattle.laws.specs.Writing.{Put};
 ghost use Rattle.meaning.specs.Plants.{readOf, plantRead, plantLeft};
 ghost use Rattle.files.specs.Beginnings.{relation, Begun};
-ghost use Rattle.files.specs.Plants.{refusalOf, bodyRead, plantWith, plantDraft};
+ghost use Rattle.files.specs.Plants.{bodyRead, plantWith, plantDraft};
 
 // A refused plant is all zeros.
 fn refused(e: Refusal) -> PlantRead
@@ -37,16 +37,6 @@ fn refused(e: Refusal) -> PlantRead
             whi: [0i64; 4],
             coef: [0i64; 320],
         },
-    }
-}
-
-// The same, of a part's walk that was refused: `let else` keeps no refusal, so the walk is handed on whole. Next does not occur.
-fn refused_by(w: Walk) -> PlantRead
-    ensures { λ r. ⌜ r ≡ readOf (bad (refusalOf w)) ⌝ }
-{
-    match w {
-        Walk::Refused(e) => refused(e),
-        Walk::Next(at) => refused(refusals::unfit(at)),
     }
 }
 
@@ -88,15 +78,17 @@ fn read_body(s: &[u8], b: Beginning, related: Verdict, at: usize) -> PlantRead
     let modes = b.m;
     let mut coef = [0i64; 320];
     let past_rows = rows::read_rows(s, at, n, modes, &mut coef);
-    let Walk::Next(next) = past_rows else {
-        return refused_by(past_rows);
-    };
-    if next != s.len() {
-        return refused(refusals::unfit(next));
-    }
-    match related {
-        Verdict::Refused(e) => refused(e),
-        Verdict::Accepted => accepted(b, coef),
+    match past_rows {
+        Walk::Refused(e) => refused(e),
+        Walk::Next(next) => {
+            if next != s.len() {
+                return refused(refusals::unfit(next));
+            }
+            match related {
+                Verdict::Refused(e) => refused(e),
+                Verdict::Accepted => accepted(b, coef),
+            }
+        }
     }
 }
 
@@ -106,12 +98,14 @@ pub fn read_plant(s: &[u8]) -> PlantRead
 {
     let read = beginnings::read_beginning(s, 16);
     let past = read.answer;
-    let Walk::Next(at) = past else {
-        return refused_by(past);
-    };
-    let b = read.beginning;
-    let related = read.related;
-    read_body(s, b, related, at)
+    match past {
+        Walk::Refused(e) => refused(e),
+        Walk::Next(at) => {
+            let b = read.beginning;
+            let related = read.related;
+            read_body(s, b, related, at)
+        }
+    }
 }
 
 // The file that the values would be, as far as there is room; the place behind it. Where n or N is out of range what follows is left out: the header is refused first.

@@ -13,14 +13,14 @@ use Rattle.meaning.specs.declared.Room.{Room}
 use Rattle.meaning.specs.declared.Sheet.{Sheet}
 use Rattle.meaning.specs.declared.SheetRead.{SheetRead}
 use Rattle.meaning.specs.Refusals.{notInSafe, narrow}
-use Rattle.meaning.specs.Files.{Form, end, Read, read, refused, ended, valuesAt, valuesOf, Judged, good, bad}
+use Rattle.meaning.specs.Files.{Form, end, Read, read, refused, valuesOf, Judged, good, bad}
 use Rattle.meaning.specs.Boxes.{sidesOf, lies}
 use Rattle.meaning.specs.Plants.{times, wide, related}
 use Rattle.meaning.specs.Sheets.{bitsOf, floating, anyFloat, above, roomForm, sheetForm, sheetOf, fitting, sheetRelated, sheetReadOf}
 use Rattle.promises.specs.SheetRooms.{Held}
 use Rattle.files.specs.declared.beginnings.Beginning.{Beginning}
-use Rattle.files.specs.Parts.{behind, Holds, Fails}
-use Rattle.files.specs.Beginnings.{beginningNumbers}
+use Rattle.files.specs.Parts.{Holds, Fails}
+use Rattle.files.specs.Bodies.{bodyJudged}
 use Rattle.files.specs.Drafts.{draftBytes}
 use Rattle.sheets.specs.declared.sheets.TimeOutside.{TimeOutside}
 use Rattle.sheets.specs.Floats.{floatBytes}
@@ -81,11 +81,8 @@ abbrev pub roomsForm : ℕ → ℕ → Form
 roomsForm n r = timePart (times n (roomForm n) end)
 
 -- the whole file, its beginning having been read
-abbrev pub valuesBehind : List ℕ → Beginning → ℕ → Read (List ℤ)
-valuesBehind s b at = behind (beginningNumbers b) (valuesAt (roomsForm (b .n) (b .m)) s at)
-
 abbrev pub bodyRead : List ℕ → Beginning → ℕ → SheetRead
-bodyRead s b at = sheetReadOf (unfittedOf (ended s (valuesBehind s b at)))
+bodyRead s b at = sheetReadOf (bodyJudged unfittedOf roomsForm s b at)
 
 -- a beginning with what stands behind it as a sheet, and the beginning of a sheet
 abbrev pub sheetWith : Beginning → Float → Float → List Room → Sheet

@@ -21,7 +21,6 @@ ghost use mathlib.Core.Path.{_≡_};
 ghost use Rattle.laws.specs.Writing.{Put};
 ghost use Rattle.meaning.specs.Files.{good, bad};
 ghost use Rattle.meaning.specs.Sheets.{sheetReadOf, sheetRead, sheetLeft, madeLeft};
-ghost use Rattle.files.specs.Plants.{refusalOf};
 ghost use Rattle.files.specs.Beginnings.{relation, Begun};
 ghost use Rattle.sheets.specs.Sheets.{TimeTold, unfitted, thenFitting, bodyRead, sheetWith, TakenSized, sheetDraft};
 ghost use Rattle.sheets.specs.Sizes.{Sized};
@@ -50,16 +49,6 @@ fn refused(e: Refusal) -> SheetRead
             outside: 0.0,
             rooms,
         },
-    }
-}
-
-// The same, of a part's walk that was refused: `let else` keeps no refusal, so the walk is handed on whole. Next does not occur.
-fn refused_by(w: Walk) -> SheetRead
-    ensures { λ r. ⌜ r ≡ sheetReadOf (bad (refusalOf w)) ⌝ }
-{
-    match w {
-        Walk::Refused(e) => refused(e),
-        Walk::Next(at) => refused(files::refusals::unfit(at)),
     }
 }
 
@@ -124,17 +113,19 @@ fn read_body(s: &[u8], b: Beginning, related: Verdict, at: usize) -> SheetRead
             let n = b.n;
             let read = rooms::read_rooms(s, mid, n);
             let past = read.answer;
-            let Walk::Next(next) = past else {
-                return refused_by(past);
-            };
-            if next != s.len() {
-                return refused(files::refusals::unfit(next));
-            }
-            match related {
-                Verdict::Refused(e) => refused(e),
-                Verdict::Accepted => {
-                    let rooms = read.rooms;
-                    accepted(b, time, outside, rooms)
+            match past {
+                Walk::Refused(e) => refused(e),
+                Walk::Next(next) => {
+                    if next != s.len() {
+                        return refused(files::refusals::unfit(next));
+                    }
+                    match related {
+                        Verdict::Refused(e) => refused(e),
+                        Verdict::Accepted => {
+                            let rooms = read.rooms;
+                            accepted(b, time, outside, rooms)
+                        }
+                    }
                 }
             }
         }
@@ -148,12 +139,14 @@ fn read_values(s: &[u8]) -> SheetRead
 {
     let read = beginnings::read_beginning(s, 1_000);
     let past = read.answer;
-    let Walk::Next(at) = past else {
-        return refused_by(past);
-    };
-    let b = read.beginning;
-    let related = read.related;
-    read_body(s, b, related, at)
+    match past {
+        Walk::Refused(e) => refused(e),
+        Walk::Next(at) => {
+            let b = read.beginning;
+            let related = read.related;
+            read_body(s, b, related, at)
+        }
+    }
 }
 
 // 14, told of the plant that a sheet makes.

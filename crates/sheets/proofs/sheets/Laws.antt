@@ -1,12 +1,11 @@
 -- A sheet's file behind its beginning: refused by its first part that is; else its values are the sheet's, they give the sheet back, and it is judged as a
--- whole. Relies on promises' page Sheets.
+-- whole. Relies on files' page Bodies, and on promises' page Sheets.
 use Prim.Native.Nat.{ℕ}
-use mathlib.Core.Path.{_≡_, refl, sym, ap, _∙_}
-use mathlib.Core.List.{List, [], _∷_, _++_, append-nil, append-assoc}
+use mathlib.Core.Path.{_≡_, refl, ap, _∙_}
+use mathlib.Core.List.{List, _∷_, _++_, append-assoc}
 use lib.ListN.{length}
 use lib.IntN.{ℤ}
 use lib.Ieee.{Float}
-use borrow.Author.Tests.{ne-eqb, eq-eqb}
 use Rattle.laws.specs.Lists.{tabs}
 use Rattle.meaning.specs.declared.Refusal.{Refusal}
 use Rattle.meaning.specs.declared.Verdict.{Verdict}
@@ -14,17 +13,18 @@ use Rattle.meaning.specs.declared.Room.{Room}
 use Rattle.meaning.specs.declared.Sheet.{Sheet}
 use Rattle.meaning.specs.declared.SheetRead.{SheetRead}
 use Rattle.meaning.specs.Refusals.{unfit}
-use Rattle.meaning.specs.Files.{Form, end, Read, read, refused, ended, valuesAt, good, bad}
+use Rattle.meaning.specs.Files.{Form, end, read, refused, valuesAt, good, bad}
 use Rattle.meaning.specs.Boxes.{sidesOf}
 use Rattle.meaning.specs.Plants.{times, related}
 use Rattle.meaning.specs.Sheets.{bitsOf, floating, anyFloat, above, roomForm, sheetForm, sheetOf, sheetValues, sheetReadOf}
 use Rattle.promises.specs.Sheets.{HeldSheet, TidySheet, sheet-back}
 use Rattle.files.specs.declared.beginnings.Beginning.{Beginning}
-use Rattle.files.specs.Parts.{behind, behind-read, behind-refused, Fails, holds-then, holds-fails, fails-then}
-use Rattle.files.specs.Beginnings.{beginningForm, headNumbers, headOf, edgesIn, bandsIn, beginningNumbers, byVerdict, relation, related-by, Begun}
+use Rattle.files.specs.Parts.{Fails, holds-then, holds-fails, holds-last, fails-then}
+use Rattle.files.specs.Beginnings.{beginningForm, headNumbers, headOf, edgesIn, bandsIn, beginningNumbers, byVerdict, relatedIn, relation, Begun}
+use Rattle.files.specs.Bodies.{begun-judged, not-begun, body-refused, body-left-over, body-by-verdict}
 use Rattle.sheets.specs.Floats.{Floated}
 use Rattle.sheets.specs.Rooms.{valuesOfRoom, RoomsHeld}
-use Rattle.sheets.specs.Sheets.{unfittedOf, unfitted, timePart, TimeRead, roomsForm, valuesBehind, bodyRead, sheetWith, TakenSized}
+use Rattle.sheets.specs.Sheets.{unfittedOf, unfitted, timePart, TimeRead, roomsForm, bodyRead, sheetWith, TakenSized}
 
 -- ---- sample time and outside temperature
 
@@ -43,7 +43,7 @@ module _ (s : List ℕ) (start : ℕ) where
 
 module _ (s : List ℕ) (b : Beginning) (from : ℕ) where
   by-values : (r : Refusal) → valuesAt (roomsForm (b .n) (b .m)) s from ≡ refused r → bodyRead s b from ≡ sheetReadOf (bad r)
-  by-values r e = ap (λ (x : Read (List ℤ)). sheetReadOf (unfittedOf (ended s x))) (ap (behind (beginningNumbers b)) e ∙ behind-refused (beginningNumbers b) r)
+  by-values r e = ap sheetReadOf (body-refused unfittedOf roomsForm s (λ e. refl) b from r e)
 
   pub time-refused : (r : Refusal) → Fails timePart s from r → bodyRead s b from ≡ sheetReadOf (bad r)
   time-refused r t = by-values r (t .fails (times (b .n) (roomForm (b .n)) end))
@@ -59,14 +59,12 @@ module _ (s : List ℕ) (b : Beginning) (from : ℕ) where
       rest : List ℤ
       rest = bitsOf time ∷ bitsOf outside ∷ tabs (valuesOfRoom (b .n) rooms) (b .n) 0
 
-      values : valuesBehind s b from ≡ read (beginningNumbers b ++ rest) next
-      unfolding rest valuesAt
-      values =
-          ap (behind (beginningNumbers b)) (holds-then (u .part) (v .part) .holds end ∙ behind-read rest [] next ∙ rw append-nil refl)
-          ∙ behind-read (beginningNumbers b) rest next
+      values : valuesAt (roomsForm (b .n) (b .m)) s from ≡ read rest next
+      unfolding rest
+      values = holds-last (holds-then (u .part) (v .part))
 
       pub left-over : (next ≡ length s → ⊥) → bodyRead s b from ≡ sheetReadOf (bad (unfit next))
-      left-over g = ap (λ (x : Read (List ℤ)). sheetReadOf (unfittedOf (ended s x))) values ∙ simp (ne-eqb _ _ g)
+      left-over g = ap sheetReadOf (body-left-over unfittedOf roomsForm s (λ e. refl) b from rest next values g)
 
       module _ (t : Begun 1000 s b from) (whole : next ≡ length s) where
         tidy : TidySheet h
@@ -92,25 +90,22 @@ module _ (s : List ℕ) (b : Beginning) (from : ℕ) where
         unfolding h rest sheetValues beginningNumbers
         given-back = ap (λ (l : List ℤ). sheetOf (headNumbers (headOf b) ++ l)) (append-assoc (edgesIn b) (bandsIn b) rest) ∙ sheet-back h tidy held
 
-        judged : bodyRead s b from ≡ sheetReadOf (byVerdict (relation b) λ _. good (sheetWith b time outside rooms))
+        judged : unfittedOf (read (beginningNumbers b ++ rest) next) ≡ relatedIn b (λ _. good (sheetWith b time outside rooms))
         unfolding h
-        judged =
-            ap (λ (x : Read (List ℤ)). sheetReadOf (unfittedOf (ended s x))) values ∙ simp (eq-eqb _ _ whole) refl
-            ∙ ap (λ (x : Sheet). sheetReadOf (related (x .q) (sidesOf (x .n) (x .rlo) (x .rhi)) (sidesOf (x .n) (x .slo) (x .shi)) (sidesOf (x .n) (x .wlo) (x .whi)) λ _. good x)) given-back
-            ∙ ap sheetReadOf (related-by b (λ _. good h))
+        judged = ap (λ (x : Sheet). related (x .q) (sidesOf (x .n) (x .rlo) (x .rhi)) (sidesOf (x .n) (x .slo) (x .shi)) (sidesOf (x .n) (x .wlo) (x .whi)) λ _. good x) given-back
 
         pub by-verdict : (x y : Verdict) → x ≡ relation b → x ≡ y → bodyRead s b from ≡ sheetReadOf (byVerdict y λ _. good (sheetWith b time outside rooms))
-        by-verdict x y e g = judged ∙ ap (λ (z : Verdict). sheetReadOf (byVerdict z λ _. good (sheetWith b time outside rooms))) (sym e ∙ g)
+        by-verdict x y e g = ap sheetReadOf (body-by-verdict unfittedOf roomsForm s (λ e. refl) b from rest next values (sheetWith b time outside rooms) whole judged x y e g)
 
 -- ---- the beginning in front
 
 pub beginning-refused : (s : List ℕ) (r : Refusal) → ((rest : ℕ → ℕ → Form) → valuesAt (beginningForm 1000 rest) s 0 ≡ refused r) → unfitted s ≡ sheetReadOf (bad r)
 unfolding unfitted sheetForm
-beginning-refused s r t = ap (λ (x : Read (List ℤ)). sheetReadOf (unfittedOf (ended s x))) (t roomsForm)
+beginning-refused s r t = ap sheetReadOf (not-begun unfittedOf roomsForm s (λ e. refl) 1000 r t)
 
 pub beginning-read : (s : List ℕ) (b : Beginning) (next : ℕ) → Begun 1000 s b next → unfitted s ≡ bodyRead s b next
 unfolding unfitted sheetForm
-beginning-read s b next t = ap (λ (x : Read (List ℤ)). sheetReadOf (unfittedOf (ended s x))) (t .holds roomsForm)
+beginning-read s b next t = ap sheetReadOf (begun-judged unfittedOf roomsForm s b next t)
 
 -- ---- how large the numbers are
 

@@ -12,7 +12,7 @@ use Rattle.meaning.specs.Files.{good, bad}
 use Rattle.meaning.specs.Plants.{readOf}
 use Rattle.files.specs.Beginnings.{byVerdict}
 use Rattle.files.specs.Rows.{RowsTold}
-use Rattle.files.specs.Plants.{refusalOf, bodyRead, plantWith}
+use Rattle.files.specs.Plants.{bodyRead, plantWith}
 use Rattle.files.proofs.plants.Laws.{rows-refused, left-over, by-verdict}
 use borrow.Author.Needs.{needs}
 use Rattle.files.proofs.plants.read_body.Statement.{statement}
@@ -43,53 +43,52 @@ read-rows-requires c κs = search needs
 enum-known-past-rows : tie.Need-enum-known-past-rows
 enum-known-past-rows c = search needs
 
-enum-told : tie.Need-enum-told
-enum-told c = search needs
+refused-requires : tie.Need-refused-requires
+refused-requires c κs = search needs
 
-refused-by-requires : tie.Need-refused-by-requires
-refused-by-requires c κs = search needs
-
-returns : tie.Need-returns
-returns c =
-    let m = c .before .before .before in
-    let g = c .before .enum-told .given in
-    c .refused-by .ensures ∙ ap (λ (k : Walk). readOf (bad (refusalOf k))) (g .1)
-    ∙ sym (rows-refused (file m) (start m .args .b) (start m .args .at) (g .0 .0) (told m (Walk.Refused (g .0 .0)) (g .1)))
+enum-known-past-rows-2 : tie.Need-enum-known-past-rows-2
+enum-known-past-rows-2 c = search needs
 
 unfit-requires : tie.Need-unfit-requires
 unfit-requires c κs = search needs
 
-refused-requires : tie.Need-refused-requires
-refused-requires c κs = search needs
+refused-requires-2 : tie.Need-refused-requires-2
+refused-requires-2 c κs = search needs
 
-returns-2 : tie.Need-returns-2
-returns-2 c =
+returns : tie.Need-returns
+returns c =
     let m = c .before .before .before .before .before .before in
-    let g = c .before .before .before .before .past-rows .given in
-    c .refused .ensures ∙ ap (λ (k : Refusal). readOf (bad k)) (c .before .unfit .ensures)
+    let g = c .before .before .before .before .past-rows2 .given in
+    c .refused2 .ensures ∙ ap (λ (k : Refusal). readOf (bad k)) (c .before .unfit .ensures)
     ∙ sym (left-over (file m) (start m .args .b) (start m .args .at) (coef m) (g .0 .0) (told m (Walk.Next (g .0 .0)) (g .1)) (c .before .before .if1 .taken))
 
 enum-known-related : tie.Need-enum-known-related
 enum-known-related c = search needs
 
-refused-requires-2 : tie.Need-refused-requires-2
-refused-requires-2 c κs = search needs
+refused-requires-3 : tie.Need-refused-requires-3
+refused-requires-3 c κs = search needs
 
-enum-told-2 : tie.Need-enum-told-2
-enum-told-2 c = search needs
+enum-told : tie.Need-enum-told
+enum-told c = search needs
 
 accepted-requires : tie.Need-accepted-requires
 accepted-requires c κs = search needs
 
+returns-2 : tie.Need-returns-2
+returns-2 c =
+    let m = c .before .before .before .before in
+    let g = c .before .before .past-rows .given in
+    c .refused .ensures ∙ sym (rows-refused (file m) (start m .args .b) (start m .args .at) (g .0 .0) (told m (Walk.Refused (g .0 .0)) (g .1)))
+
 returns-3 : tie.Need-returns-3
 returns-3 c =
-    let g = c .before .before .before .before .before .before .past-rows .given in
-    c .refused2 .ensures ∙ sym (judged (c .before .before .before .before .before .before .before .before) (g .0 .0) (g .1) (c .before .before .before .before .if1 .left) _ (c .before .before .related .given .1))
+    let g = c .before .before .before .before .before .before .past-rows2 .given in
+    c .refused3 .ensures ∙ sym (judged (c .before .before .before .before .before .before .before .before) (g .0 .0) (g .1) (c .before .before .before .before .if1 .left) _ (c .before .before .related .given .1))
 
 returns-4 : tie.Need-returns-4
 returns-4 c =
-    let g = c .before .before .before .before .before .past-rows .given in
-    c .accepted .ensures ∙ sym (judged (c .before .before .before .before .before .before .before) (g .0 .0) (g .1) (c .before .before .before .if1 .left) _ (c .before .enum-told2 .given .1))
+    let g = c .before .before .before .before .before .past-rows2 .given in
+    c .accepted .ensures ∙ sym (judged (c .before .before .before .before .before .before .before) (g .0 .0) (g .1) (c .before .before .before .if1 .left) _ (c .before .enum-told .given .1))
 
 pub read-body-spec : {M : Type 1} → statement M
 read-body-spec =
@@ -97,15 +96,15 @@ read-body-spec =
     (tie.spec
     read-rows-requires
     enum-known-past-rows
-    enum-told
-    refused-by-requires
-    returns
-    unfit-requires
     refused-requires
-    returns-2
-    enum-known-related
+    enum-known-past-rows-2
+    unfit-requires
     refused-requires-2
-    enum-told-2
+    returns
+    enum-known-related
+    refused-requires-3
+    enum-told
     accepted-requires
+    returns-2
     returns-3
     returns-4)

@@ -1,11 +1,7 @@
 -- `plants::read_plant`: a beginning, and what stands behind it. Assumes nothing.
-use mathlib.Core.Path.{sym, ap, _∙_, subst}
+use mathlib.Core.Path.{sym, _∙_, subst}
 use denote.Ref.{now}
-use Rattle.meaning.specs.declared.Walk.{Walk}
-use Rattle.meaning.specs.Files.{bad}
-use Rattle.meaning.specs.Plants.{readOf}
 use Rattle.files.specs.Beginnings.{BegunAs}
-use Rattle.files.specs.Plants.{refusalOf}
 use Rattle.files.proofs.plants.Laws.{beginning-refused, beginning-read}
 use borrow.Author.Needs.{needs}
 use Rattle.files.proofs.plants.read_plant.Statement.{statement}
@@ -17,31 +13,31 @@ read-beginning-requires c κs = search needs
 enum-known-past : tie.Need-enum-known-past
 enum-known-past c = search needs
 
-enum-told : tie.Need-enum-told
-enum-told c = search needs
+refused-requires : tie.Need-refused-requires
+refused-requires c κs = search needs
 
-refused-by-requires : tie.Need-refused-by-requires
-refused-by-requires c κs = search needs
-
-returns : tie.Need-returns
-returns c =
-    let z = c .before .before .before .before .before .args in
-    let r = c .before .before .before .read-beginning in
-    let g = c .before .enum-told .given in
-    let t = subst (BegunAs 16 (now (z .s)) (r .result)) (g .1) (r .ensures .1) in
-    c .refused-by .ensures ∙ ap (λ (k : Walk). readOf (bad (refusalOf k))) (g .1) ∙ sym (beginning-refused (now (z .s)) (g .0 .0) (t .1))
+enum-known-past-2 : tie.Need-enum-known-past-2
+enum-known-past-2 c = search needs
 
 read-body-requires : tie.Need-read-body-requires
 read-body-requires c κs =
     let z = c .before .before .before .before .before .before .args in
     let r = c .before .before .before .before .read-beginning in
-    subst (BegunAs 16 (now (z .s)) (r .result)) (c .before .before .past .given .1) (r .ensures .1)
+    subst (BegunAs 16 (now (z .s)) (r .result)) (c .before .before .past2 .given .1) (r .ensures .1)
+
+returns : tie.Need-returns
+returns c =
+    let z = c .before .before .before .before .before .before .args in
+    let r = c .before .before .before .before .read-beginning in
+    let g = c .before .before .past .given in
+    let t = subst (BegunAs 16 (now (z .s)) (r .result)) (g .1) (r .ensures .1) in
+    c .refused .ensures ∙ sym (beginning-refused (now (z .s)) (g .0 .0) (t .1))
 
 returns-2 : tie.Need-returns-2
 returns-2 c =
     let z = c .before .before .before .before .before .before .before .args in
     let r = c .before .before .before .before .before .read-beginning in
-    let g = c .before .before .before .past .given in
+    let g = c .before .before .before .past2 .given in
     let t = subst (BegunAs 16 (now (z .s)) (r .result)) (g .1) (r .ensures .1) in
     c .read-body .ensures ∙ sym (beginning-read (now (z .s)) (r .result .beginning) (g .0 .0) (t .0))
 
@@ -51,8 +47,8 @@ read-plant-spec =
     (tie.spec
     read-beginning-requires
     enum-known-past
-    enum-told
-    refused-by-requires
-    returns
+    refused-requires
+    enum-known-past-2
     read-body-requires
+    returns
     returns-2)

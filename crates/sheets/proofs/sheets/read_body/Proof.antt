@@ -2,11 +2,9 @@
 use mathlib.Core.Path.{sym, ap, _∙_, subst}
 use denote.Ref.{now}
 use Rattle.meaning.specs.declared.Refusal.{Refusal}
-use Rattle.meaning.specs.declared.Walk.{Walk}
 use Rattle.meaning.specs.Files.{bad}
 use Rattle.meaning.specs.Sheets.{sheetReadOf}
 use Rattle.sheets.specs.Rooms.{RoomsAs}
-use Rattle.files.specs.Plants.{refusalOf}
 use Rattle.sheets.specs.Sheets.{TimeTold}
 use Rattle.sheets.proofs.sheets.Laws.{time-refused, rooms-refused, left-over, by-verdict, refused-sized, taken-sized}
 use borrow.Author.Needs.{needs}
@@ -31,67 +29,67 @@ read-rooms-requires c κs = search needs
 enum-known-past : tie.Need-enum-known-past
 enum-known-past c = search needs
 
-enum-told : tie.Need-enum-told
-enum-told c = search needs
+refused-requires-2 : tie.Need-refused-requires-2
+refused-requires-2 c κs = search needs
 
-refused-by-requires : tie.Need-refused-by-requires
-refused-by-requires c κs = search needs
-
-returns : tie.Need-returns
-returns c =
-    let z = c .before .before .before .before .before .before .before .before .before .args in
-    let s = now (z .s) in
-    let f = c .before .before .before .before .before .before .before .read-time in
-    let g = c .before .before .before .before .before .time .given in
-    let u = subst (TimeTold s (z .at)) (g .1) (f .ensures) in
-    let m = c .before .before .before .read-rooms in
-    let y = c .before .enum-told .given in (
-      c .refused-by .ensures ∙ ap (λ (k : Walk). sheetReadOf (bad (refusalOf k))) (y .1)
-          ∙ sym (rooms-refused s (z .b) (z .at) (g .0 .0) (g .0 .1 .0) (g .0 .1 .1 .0) u (y .0 .0) (subst (RoomsAs s (g .0 .1 .1 .0) (z .b .n) (m .result .rooms)) (y .1) (m .ensures))),
-      refused-sized (c .refused-by .result) _ (c .refused-by .ensures),
-    )
+enum-known-past-2 : tie.Need-enum-known-past-2
+enum-known-past-2 c = search needs
 
 unfit-requires : tie.Need-unfit-requires
 unfit-requires c κs = search needs
 
-refused-requires-2 : tie.Need-refused-requires-2
-refused-requires-2 c κs = search needs
+refused-requires-3 : tie.Need-refused-requires-3
+refused-requires-3 c κs = search needs
 
-returns-2 : tie.Need-returns-2
-returns-2 c =
+returns : tie.Need-returns
+returns c =
     let z = c .before .before .before .before .before .before .before .before .before .before .before .before .args in
     let s = now (z .s) in
     let f = c .before .before .before .before .before .before .before .before .before .before .read-time in
     let g = c .before .before .before .before .before .before .before .before .time .given in
     let u = subst (TimeTold s (z .at)) (g .1) (f .ensures) in
     let m = c .before .before .before .before .before .before .read-rooms in
-    let y = c .before .before .before .before .past .given in
+    let y = c .before .before .before .before .past2 .given in
     let v = subst (RoomsAs s (g .0 .1 .1 .0) (z .b .n) (m .result .rooms)) (y .1) (m .ensures) in (
-      c .refused2 .ensures ∙ ap (λ (k : Refusal). sheetReadOf (bad k)) (c .before .unfit .ensures)
+      c .refused3 .ensures ∙ ap (λ (k : Refusal). sheetReadOf (bad k)) (c .before .unfit .ensures)
           ∙ sym (left-over s (z .b) (z .at) (g .0 .0) (g .0 .1 .0) (g .0 .1 .1 .0) u (m .result .rooms) (y .0 .0) v (c .before .before .if1 .taken)),
-      refused-sized (c .refused2 .result) _ (c .refused2 .ensures),
+      refused-sized (c .refused3 .result) _ (c .refused3 .ensures),
     )
 
 enum-known-related : tie.Need-enum-known-related
 enum-known-related c = search needs
 
-refused-requires-3 : tie.Need-refused-requires-3
-refused-requires-3 c κs = search needs
+refused-requires-4 : tie.Need-refused-requires-4
+refused-requires-4 c κs = search needs
 
-enum-told-2 : tie.Need-enum-told-2
-enum-told-2 c = search needs
+enum-told : tie.Need-enum-told
+enum-told c = search needs
 
 accepted-requires : tie.Need-accepted-requires
 accepted-requires c κs = search needs
 
-returns-3 : tie.Need-returns-3
-returns-3 c =
+returns-2 : tie.Need-returns-2
+returns-2 c =
     let z = c .before .before .before .before .before .before .args in
     let s = now (z .s) in
     let f = c .before .before .before .before .read-time in
     let g = c .before .before .e .given in (
       c .refused .ensures ∙ sym (time-refused s (z .b) (z .at) (g .0 .0) (subst (TimeTold s (z .at)) (g .1) (f .ensures))),
       refused-sized (c .refused .result) _ (c .refused .ensures),
+    )
+
+returns-3 : tie.Need-returns-3
+returns-3 c =
+    let z = c .before .before .before .before .before .before .before .before .before .before .args in
+    let s = now (z .s) in
+    let f = c .before .before .before .before .before .before .before .before .read-time in
+    let g = c .before .before .before .before .before .before .time .given in
+    let u = subst (TimeTold s (z .at)) (g .1) (f .ensures) in
+    let m = c .before .before .before .before .read-rooms in
+    let y = c .before .before .past .given in (
+      c .refused2 .ensures
+          ∙ sym (rooms-refused s (z .b) (z .at) (g .0 .0) (g .0 .1 .0) (g .0 .1 .1 .0) u (y .0 .0) (subst (RoomsAs s (g .0 .1 .1 .0) (z .b .n) (m .result .rooms)) (y .1) (m .ensures))),
+      refused-sized (c .refused2 .result) _ (c .refused2 .ensures),
     )
 
 returns-4 : tie.Need-returns-4
@@ -102,11 +100,11 @@ returns-4 c =
     let g = c .before .before .before .before .before .before .before .before .before .before .time .given in
     let u = subst (TimeTold s (z .at)) (g .1) (f .ensures) in
     let m = c .before .before .before .before .before .before .before .before .read-rooms in
-    let y = c .before .before .before .before .before .before .past .given in
+    let y = c .before .before .before .before .before .before .past2 .given in
     let v = subst (RoomsAs s (g .0 .1 .1 .0) (z .b .n) (m .result .rooms)) (y .1) (m .ensures) in
     let w = c .before .before .before .before .before .before .before .before .before .before .before .before .before .before .pre in (
-      c .refused3 .ensures ∙ sym (by-verdict s (z .b) (z .at) (g .0 .0) (g .0 .1 .0) (g .0 .1 .1 .0) u (m .result .rooms) (y .0 .0) v (w .0) (c .before .before .before .before .if1 .left) (z .related) _ (w .1) (c .before .before .related .given .1)),
-      refused-sized (c .refused3 .result) _ (c .refused3 .ensures),
+      c .refused4 .ensures ∙ sym (by-verdict s (z .b) (z .at) (g .0 .0) (g .0 .1 .0) (g .0 .1 .1 .0) u (m .result .rooms) (y .0 .0) v (w .0) (c .before .before .before .before .if1 .left) (z .related) _ (w .1) (c .before .before .related .given .1)),
+      refused-sized (c .refused4 .result) _ (c .refused4 .ensures),
     )
 
 returns-5 : tie.Need-returns-5
@@ -117,10 +115,10 @@ returns-5 c =
     let g = c .before .before .before .before .before .before .before .before .before .before .time .given in
     let u = subst (TimeTold s (z .at)) (g .1) (f .ensures) in
     let m = c .before .before .before .before .before .before .before .before .read-rooms in
-    let y = c .before .before .before .before .before .before .past .given in
+    let y = c .before .before .before .before .before .before .past2 .given in
     let v = subst (RoomsAs s (g .0 .1 .1 .0) (z .b .n) (m .result .rooms)) (y .1) (m .ensures) in
     let w = c .before .before .before .before .before .before .before .before .before .before .before .before .before .before .pre in (
-      c .accepted .ensures ∙ sym (by-verdict s (z .b) (z .at) (g .0 .0) (g .0 .1 .0) (g .0 .1 .1 .0) u (m .result .rooms) (y .0 .0) v (w .0) (c .before .before .before .before .if1 .left) (z .related) _ (w .1) (c .before .before .enum-told2 .given .1)),
+      c .accepted .ensures ∙ sym (by-verdict s (z .b) (z .at) (g .0 .0) (g .0 .1 .0) (g .0 .1 .1 .0) u (m .result .rooms) (y .0 .0) v (w .0) (c .before .before .before .before .if1 .left) (z .related) _ (w .1) (c .before .before .enum-told .given .1)),
       taken-sized (c .accepted .result) s (z .b) (z .at) (g .0 .0) (g .0 .1 .0) (m .result .rooms) (c .accepted .ensures) (w .0),
     )
 
@@ -134,16 +132,16 @@ read-body-spec =
     enum-known-time
     read-rooms-requires
     enum-known-past
-    enum-told
-    refused-by-requires
-    returns
-    unfit-requires
     refused-requires-2
-    returns-2
-    enum-known-related
+    enum-known-past-2
+    unfit-requires
     refused-requires-3
-    enum-told-2
+    returns
+    enum-known-related
+    refused-requires-4
+    enum-told
     accepted-requires
+    returns-2
     returns-3
     returns-4
     returns-5)
