@@ -1,5 +1,6 @@
 -- What plants and sheets begin with alike: form 1, n, a number in 1..most, q, K, D, then R and S, then w of each dimension; as the code reads and writes
--- it, with what is asked of R, S and w. Assumes nothing.
+-- it, with what is asked of R, S and w. `Begun` is a beginning that was read: the file goes on behind it, its arrays hold zeros beyond n, and those ranges
+-- that the code behind it relies on; all of document 01's are promises' `Sound`. Assumes nothing.
 use Prim.Native.Nat.{ℕ, _+_, _*_, _≤_}
 use mathlib.Core.Path.{_≡_, refl}
 use mathlib.Core.Bool.{Bool, true, false, cond}
@@ -21,7 +22,7 @@ use Rattle.files.specs.declared.beginnings.Beginning.{Beginning}
 use Rattle.files.specs.declared.beginnings.BeginningRead.{BeginningRead}
 use Rattle.files.specs.Headers.{headBytes}
 use Rattle.files.specs.Parts.{behind, Holds, Fails}
-use Rattle.files.specs.Bounds.{Sizes}
+use Rattle.files.specs.Bounds.{EndsWithin}
 use Rattle.files.specs.Signed.{signedBytes}
 
 -- ---- the form, and the numbers of a beginning in file order
@@ -123,8 +124,8 @@ pub record Begun (most : ℕ) (s : List ℕ) (b : Beginning) (next : ℕ) : Type
   pub shi-filled : Filled 4 (b .n) (b .shi)
   pub wlo-filled : Filled 4 (b .n) (b .wlo)
   pub whi-filled : Filled 4 (b .n) (b .whi)
-  pub edge-sizes : Sizes edgeLimit (b .n) (b .slo) (b .shi)
-  pub band-sizes : Sizes bandLimit (b .n) (b .wlo) (b .whi)
+  pub edge-sizes : EndsWithin edgeLimit (b .n) (b .slo) (b .shi)
+  pub band-sizes : EndsWithin bandLimit (b .n) (b .wlo) (b .whi)
   pub holds : (rest : ℕ → ℕ → Form) → valuesAt (beginningForm most rest) s 0 ≡ behind (beginningNumbers b) (valuesAt (rest (b .n) (b .m)) s next)
 
 abbrev pub BegunAs : ℕ → List ℕ → BeginningRead → Walk → Type 0
@@ -145,8 +146,8 @@ pub record BoundsRead (s : List ℕ) (h : Header) (from : ℕ) (b : Beginning) (
   pub shi-filled : Filled 4 (h .n) (b .shi)
   pub wlo-filled : Filled 4 (h .n) (b .wlo)
   pub whi-filled : Filled 4 (h .n) (b .whi)
-  pub edge-sizes : Sizes edgeLimit (h .n) (b .slo) (b .shi)
-  pub band-sizes : Sizes bandLimit (h .n) (b .wlo) (b .whi)
+  pub edge-sizes : EndsWithin edgeLimit (h .n) (b .slo) (b .shi)
+  pub band-sizes : EndsWithin bandLimit (h .n) (b .wlo) (b .whi)
 
 abbrev pub BoundsAs : List ℕ → Header → ℕ → BeginningRead → Walk → Type 0
 BoundsAs s h from r (Walk.Next next) = BoundsRead s h from (r .beginning) next × (r .related ≡ relation (r .beginning))

@@ -36,7 +36,7 @@ pub fn read_span(s: &[u8], at: usize, least: i64, most: i64) -> Span
 }
 
 // The edges of R and S, zeros beyond n, and the place behind them.
-pub struct Edges {
+pub struct EdgeArrays {
     pub answer: Walk,
     pub rlo: [i64; 4],
     pub rhi: [i64; 4],
@@ -44,7 +44,7 @@ pub struct Edges {
     pub shi: [i64; 4],
 }
 
-pub fn read_edges(s: &[u8], at: usize, n: usize) -> Edges
+pub fn read_edges(s: &[u8], at: usize, n: usize) -> EdgeArrays
     requires { ⌜ n ≤ 4 ⌝ }
     ensures { λ r. ⌜ EdgesTold (now (s .entry)) at n r ⌝ }
 {
@@ -57,7 +57,7 @@ pub fn read_edges(s: &[u8], at: usize, n: usize) -> Edges
     while i < n {
         match read_span(s, p, -1_000_000, 1_000_000) {
             Span::Refused(e) => {
-                return Edges {
+                return EdgeArrays {
                     answer: Walk::Refused(e),
                     rlo,
                     rhi,
@@ -67,7 +67,7 @@ pub fn read_edges(s: &[u8], at: usize, n: usize) -> Edges
             }
             Span::Ends(a, b, mid) => match read_span(s, mid, -1_000_000, 1_000_000) {
                 Span::Refused(e) => {
-                    return Edges {
+                    return EdgeArrays {
                         answer: Walk::Refused(e),
                         rlo,
                         rhi,
@@ -86,7 +86,7 @@ pub fn read_edges(s: &[u8], at: usize, n: usize) -> Edges
         }
         i += 1;
     }
-    Edges {
+    EdgeArrays {
         answer: Walk::Next(p),
         rlo,
         rhi,
@@ -96,13 +96,13 @@ pub fn read_edges(s: &[u8], at: usize, n: usize) -> Edges
 }
 
 // The bands, zeros beyond n, and the place behind them.
-pub struct Bands {
+pub struct BandArrays {
     pub answer: Walk,
     pub wlo: [i64; 4],
     pub whi: [i64; 4],
 }
 
-pub fn read_bands(s: &[u8], at: usize, n: usize) -> Bands
+pub fn read_bands(s: &[u8], at: usize, n: usize) -> BandArrays
     requires { ⌜ n ≤ 4 ⌝ }
     ensures { λ r. ⌜ BandsTold (now (s .entry)) at n r ⌝ }
 {
@@ -113,7 +113,7 @@ pub fn read_bands(s: &[u8], at: usize, n: usize) -> Bands
     while i < n {
         match read_span(s, p, -1_000_000_000, 1_000_000_000) {
             Span::Refused(e) => {
-                return Bands {
+                return BandArrays {
                     answer: Walk::Refused(e),
                     wlo,
                     whi,
@@ -127,7 +127,7 @@ pub fn read_bands(s: &[u8], at: usize, n: usize) -> Bands
         }
         i += 1;
     }
-    Bands {
+    BandArrays {
         answer: Walk::Next(p),
         wlo,
         whi,

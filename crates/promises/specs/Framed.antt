@@ -1,5 +1,6 @@
 -- What plant and sheet files share: the header, the edges of R and S, and the bands, as facts from the form that they were read by (page Forms).
--- Relies on page Headers for the test of a range. Leaves out what stands behind the bands (pages Judged and SheetSound).
+-- `Framed` says it of the values, before they make a plant (`Sound`) or a sheet (`Ranges`). Relies on page Headers for the test of a range. Leaves out what
+-- stands behind the bands (pages Judged and SheetSound).
 use Prim.Native.Nat.{ℕ, _+_, _*_, _≤_, _<_}
 use mathlib.Core.Path.{_≡_, refl, _∙_}
 use mathlib.Core.Bool.{true}

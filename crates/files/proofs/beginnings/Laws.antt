@@ -16,8 +16,8 @@ use Rattle.meaning.specs.Files.{Form, refused, valuesAt}
 use Rattle.meaning.specs.Boxes.{sidesOf, lies}
 use Rattle.meaning.specs.Plants.{bandLimit, span, times, edgesAndBands, headed, wide}
 use Rattle.files.specs.declared.headers.Header.{Header}
-use Rattle.files.specs.declared.bounds.Edges.{Edges}
-use Rattle.files.specs.declared.bounds.Bands.{Bands}
+use Rattle.files.specs.declared.bounds.EdgeArrays.{EdgeArrays}
+use Rattle.files.specs.declared.bounds.BandArrays.{BandArrays}
 use Rattle.files.specs.declared.beginnings.Beginning.{Beginning}
 use Rattle.files.specs.declared.beginnings.BeginningRead.{BeginningRead}
 use Rattle.files.specs.Headers.{Headed}
@@ -75,12 +75,12 @@ module _ (s : List ℕ) (h : Header) (from : ℕ) where
   unfolding edgesAndBands
   edges-refused r t = fails-then {g = times (h .n) (span bandLimit)} t
 
-  module _ (e : Edges) (mid : ℕ) (t : EdgesRead s from (h .n) e mid) where
+  module _ (e : EdgeArrays) (mid : ℕ) (t : EdgesRead s from (h .n) e mid) where
     pub bands-refused : (r : Refusal) → Fails (times (h .n) (span bandLimit)) s mid r → Fails (edgesAndBands (h .n)) s from r
     unfolding edgesAndBands
     bands-refused r u = holds-fails (t .part) u
 
-    pub bounds-read : (w : Bands) (next : ℕ) → BandsRead s mid (h .n) w next
+    pub bounds-read : (w : BandArrays) (next : ℕ) → BandsRead s mid (h .n) w next
         → BoundsRead s h from (record { n = h .n; m = h .m; q = h .q; k = h .k; d = h .d; rlo = e .rlo; rhi = e .rhi; slo = e .slo; shi = e .shi; wlo = w .wlo; whi = w .whi }) next
     unfolding edgesAndBands
     bounds-read w next u = record {

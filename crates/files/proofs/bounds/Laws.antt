@@ -23,9 +23,9 @@ use Rattle.files.specs.Signed.{signedBytes}
 use Rattle.files.specs.Fields.{rangedAt, faultAt}
 use Rattle.files.specs.FieldLaws.{ranged-was, ranged-fault}
 use Rattle.files.specs.Parts.{behind, Fails, holds-then, holds-fails, fails-then, Rows, rows-none, rows-more, rows-fails, rows-all}
-use Rattle.files.specs.declared.bounds.Bands.{Bands}
-use Rattle.files.specs.declared.bounds.Edges.{Edges}
-use Rattle.files.specs.Bounds.{spanIn, Spanned, edgesPart, Sizes, EdgesRead, BandSizes, BandsRead}
+use Rattle.files.specs.declared.bounds.BandArrays.{BandArrays}
+use Rattle.files.specs.declared.bounds.EdgeArrays.{EdgeArrays}
+use Rattle.files.specs.Bounds.{spanIn, Spanned, edgesPart, EndsWithin, EdgesRead, BandSizes, BandsRead}
 use Rattle.meaning.specs.declared.Refusal.{Refusal}
 
 module _ (least most : ℤ) (s : List ℕ) (from : ℕ) where
@@ -85,7 +85,7 @@ span-sizes limit {s} {from} {lo} {hi} {next} w =
     let e : negℤ (pos limit) ≤ℤ hi = omega zarith in
     (within limit a d, within limit e c)
 
-sizes-more : (limit : ℕ) (lo hi : List ℤ) (i : ℕ) (a b : ℤ) → i < length lo → i < length hi → (natAbs a ≤ limit) × (natAbs b ≤ limit) → Sizes limit i lo hi → Sizes limit (i + 1) (set lo i a) (set hi i b)
+sizes-more : (limit : ℕ) (lo hi : List ℤ) (i : ℕ) (a b : ℤ) → i < length lo → i < length hi → (natAbs a ≤ limit) × (natAbs b ≤ limit) → EndsWithin limit i lo hi → EndsWithin limit (i + 1) (set lo i a) (set hi i b)
 sizes-more limit lo hi i a b h l t w k g = go (ℕ-discrete k i)
   where
     go : Dec (k ≡ i) → (natAbs (at (set lo i a) k) ≤ limit) × (natAbs (at (set hi i b) k) ≤ limit)
@@ -110,7 +110,7 @@ module _ {s : List ℕ} {from n i p : ℕ} {wlo whi : List ℤ} (w : BandsUpTo s
   pub bands-fails : (e : Refusal) → i < n → Fails (spanIn (negℤ (pos bandLimit)) (pos bandLimit)) s p e → Fails (times n (span bandLimit)) s from e
   bands-fails e h t = rows-fails (w .rows) h t
 
-  pub bands-all : (r : Bands) → r .wlo ≡ wlo → r .whi ≡ whi → n ≤ i → BandsRead s from n r p
+  pub bands-all : (r : BandArrays) → r .wlo ≡ wlo → r .whi ≡ whi → n ≤ i → BandsRead s from n r p
   bands-all r e g h =
       let j : i ≡ n = omega (arith, w .rows .few) in
       record {
@@ -128,7 +128,7 @@ pub record EdgesUpTo (s : List ℕ) (from n i p : ℕ) (rlo rhi slo shi : List �
   pub rhi-filled : Filled 4 i rhi
   pub slo-filled : Filled 4 i slo
   pub shi-filled : Filled 4 i shi
-  pub sizes : Sizes edgeLimit i slo shi
+  pub sizes : EndsWithin edgeLimit i slo shi
 
 pub edges-none : (s : List ℕ) (from n : ℕ) → EdgesUpTo s from n 0 from (replicate 4 (pos 0)) (replicate 4 (pos 0)) (replicate 4 (pos 0)) (replicate 4 (pos 0))
 edges-none s from n = record {
@@ -171,7 +171,7 @@ module _ {s : List ℕ} {from n i p : ℕ} {rlo rhi slo shi : List ℤ} (w : Edg
   pub safe-fails : (a b : ℤ) (mid : ℕ) (e : Refusal) → i < n → EdgeSpan s p a b mid → Fails (spanIn (negℤ (pos edgeLimit)) (pos edgeLimit)) s mid e → Fails (times n edgesPart) s from e
   safe-fails a b mid e h t u = rows-fails (w .rows) h (holds-fails (t .part) u)
 
-  pub edges-all : (r : Edges) → r .rlo ≡ rlo → r .rhi ≡ rhi → r .slo ≡ slo → r .shi ≡ shi → n ≤ i → EdgesRead s from n r p
+  pub edges-all : (r : EdgeArrays) → r .rlo ≡ rlo → r .rhi ≡ rhi → r .slo ≡ slo → r .shi ≡ shi → n ≤ i → EdgesRead s from n r p
   edges-all r e₀ e₁ e₂ e₃ h =
       let j : i ≡ n = omega (arith, w .rows .few) in
       record {
