@@ -4,13 +4,14 @@ use mathlib.Core.Bool.{Bool}
 use mathlib.Core.List.{List, [], _∷_}
 use lib.IntN.{pos}
 use lib.Ieee.{Float, binary64, toBits}
-use Rattle.meaning.specs.Files.{Taken, taken, none, lowFirst}
+use Rattle.meaning.specs.Files.{Form, Taken, taken, none, lowFirst}
 use Rattle.meaning.specs.Sheets.{bitsOf, floating, anyFloat, notBelow, above}
 use Rattle.promises.specs.SheetRooms.{Held}
 use Rattle.files.specs.Parts.{Holds, Fails}
 use Rattle.sheets.specs.declared.floats.BitsRead.{BitsRead}
 use Rattle.sheets.specs.declared.floats.Asked.{Asked}
 use Rattle.sheets.specs.declared.floats.FloatRead.{FloatRead}
+use Rattle.sheets.specs.declared.floats.TwoFloats.{TwoFloats}
 
 abbrev pub bitsTaken : BitsRead → Taken
 bitsTaken (BitsRead.Bits v next) = taken (pos v) next
@@ -29,6 +30,19 @@ pub record Floated (ok : Float → Bool) (s : List ℕ) (from : ℕ) (x : Float)
 abbrev pub FloatTold : (Float → Bool) → List ℕ → ℕ → FloatRead → Type 0
 FloatTold ok s from (FloatRead.Float x next) = Floated ok s from x next
 FloatTold ok s from (FloatRead.Refused e) = Fails (floating ok) s from e
+
+-- two of them, of the second of which nothing is asked
+abbrev pub twoPart : (Float → Bool) → Form → Form
+twoPart ok rest = floating ok (floating anyFloat rest)
+
+pub record TwoFloated (ok : Float → Bool) (s : List ℕ) (from : ℕ) (x y : Float) (next : ℕ) : Type 0 where
+  pub part : Holds (twoPart ok) s from (bitsOf x ∷ bitsOf y ∷ []) next
+  pub first-held : Held x
+  pub second-held : Held y
+
+abbrev pub TwoTold : (Float → Bool) → List ℕ → ℕ → TwoFloats → Type 0
+TwoTold ok s from (TwoFloats.Floats x y next) = TwoFloated ok s from x y next
+TwoTold ok s from (TwoFloats.Refused e) = Fails (twoPart ok) s from e
 
 abbrev pub floatBytes : Float → List ℕ
 floatBytes x = lowFirst 8 (toBits binary64 x)

@@ -1,9 +1,9 @@
 -- A sheet's file as the code reads it: all but 14, which the reader tells last; the parts behind the beginning, and the bytes as they are drafted.
--- Relies on promises' page SheetRooms.
+-- Assumes nothing.
 use Prim.Native.Nat.{ℕ}
 use mathlib.Core.Path.{_≡_, refl}
 use mathlib.Core.Bool.{Bool, true, false}
-use mathlib.Core.List.{List, [], _∷_, _++_, map}
+use mathlib.Core.List.{List, _++_, map}
 use lib.IntN.{ℤ}
 use lib.Ieee.{Float}
 use Rattle.laws.specs.Guards.{guard}
@@ -16,14 +16,11 @@ use Rattle.meaning.specs.Refusals.{notInSafe, narrow}
 use Rattle.meaning.specs.Files.{Form, end, Read, read, refused, valuesOf, Judged, good, bad}
 use Rattle.meaning.specs.Boxes.{sidesOf, lies}
 use Rattle.meaning.specs.Plants.{times, wide, related}
-use Rattle.meaning.specs.Sheets.{bitsOf, floating, anyFloat, above, roomForm, sheetForm, sheetOf, fitting, sheetRelated, sheetReadOf}
-use Rattle.promises.specs.SheetRooms.{Held}
+use Rattle.meaning.specs.Sheets.{above, roomForm, sheetForm, sheetOf, fitting, sheetRelated, sheetReadOf}
 use Rattle.files.specs.declared.beginnings.Beginning.{Beginning}
-use Rattle.files.specs.Parts.{Holds, Fails}
 use Rattle.files.specs.Bodies.{bodyJudged}
 use Rattle.files.specs.Drafts.{draftBytes}
-use Rattle.sheets.specs.declared.sheets.TimeOutside.{TimeOutside}
-use Rattle.sheets.specs.Floats.{floatBytes}
+use Rattle.sheets.specs.Floats.{twoPart, floatBytes}
 use Rattle.sheets.specs.Rooms.{bytesOfRoom}
 use Rattle.sheets.specs.Sizes.{Sized}
 
@@ -65,20 +62,8 @@ fitted (read vs next) = go (all inSafe) (all allWide)
 
 -- ---- the parts behind the beginning: sample time and outside temperature, then the rooms
 
-abbrev pub timePart : Form → Form
-timePart rest = floating above (floating anyFloat rest)
-
-pub record TimeRead (s : List ℕ) (start : ℕ) (time outside : Float) (next : ℕ) : Type 0 where
-  pub part : Holds timePart s start (bitsOf time ∷ bitsOf outside ∷ []) next
-  pub time-held : Held time
-  pub outside-held : Held outside
-
-abbrev pub TimeTold : List ℕ → ℕ → TimeOutside → Type 0
-TimeTold s start (TimeOutside.Floats time outside next) = TimeRead s start time outside next
-TimeTold s start (TimeOutside.Refused e) = Fails timePart s start e
-
 abbrev pub roomsForm : ℕ → ℕ → Form
-roomsForm n r = timePart (times n (roomForm n) end)
+roomsForm n r = twoPart above (times n (roomForm n) end)
 
 -- the whole file, its beginning having been read
 abbrev pub bodyRead : List ℕ → Beginning → ℕ → SheetRead

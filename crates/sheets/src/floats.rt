@@ -10,7 +10,7 @@ ghost use lib.ListN.{length};
 ghost use lib.Ieee.{binary64, toBits};
 ghost use Rattle.laws.specs.Writing.{Put};
 ghost use Rattle.meaning.specs.Files.{taken, floatAt};
-ghost use Rattle.sheets.specs.Floats.{okOf, bitsTaken, FloatTold, floatBytes};
+ghost use Rattle.sheets.specs.Floats.{okOf, bitsTaken, FloatTold, TwoTold, floatBytes};
 
 // The bits of the float at a place, and the place behind it.
 pub enum BitsRead {
@@ -28,6 +28,12 @@ pub enum Asked {
 // A float that was taken and the place behind it; or the refusal.
 pub enum FloatRead {
     Float(f64, usize),
+    Refused(Refusal),
+}
+
+// Two floats one behind the other, and the place behind them; or the refusal.
+pub enum TwoFloats {
+    Floats(f64, f64, usize),
     Refused(Refusal),
 }
 
@@ -89,6 +95,19 @@ pub fn read_float(s: &[u8], at: usize, asked: Asked) -> FloatRead
         return FloatRead::Float(x, next);
     }
     FloatRead::Refused(refusals::bad_float(at))
+}
+
+// The float at `at`, of which something is asked, and the one behind it, of which nothing is.
+pub fn read_two(s: &[u8], at: usize, asked: Asked) -> TwoFloats
+    ensures { λ r. ⌜ TwoTold (okOf asked) (now (s .entry)) at r ⌝ }
+{
+    match read_float(s, at, asked) {
+        FloatRead::Refused(e) => TwoFloats::Refused(e),
+        FloatRead::Float(x, mid) => match read_float(s, mid, Asked::Any) {
+            FloatRead::Refused(e) => TwoFloats::Refused(e),
+            FloatRead::Float(y, next) => TwoFloats::Floats(x, y, next),
+        },
+    }
 }
 
 // A float's bits; of no number those that document 01's meaning gives it.

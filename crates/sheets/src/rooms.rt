@@ -2,6 +2,7 @@
 use crate::floats;
 use crate::floats::Asked;
 use crate::floats::FloatRead;
+use crate::floats::TwoFloats;
 use files::numbers;
 use files::refusals;
 use meaning::Emitter;
@@ -62,14 +63,11 @@ pub enum EmitterRead {
 fn read_heater(s: &[u8], at: usize) -> EmitterRead
     ensures { λ r. ⌜ OwnTold 1 (now (s .entry)) at r ⌝ }
 {
-    match floats::read_float(s, at, Asked::NotBelow) {
-        FloatRead::Refused(e) => EmitterRead::Refused(e),
-        FloatRead::Float(coefficient, mid) => match floats::read_float(s, mid, Asked::Any) {
-            FloatRead::Refused(e) => EmitterRead::Refused(e),
-            FloatRead::Float(water, next) => {
-                EmitterRead::Emitter(Emitter::Heater { coefficient, water }, next)
-            }
-        },
+    match floats::read_two(s, at, Asked::NotBelow) {
+        TwoFloats::Refused(e) => EmitterRead::Refused(e),
+        TwoFloats::Floats(coefficient, water, next) => {
+            EmitterRead::Emitter(Emitter::Heater { coefficient, water }, next)
+        }
     }
 }
 

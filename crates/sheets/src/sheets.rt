@@ -2,7 +2,7 @@
 // plant. Leaves out what a plant does: that is crates/tables.
 use crate::floats;
 use crate::floats::Asked;
-use crate::floats::FloatRead;
+use crate::floats::TwoFloats;
 use crate::made;
 use crate::refusals;
 use crate::rooms;
@@ -22,7 +22,7 @@ ghost use Rattle.laws.specs.Writing.{Put};
 ghost use Rattle.meaning.specs.Files.{good, bad};
 ghost use Rattle.meaning.specs.Sheets.{sheetReadOf, sheetRead, sheetLeft, madeLeft};
 ghost use Rattle.files.specs.Beginnings.{relation, Begun};
-ghost use Rattle.sheets.specs.Sheets.{TimeTold, unfitted, thenFitting, bodyRead, sheetWith, TakenSized, sheetDraft};
+ghost use Rattle.sheets.specs.Sheets.{unfitted, thenFitting, bodyRead, sheetWith, TakenSized, sheetDraft};
 ghost use Rattle.sheets.specs.Sizes.{Sized};
 
 // A refused sheet is all zeros.
@@ -48,24 +48,6 @@ fn refused(e: Refusal) -> SheetRead
             time: 0.0,
             outside: 0.0,
             rooms,
-        },
-    }
-}
-
-// Sample time, outside temperature, and the place behind them.
-enum TimeOutside {
-    Floats(f64, f64, usize),
-    Refused(Refusal),
-}
-
-fn read_time(s: &[u8], at: usize) -> TimeOutside
-    ensures { λ r. ⌜ TimeTold (now (s .entry)) at r ⌝ }
-{
-    match floats::read_float(s, at, Asked::Above) {
-        FloatRead::Refused(e) => TimeOutside::Refused(e),
-        FloatRead::Float(time, mid) => match floats::read_float(s, mid, Asked::Any) {
-            FloatRead::Refused(e) => TimeOutside::Refused(e),
-            FloatRead::Float(outside, next) => TimeOutside::Floats(time, outside, next),
         },
     }
 }
@@ -107,9 +89,9 @@ fn read_body(s: &[u8], b: Beginning, related: Verdict, at: usize) -> SheetRead
     ensures value { λ r. ⌜ r ≡ bodyRead (now (s .entry)) b at ⌝ }
     ensures sized { λ r. ⌜ TakenSized r ⌝ }
 {
-    match read_time(s, at) {
-        TimeOutside::Refused(e) => refused(e),
-        TimeOutside::Floats(time, outside, mid) => {
+    match floats::read_two(s, at, Asked::Above) {
+        TwoFloats::Refused(e) => refused(e),
+        TwoFloats::Floats(time, outside, mid) => {
             let n = b.n;
             let read = rooms::read_rooms(s, mid, n);
             let past = read.answer;

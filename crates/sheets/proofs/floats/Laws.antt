@@ -17,13 +17,14 @@ use lib.Ieee.Bits.{toBits-ofBits}
 use lib.Ieee.Compare.{differs-from-itself}
 use borrow.Author.Tests.{lt-ltb, eq-eqb, ne-eqb}
 use Rattle.laws.specs.Lists.{all}
+use Rattle.meaning.specs.declared.Refusal.{Refusal}
 use Rattle.meaning.specs.Files.{taken, none, little, lowFirst, floatAt, valuesAt}
 use Rattle.meaning.specs.Refusals.{broken, badFloat}
-use Rattle.meaning.specs.Sheets.{zeroF, floating}
+use Rattle.meaning.specs.Sheets.{zeroF, floating, anyFloat}
 use Rattle.promises.specs.Floats.{float-was}
 use Rattle.promises.specs.SheetRooms.{float-held, finite-number}
-use Rattle.files.specs.Parts.{behind, Fails}
-use Rattle.sheets.specs.Floats.{Floated}
+use Rattle.files.specs.Parts.{behind, Fails, holds-then, holds-fails, fails-then}
+use Rattle.sheets.specs.Floats.{Floated, twoPart, TwoFloated}
 use Rattle.sheets.proofs.wholes.Fields.{exponent, digits, finite-good, finite-bad}
 
 -- ---- eight bytes, of which those from k on are read
@@ -121,6 +122,19 @@ module _ (ok : Float → Bool) (s : List ℕ) (from : ℕ) where
         part = record { holds = λ rest. rw same-bits (simp (e, finite-good b h, o)) };
         held = float-held (pos b);
       }
+
+-- ---- two floats
+
+module _ (ok : Float → Bool) (s : List ℕ) (start : ℕ) where
+  pub first-cut : (e : Refusal) → Fails (floating ok) s start e → Fails (twoPart ok) s start e
+  first-cut e t = fails-then {g = floating anyFloat} t
+
+  module _ (x : Float) (mid : ℕ) (t : Floated ok s start x mid) where
+    pub second-cut : (e : Refusal) → Fails (floating anyFloat) s mid e → Fails (twoPart ok) s start e
+    second-cut e u = holds-fails (t .part) u
+
+    pub two-read : (y : Float) (next : ℕ) → Floated anyFloat s mid y next → TwoFloated ok s start x y next
+    two-read y next u = record { part = holds-then (t .part) (u .part); first-held = t .held; second-held = u .held }
 
 -- ---- a float written
 

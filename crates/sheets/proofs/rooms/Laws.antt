@@ -28,7 +28,7 @@ use Rattle.promises.specs.SheetRooms.{Held, HeldRoom, TidyRoom}
 use Rattle.files.specs.FieldLaws.{taken-right, taken-wrong, not-taken}
 use Rattle.files.specs.Parts.{behind, Fails, holds-then, holds-fails, fails-then, Rows, rows-none, rows-more, rows-fails, rows-all}
 use Rattle.sheets.specs.declared.rooms.EmitterRead.{EmitterRead}
-use Rattle.sheets.specs.Floats.{Floated}
+use Rattle.sheets.specs.Floats.{Floated, TwoFloated}
 use Rattle.sheets.specs.Rooms.{exchangeBits, ExchangesRead, kindOf, ownValues, ownPart, emitterPart, OwnRead, OwnTold, EmitterHeld, EmitterTold, restPart, RestRead, RestAs, valuesOfRoom, RoomHeld, RoomAs, RoomsHeld, roomBytes, bytesOfRoom}
 
 -- ---- the loop over exchanges: j of m are done
@@ -78,15 +78,8 @@ module _ (s : List ℕ) (start : ℕ) where
   pub steady-read : (rate : Float) (next : ℕ) → Floated anyFloat s start rate next → OwnRead 2 s start (Emitter.Steady rate) next
   steady-read rate next t = record { same = refl; part = t .part; held = t .held }
 
-  pub heater-cut : (e : Refusal) → Fails (floating notBelow) s start e → Fails (ownPart 1) s start e
-  heater-cut e t = fails-then {g = floating anyFloat} t
-
-  module _ (p : Float) (mid : ℕ) (t : Floated notBelow s start p mid) where
-    pub water-cut : (e : Refusal) → Fails (floating anyFloat) s mid e → Fails (ownPart 1) s start e
-    water-cut e u = holds-fails (t .part) u
-
-    pub heater-read : (water : Float) (next : ℕ) → Floated anyFloat s mid water next → OwnRead 1 s start (Emitter.Heater p water) next
-    heater-read water next u = record { same = refl; part = holds-then (t .part) (u .part); held = (t .held, u .held) }
+  pub heater-read : (p water : Float) (next : ℕ) → TwoFloated notBelow s start p water next → OwnRead 1 s start (Emitter.Heater p water) next
+  heater-read p water next t = record { same = refl; part = t .part; held = (t .first-held, t .second-held) }
 
 values-split : (e : Emitter) → emitterValues e ≡ pos (kindOf e) ∷ ownValues e
 values-split Emitter.None = refl

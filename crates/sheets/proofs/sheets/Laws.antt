@@ -16,28 +16,15 @@ use Rattle.meaning.specs.Refusals.{unfit}
 use Rattle.meaning.specs.Files.{Form, end, read, refused, valuesAt, good, bad}
 use Rattle.meaning.specs.Boxes.{sidesOf}
 use Rattle.meaning.specs.Plants.{times, related}
-use Rattle.meaning.specs.Sheets.{bitsOf, floating, anyFloat, above, roomForm, sheetForm, sheetOf, sheetValues, sheetReadOf}
+use Rattle.meaning.specs.Sheets.{bitsOf, above, roomForm, sheetForm, sheetOf, sheetValues, sheetReadOf}
 use Rattle.promises.specs.Sheets.{HeldSheet, TidySheet, sheet-back}
 use Rattle.files.specs.declared.beginnings.Beginning.{Beginning}
-use Rattle.files.specs.Parts.{Fails, holds-then, holds-fails, holds-last, fails-then}
+use Rattle.files.specs.Parts.{Fails, holds-then, holds-fails, holds-last}
 use Rattle.files.specs.Beginnings.{beginningForm, headNumbers, headOf, edgesIn, bandsIn, beginningNumbers, byVerdict, relatedIn, relation, Begun}
 use Rattle.files.specs.Bodies.{begun-judged, not-begun, body-refused, body-left-over, body-by-verdict}
-use Rattle.sheets.specs.Floats.{Floated}
+use Rattle.sheets.specs.Floats.{twoPart, TwoFloated}
 use Rattle.sheets.specs.Rooms.{valuesOfRoom, RoomsHeld}
-use Rattle.sheets.specs.Sheets.{unfittedOf, unfitted, timePart, TimeRead, roomsForm, bodyRead, sheetWith, TakenSized}
-
--- ---- sample time and outside temperature
-
-module _ (s : List ℕ) (start : ℕ) where
-  pub time-cut : (e : Refusal) → Fails (floating above) s start e → Fails timePart s start e
-  time-cut e t = fails-then {g = floating anyFloat} t
-
-  module _ (time : Float) (mid : ℕ) (t : Floated above s start time mid) where
-    pub outside-cut : (e : Refusal) → Fails (floating anyFloat) s mid e → Fails timePart s start e
-    outside-cut e u = holds-fails (t .part) u
-
-    pub time-read : (outside : Float) (next : ℕ) → Floated anyFloat s mid outside next → TimeRead s start time outside next
-    time-read outside next u = record { part = holds-then (t .part) (u .part); time-held = t .held; outside-held = u .held }
+use Rattle.sheets.specs.Sheets.{unfittedOf, unfitted, roomsForm, bodyRead, sheetWith, TakenSized}
 
 -- ---- what stands behind a beginning
 
@@ -45,10 +32,10 @@ module _ (s : List ℕ) (b : Beginning) (from : ℕ) where
   by-values : (r : Refusal) → valuesAt (roomsForm (b .n) (b .m)) s from ≡ refused r → bodyRead s b from ≡ sheetReadOf (bad r)
   by-values r e = ap sheetReadOf (body-refused unfittedOf roomsForm s (λ e. refl) b from r e)
 
-  pub time-refused : (r : Refusal) → Fails timePart s from r → bodyRead s b from ≡ sheetReadOf (bad r)
+  pub time-refused : (r : Refusal) → Fails (twoPart above) s from r → bodyRead s b from ≡ sheetReadOf (bad r)
   time-refused r t = by-values r (t .fails (times (b .n) (roomForm (b .n)) end))
 
-  module _ (time outside : Float) (mid : ℕ) (u : TimeRead s from time outside mid) where
+  module _ (time outside : Float) (mid : ℕ) (u : TwoFloated above s from time outside mid) where
     pub rooms-refused : (r : Refusal) → Fails (times (b .n) (roomForm (b .n))) s mid r → bodyRead s b from ≡ sheetReadOf (bad r)
     rooms-refused r t = by-values r (holds-fails (u .part) t .fails end)
 
@@ -83,7 +70,7 @@ module _ (s : List ℕ) (b : Beginning) (from : ℕ) where
 
         held : HeldSheet h
         unfolding h
-        held = record { time = u .time-held; outside = u .outside-held; rooms = v .held }
+        held = record { time = u .first-held; outside = u .second-held; rooms = v .held }
 
         -- they are the sheet's, and give it back
         given-back : sheetOf (beginningNumbers b ++ rest) ≡ h

@@ -3,16 +3,16 @@ use mathlib.Core.Path.{sym, ap, _∙_, subst}
 use denote.Ref.{now}
 use Rattle.meaning.specs.declared.Refusal.{Refusal}
 use Rattle.meaning.specs.Files.{bad}
-use Rattle.meaning.specs.Sheets.{sheetReadOf}
+use Rattle.meaning.specs.Sheets.{above, sheetReadOf}
 use Rattle.sheets.specs.Rooms.{RoomsAs}
-use Rattle.sheets.specs.Sheets.{TimeTold}
+use Rattle.sheets.specs.Floats.{TwoTold}
 use Rattle.sheets.proofs.sheets.Laws.{time-refused, rooms-refused, left-over, by-verdict, refused-sized, taken-sized}
 use borrow.Author.Needs.{needs}
 use Rattle.sheets.proofs.sheets.read_body.Statement.{statement}
 use Rattle.sheets.proofs.sheets.read_body.Tie as tie
 
-read-time-requires : tie.Need-read-time-requires
-read-time-requires c κs = search needs
+read-two-requires : tie.Need-read-two-requires
+read-two-requires c κs = search needs
 
 enum-known-e : tie.Need-enum-known-e
 enum-known-e c = search needs
@@ -45,9 +45,9 @@ returns : tie.Need-returns
 returns c =
     let z = c .before .before .before .before .before .before .before .before .before .before .before .before .args in
     let s = now (z .s) in
-    let f = c .before .before .before .before .before .before .before .before .before .before .read-time in
+    let f = c .before .before .before .before .before .before .before .before .before .before .read-two in
     let g = c .before .before .before .before .before .before .before .before .time .given in
-    let u = subst (TimeTold s (z .at)) (g .1) (f .ensures) in
+    let u = subst (TwoTold above s (z .at)) (g .1) (f .ensures) in
     let m = c .before .before .before .before .before .before .read-rooms in
     let y = c .before .before .before .before .past2 .given in
     let v = subst (RoomsAs s (g .0 .1 .1 .0) (z .b .n) (m .result .rooms)) (y .1) (m .ensures) in (
@@ -72,9 +72,9 @@ returns-2 : tie.Need-returns-2
 returns-2 c =
     let z = c .before .before .before .before .before .before .args in
     let s = now (z .s) in
-    let f = c .before .before .before .before .read-time in
+    let f = c .before .before .before .before .read-two in
     let g = c .before .before .e .given in (
-      c .refused .ensures ∙ sym (time-refused s (z .b) (z .at) (g .0 .0) (subst (TimeTold s (z .at)) (g .1) (f .ensures))),
+      c .refused .ensures ∙ sym (time-refused s (z .b) (z .at) (g .0 .0) (subst (TwoTold above s (z .at)) (g .1) (f .ensures))),
       refused-sized (c .refused .result) _ (c .refused .ensures),
     )
 
@@ -82,9 +82,9 @@ returns-3 : tie.Need-returns-3
 returns-3 c =
     let z = c .before .before .before .before .before .before .before .before .before .before .args in
     let s = now (z .s) in
-    let f = c .before .before .before .before .before .before .before .before .read-time in
+    let f = c .before .before .before .before .before .before .before .before .read-two in
     let g = c .before .before .before .before .before .before .time .given in
-    let u = subst (TimeTold s (z .at)) (g .1) (f .ensures) in
+    let u = subst (TwoTold above s (z .at)) (g .1) (f .ensures) in
     let m = c .before .before .before .before .read-rooms in
     let y = c .before .before .past .given in (
       c .refused2 .ensures
@@ -96,9 +96,9 @@ returns-4 : tie.Need-returns-4
 returns-4 c =
     let z = c .before .before .before .before .before .before .before .before .before .before .before .before .before .before .args in
     let s = now (z .s) in
-    let f = c .before .before .before .before .before .before .before .before .before .before .before .before .read-time in
+    let f = c .before .before .before .before .before .before .before .before .before .before .before .before .read-two in
     let g = c .before .before .before .before .before .before .before .before .before .before .time .given in
-    let u = subst (TimeTold s (z .at)) (g .1) (f .ensures) in
+    let u = subst (TwoTold above s (z .at)) (g .1) (f .ensures) in
     let m = c .before .before .before .before .before .before .before .before .read-rooms in
     let y = c .before .before .before .before .before .before .past2 .given in
     let v = subst (RoomsAs s (g .0 .1 .1 .0) (z .b .n) (m .result .rooms)) (y .1) (m .ensures) in
@@ -111,9 +111,9 @@ returns-5 : tie.Need-returns-5
 returns-5 c =
     let z = c .before .before .before .before .before .before .before .before .before .before .before .before .before .before .args in
     let s = now (z .s) in
-    let f = c .before .before .before .before .before .before .before .before .before .before .before .before .read-time in
+    let f = c .before .before .before .before .before .before .before .before .before .before .before .before .read-two in
     let g = c .before .before .before .before .before .before .before .before .before .before .time .given in
-    let u = subst (TimeTold s (z .at)) (g .1) (f .ensures) in
+    let u = subst (TwoTold above s (z .at)) (g .1) (f .ensures) in
     let m = c .before .before .before .before .before .before .before .before .read-rooms in
     let y = c .before .before .before .before .before .before .past2 .given in
     let v = subst (RoomsAs s (g .0 .1 .1 .0) (z .b .n) (m .result .rooms)) (y .1) (m .ensures) in
@@ -126,7 +126,7 @@ pub read-body-spec : {M : Type 1} → statement M
 read-body-spec =
     tie.close
     (tie.spec
-    read-time-requires
+    read-two-requires
     enum-known-e
     refused-requires
     enum-known-time
