@@ -1,28 +1,25 @@
 -- The controller (document 01, "The controller", rows 11 and 12, and the order of judgement): what a call answers for every table, checked or
 -- not, every state and every reading. Plant and table header come first (page Tables puts the plant in front), then 12, 11, then the tree.
 use Prim.Native.Nat.{ℕ, zero, suc, _+_}
-use mathlib.Core.Bool.{Bool, _&&_}
+use mathlib.Core.Bool.{Bool, false, _&&_}
 use mathlib.Core.List.{List, [], _∷_}
-use lib.ListN.{length, getD}
+use lib.ListN.{length}
 use lib.Dec.{ltb, leb, eqb}
 use Rattle.laws.specs.Guards.{guard, choose}
+use Rattle.meaning.specs.declared.Number.{Number}
 use Rattle.meaning.specs.declared.Rule.the-variants.{Works}
 use Rattle.meaning.specs.declared.Walk.{Walk}
 use Rattle.meaning.specs.declared.Found.{Found}
 use Rattle.meaning.specs.declared.State.{State}
 use Rattle.meaning.specs.declared.Answer.{Answer}
 use Rattle.meaning.specs.Refusals.{badTable, outside, badState}
+use Rattle.meaning.specs.Numbers.{numberAt}
 use Rattle.meaning.specs.Files.{Read, read, refused}
 use Rattle.meaning.specs.Rules.{Rules, holds, missed}
-use Rattle.meaning.specs.Verdicts.{onWalk, splitAt, modesAt, nodeAt, walk, header}
+use Rattle.meaning.specs.Verdicts.{onNumber, onWalk, splitAt, modesAt, nodeAt, walk, header}
 
 abbrev pub idle : State
 idle = record { place = 0; left = 0 }
-
--- the state with these modes to come, the next of them at that place
-abbrev pub stateWith : List ℕ → ℕ → State
-stateWith [] place = idle
-stateWith (u ∷ us) place = record { place = place; left = suc (length us) }
 
 -- a tile's modes were read: it is found
 abbrev pub tileFound : Read (List ℕ) → ℕ → ℕ → Found
@@ -37,33 +34,45 @@ among has enter pass split (b ∷ bs) at =
     choose (has b) (λ _. enter at b) λ _.
     onWalk (pass at b) Found.Refused λ next. among has enter pass split bs next
 
--- The mode at a place with that many left, itself counted. A mode is one byte while N is at most 128. With none left there is no mode: a tile
--- has some, and a state with none left is idle.
+-- the state with so many modes to come, the next of them at that place
+abbrev pub stateAt : ℕ → ℕ → State
+stateAt place zero = idle
+stateAt place (suc m) = record { place = place; left = suc m }
+
+abbrev pub stateWith : List ℕ → ℕ → State
+stateWith us place = stateAt place (length us)
+
+-- The mode at a place with that many left, itself counted: the number that stands there. That none is left, or that it is broken, does not occur: a
+-- tile has modes, and both a tile that is found and a state that can be have a number there.
 abbrev pub modeAt : List ℕ → ℕ → ℕ → Answer
 modeAt s place zero = Answer.Refused badState
-modeAt s place (suc zero) = Answer.Mode (getD s place 0) idle
-modeAt s place (suc (suc m)) = Answer.Mode (getD s place 0) (record { place = place + 1; left = suc m })
+modeAt s place (suc m) = onNumber (numberAt s place) (Answer.Refused badState) λ u next. Answer.Mode u (stateAt next m)
 
 abbrev pub onFound : List ℕ → Found → Answer
 onFound s (Found.Refused e) = Answer.Refused e
 onFound s (Found.Tile from k) = modeAt s from k
 
+-- the number at a place is a mode
+abbrev pub isMode : ℕ → Number → Bool
+isMode N Number.Broken = false
+isMode N (Number.Value u next) = ltb u N
+
+-- left above 0: left at most K, place at least 2, place plus left within the table, the mode there below N
+abbrev pub canRun : ℕ → ℕ → List ℕ → ℕ → ℕ → Bool
+canRun K N s place left = leb left K && leb 2 place && leb (place + left) (length s) && isMode N (numberAt s place)
+
 module _ (r : Rules) where
-  open Rules r using (Box, Reading, children, root, safe, D, K, N)
+  open Rules r using (Box, Reading, children, root, safe, n, D, K, N)
 
   -- The tile that holds a reading, in the tree at `at`. The walk tells 1 and 6 of what it reads, passed tiles too, and tests no image.
   unfoldable pub find : ℕ → List ℕ → ℕ → Box → Reading → Found
-  find zero s at b x = nodeAt r s at Found.Refused
+  find zero s at b x = nodeAt K s at Found.Refused
       (λ next. Found.Refused (badTable at))
-      (λ k next. tileFound (modesAt r k s next) next k)
-  find (suc d) s at b x = nodeAt r s at Found.Refused
+      (λ k next. tileFound (modesAt N k s next) next k)
+  find (suc d) s at b x = nodeAt K s at Found.Refused
       (λ next. splitAt (children b) (Found.Refused (badTable at)) λ cs.
       among (λ c. holds r c x) (λ p c. find d s p c x) (λ p c. walk r (λ _ _. Works) d s p c) at cs next)
-      (λ k next. tileFound (modesAt r k s next) next k)
-
-  -- left above 0: left at most K, place at least 2, place plus left within the table, the mode there below N
-  abbrev pub canRun : List ℕ → ℕ → ℕ → Bool
-  canRun s place left = leb left K && leb 2 place && leb (place + left) (length s) && ltb (getD s place 0) N
+      (λ k next. tileFound (modesAt N k s next) next k)
 
   -- the reading must be in a box, or 11 with the first dimension
   abbrev pub inside : Box → Reading → (Unit {0} → Answer) → Answer
@@ -78,7 +87,7 @@ module _ (r : Rules) where
   -- running: the reading must be in S; the mode at the place is answered
   abbrev pub runningCall : List ℕ → ℕ → ℕ → Reading → Answer
   runningCall s place left x =
-      guard (canRun s place left) (Answer.Refused badState) λ _.
+      guard (canRun K N s place left) (Answer.Refused badState) λ _.
       inside safe x λ _. modeAt s place left
 
   abbrev pub stateCall : List ℕ → ℕ → ℕ → ℕ → Reading → Answer
@@ -87,4 +96,4 @@ module _ (r : Rules) where
 
   -- a call on a plant that was read
   unfoldable pub call : List ℕ → State → Reading → Answer
-  call s st x = onWalk (header r s) Answer.Refused λ at. stateCall s at (st .place) (st .left) x
+  call s st x = onWalk (header n s) Answer.Refused λ at. stateCall s at (st .place) (st .left) x

@@ -1,5 +1,6 @@
 -- Document 01's rules of a plant, and its three answers about tables over bytes: the checker's, the maker's, the controller's.
 use Prim.Native.Nat.{ℕ}
+use mathlib.Core.Path.{_≡_}
 use mathlib.Core.Bool.{Bool, false}
 use mathlib.Core.List.{List}
 use mathlib.Core.Option.{Option, none, some}
@@ -12,14 +13,14 @@ use Rattle.meaning.specs.declared.State.{State}
 use Rattle.meaning.specs.declared.Answer.{Answer}
 use Rattle.meaning.specs.Refusals.{noTable}
 use Rattle.meaning.specs.Boxes.{Side, fits, within, children}
-use Rattle.meaning.specs.Images.{image, follows}
+use Rattle.meaning.specs.Images.{Step, image, follows}
 use Rattle.meaning.specs.Files.{Judged, good, bad}
 use Rattle.meaning.specs.Plants.{plantJudged, rootOf, safeOf, stepOf}
 use Rattle.meaning.specs.Rules.{Rules, holds}
 use Rattle.meaning.specs.Trees.{Tree, tableOf}
 use Rattle.meaning.specs.Verdicts.{verdict}
 use Rattle.meaning.specs.Defined.{definedTree}
-use Rattle.meaning.specs.Control.{call}
+use Rattle.meaning.specs.Control.{idle, call}
 use Rattle.meaning.specs.Runs.{Run, Samples}
 use Rattle.meaning.specs.Buffers.{Left, left}
 
@@ -27,26 +28,31 @@ use Rattle.meaning.specs.Buffers.{Left, left}
 abbrev pub readingOf : ℕ → List ℤ → List ℤ
 readingOf n x = tab (at x) n 0
 
-abbrev pub rulesOf : Plant → Rules
-rulesOf p = record {
+-- Document 01's rules: n, N, K, the depth; the box that is tiled, the box that patterns end in, the box that nothing may leave; and what each mode does.
+abbrev pub rulesFrom : (n N K D : ℕ) (root goal safe : List Side) (step : ℕ → Step) → Rules
+rulesFrom n N K D root goal safe step = record {
   Box = List Side;
   Reading = List ℤ;
   Kept = List Side;
-  fits = λ b x. fits b (readingOf (p .n) x);
+  fits = λ b x. fits b (readingOf n x);
   children = children;
   within = within;
   begin = λ b. b;
-  image = λ u b. image (stepOf p u) b;
+  image = λ u b. image (step u) b;
   kept = λ b. b;
-  root = rootOf p;
-  goal = rootOf p;
-  safe = safeOf p;
-  n = p .n;
-  D = p .d;
-  K = p .k;
-  N = p .modes;
-  follows = λ u x y. follows (stepOf p u) (readingOf (p .n) x) (readingOf (p .n) y);
+  root = root;
+  goal = goal;
+  safe = safe;
+  n = n;
+  D = D;
+  K = K;
+  N = N;
+  follows = λ u x y. follows (step u) (readingOf n x) (readingOf n y);
 }
+
+-- those of a plant's own table: R is tiled, and patterns end in R
+abbrev pub rulesOf : Plant → Rules
+rulesOf p = rulesFrom (p .n) (p .modes) (p .k) (p .d) (rootOf p) (rootOf p) (safeOf p) (stepOf p)
 
 abbrev pub onPlant : {A : Type 0} → Judged Plant → (Refusal → A) → (Plant → A) → A
 onPlant (bad e) refuse rest = refuse e
@@ -83,9 +89,13 @@ safeIn plant x = onPlant (plantJudged plant) (λ _. false) λ p. holds (rulesOf 
 abbrev pub mayFollow : List ℕ → ℕ → List ℤ → List ℤ → Bool
 mayFollow plant u x y = onPlant (plantJudged plant) (λ _. false) λ p. rulesOf p .follows u x y
 
+-- a call gives a mode and the next state
+abbrev pub gives : List ℕ → List ℕ → State → List ℤ → ℕ → State → Type 0
+gives plant table st x u then = controlled plant table st x ≡ Answer.Mode u then
+
 abbrev pub TableRun : List ℕ → List ℕ → State → List ℤ → Type 0
-TableRun plant table = Run (controlled plant table) (startsIn plant) (mayFollow plant)
+TableRun plant table = Run idle (gives plant table) (startsIn plant) (mayFollow plant)
 
 -- so many samples of a run lead from one state and reading to another
 abbrev pub TableSamples : List ℕ → List ℕ → ℕ → State → List ℤ → State → List ℤ → Type 0
-TableSamples plant table = Samples (controlled plant table) (startsIn plant) (mayFollow plant)
+TableSamples plant table = Samples idle (gives plant table) (startsIn plant) (mayFollow plant)

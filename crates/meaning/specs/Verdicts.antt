@@ -51,44 +51,44 @@ abbrev pub onSize : {A : Type 0} → ℕ → ℕ → A → A → (ℕ → A) →
 onSize K zero otherwise split tile = split
 onSize K (suc k) otherwise split tile = guard (leb (suc k) K) otherwise λ _. tile (suc k)
 
+-- k modes, each below N
+unfoldable pub modesAt : ℕ → ℕ → List ℕ → ℕ → Read (List ℕ)
+modesAt N zero s at = read [] at
+modesAt N (suc k) s at =
+    onNumber (numberAt s at) (refused (broken at)) λ u next.
+    guard (ltb u N) (refused (badTable at)) λ _.
+    before u (modesAt N k s next)
+
+-- a node at `at`: how a refusal is told, what a split does, what a tile of k modes, at most K, does, each with the place behind the number
+abbrev pub nodeAt : {A : Type 0} → ℕ → List ℕ → ℕ → (Refusal → A) → (ℕ → A) → (ℕ → ℕ → A) → A
+nodeAt K s at refuse split tile =
+    onNumber (numberAt s at) (refuse (broken at)) λ k next.
+    onSize K k (refuse (badTable at)) (split next) (λ k. tile k next)
+
+-- form 1, then n: the place behind them
+unfoldable pub header : ℕ → List ℕ → Walk
+header n s =
+    onNumber (numberAt s 0) (Walk.Refused (broken 0)) λ form at.
+    guard (eqb form 1) (Walk.Refused wrongForm) λ _.
+    onNumber (numberAt s at) (Walk.Refused (broken at)) λ m next.
+    guard (eqb m n) (Walk.Refused (badTable at)) λ _.
+    Walk.Next next
+
 module _ (r : Rules) where
   open Rules r using (Box, children, root, n, D, K, N)
 
-  -- k modes, each below N
-  unfoldable pub modesAt : ℕ → List ℕ → ℕ → Read (List ℕ)
-  modesAt zero s at = read [] at
-  modesAt (suc k) s at =
-      onNumber (numberAt s at) (refused (broken at)) λ u next.
-      guard (ltb u N) (refused (badTable at)) λ _.
-      before u (modesAt k s next)
-
-  -- a node at `at`: how a refusal is told, what a split does, what a tile of k modes does, each with the place behind the number
-  abbrev pub nodeAt : {A : Type 0} → List ℕ → ℕ → (Refusal → A) → (ℕ → A) → (ℕ → ℕ → A) → A
-  nodeAt s at refuse split tile =
-      onNumber (numberAt s at) (refuse (broken at)) λ k next.
-      onSize K k (refuse (badTable at)) (split next) (λ k. tile k next)
-
   -- the tree at `at`, over a box with depth d left
   unfoldable pub walk : (Box → List ℕ → Rule) → ℕ → List ℕ → ℕ → Box → Walk
-  walk judge zero s at b = nodeAt s at Walk.Refused
+  walk judge zero s at b = nodeAt K s at Walk.Refused
       (λ next. Walk.Refused (badTable at))
-      (λ k next. onModes (modesAt k s next) at (judge b))
-  walk judge (suc d) s at b = nodeAt s at Walk.Refused
+      (λ k next. onModes (modesAt N k s next) at (judge b))
+  walk judge (suc d) s at b = nodeAt K s at Walk.Refused
       (λ next. splitAt (children b) (Walk.Refused (badTable at)) λ cs. each (λ p c. walk judge d s p c) cs next)
-      (λ k next. onModes (modesAt k s next) at (judge b))
-
-  -- form 1, then n: the place behind them
-  unfoldable pub header : List ℕ → Walk
-  header s =
-      onNumber (numberAt s 0) (Walk.Refused (broken 0)) λ form at.
-      guard (eqb form 1) (Walk.Refused wrongForm) λ _.
-      onNumber (numberAt s at) (Walk.Refused (broken at)) λ m next.
-      guard (eqb m n) (Walk.Refused (badTable at)) λ _.
-      Walk.Next next
+      (λ k next. onModes (modesAt N k s next) at (judge b))
 
   unfoldable pub verdict : List ℕ → Verdict
   verdict s =
-      onWalk (header s) Verdict.Refused λ at.
+      onWalk (header n s) Verdict.Refused λ at.
       onWalk (walk (rule r) D s at root) Verdict.Refused λ next.
       guard (eqb next (length s)) (Verdict.Refused (badTable next)) λ _.
       Verdict.Accepted
