@@ -22,7 +22,7 @@ use Rattle.meaning.specs.Verdicts.{onWalk, walk, header, verdict}
 use Rattle.promises.specs.Laws.{Sizes}
 use Rattle.promises.specs.Shapes.{Working}
 use Rattle.promises.specs.Walking.{walk-went}
-use Rattle.promises.specs.Layouts.{walk-stands, header-stands, walk-reads, header-read, headed, table-stands}
+use Rattle.promises.specs.Layouts.{walk-stands, header-stands, walk-reads, headed, table-stands, table-header}
 
 pub refused-accepted : {e : Refusal} → Verdict.Refused e ≡ Verdict.Accepted → ⊥
 refused-accepted e = never cc
@@ -39,11 +39,11 @@ module _ (r : Rules) where
   accepted-is : (s : List ℕ) → verdict r s ≡ Verdict.Accepted → (t : Tree) × Working r t × (s ≡ tableOf r t)
   unfolding verdict
   accepted-is s e =
-      let h = walk-went (header r s) Verdict.Refused (λ at. onWalk (walk r (rule r) D s at root) Verdict.Refused ended) (λ _. refused-accepted) e in
+      let h = walk-went (header n s) Verdict.Refused (λ at. onWalk (walk r (rule r) D s at root) Verdict.Refused ended) (λ _. refused-accepted) e in
       let w = walk-went (walk r (rule r) D s (h .0) root) Verdict.Refused ended (λ _. refused-accepted) (h .2) in
       let g = guard-passed (eqb (w .0) (length s)) (λ _. Verdict.Accepted) refused-accepted (w .2) in
       let t = walk-stands r (rule r) D s (h .0) root (length s) (w .1 ∙ ap (λ (m : ℕ). Walk.Next m) (eqb-true (w .0) (length s) (g .0))) in
-      (t .tree, t .over, filled s (h .0) (t .tree) (header-stands r s (h .0) (h .1)) (t .stand))
+      (t .tree, t .over, filled s (h .0) (t .tree) (header-stands n s (h .0) (h .1)) (t .stand))
     where
       ended : ℕ → Verdict
       ended m = guard (eqb m (length s)) (Verdict.Refused (badTable m)) λ _. Verdict.Accepted
@@ -53,9 +53,9 @@ module _ (r : Rules) where
     unfolding verdict
     is-accepted t o =
         let s = tableOf r t in
-        let p = table-stands r s [] t (sym (append-nil s)) in
-        let w = walk-reads r sizes (rule r) t D s (headed r) root (length s) o (p .1) in
-        simp (header-read r sizes s (headed r) (p .0), w, eq-eqb (length s) (length s) refl)
+        let is = sym (append-nil s) in
+        let w = walk-reads r sizes (rule r) t D s (headed n) root (length s) o (table-stands r s [] t is .1) in
+        simp (table-header r sizes s [] t is, w, eq-eqb (length s) (length s) refl)
 
     pub accepted-exactly : (s : List ℕ) → (verdict r s ≡ Verdict.Accepted) ↔ ((t : Tree) × Working r t × (s ≡ tableOf r t))
     accepted-exactly s = (accepted-is s, λ w. let e : s ≡ tableOf r (w .0) = w .2 in rw e (is-accepted (w .0) (w .1)))

@@ -11,13 +11,15 @@ use mathlib.Core.Option.{Option, none, some}
 use native.Mathlib.Omega.{arith}
 use native.Mathlib.Decide.{decLt}
 use borrow.Author.Tests.{le-leb, lt-ltb, leb-true, ltb-true}
-use lib.Dec.{leb, ltb, eqb·suc-zero}
-use lib.ListN.{length, getD, replicate}
+use lib.Dec.{leb, eqb·suc-zero}
+use lib.ListN.{length, replicate}
 use lib.Seq.{sets}
 use lib.IntN.{ℤ}
 use Rattle.laws.specs.Guards.{guard}
+use Rattle.laws.specs.Standing.{Stands}
 use Rattle.laws.specs.Tests.{never, first, second, both}
 use Rattle.meaning.specs.declared.Answer.{Answer}
+use Rattle.meaning.specs.declared.Number.{Number}
 use Rattle.meaning.specs.declared.Plant.{Plant}
 use Rattle.meaning.specs.declared.Refusal.{Refusal}
 use Rattle.meaning.specs.declared.State.{State}
@@ -26,9 +28,10 @@ use Rattle.meaning.specs.declared.Walk.{Walk}
 use Rattle.meaning.specs.declared.Written.{Written}
 use Rattle.meaning.specs.Buffers.{Left, refusedWith, left}
 use Rattle.meaning.specs.Control as C
-use Rattle.meaning.specs.Control.{idle, stateWith, modeAt, canRun, idleCall, runningCall}
+use Rattle.meaning.specs.Control.{idle, stateAt, stateWith, isMode, canRun, idleCall, runningCall}
 use Rattle.meaning.specs.Defined.{definedTree}
 use Rattle.meaning.specs.Files.{Judged, good, bad}
+use Rattle.meaning.specs.Numbers.{numberAt, bytesOf}
 use Rattle.meaning.specs.Plants.{plantJudged, rootOf, safeOf}
 use Rattle.meaning.specs.Refusals.{leaves, misses, noTable, short, outside, badState}
 use Rattle.meaning.specs.Rules.{Rules, rule, holds, missed}
@@ -39,12 +42,15 @@ use Rattle.meaning.specs.Verdicts.{header, verdict}
 use Rattle.promises.specs.Buffers.{wrote}
 use Rattle.promises.specs.Checked.{Tiled, accepted-judged, checked-exactly}
 use Rattle.promises.specs.Chosen.{chosen}
+use Rattle.promises.specs.Finds.{firstPlace}
 use Rattle.promises.specs.FirstFault.{LeavesAt, MissesAt, FirstBad, Comes, working, leaving, missing, comes, leaving-told, missing-told}
-use Rattle.promises.specs.Layouts.{headed, header-read, table-stands}
+use Rattle.promises.specs.Layouts.{headed, table-header}
 use Rattle.promises.specs.Made.{made-accepted, made-exactly, nine-exactly, maker-nine, maker-ten, maker-writes}
+use Rattle.promises.specs.Numbers.{reads, was}
 use Rattle.promises.specs.PlantRules.{judged-sizes, checked-as, made-as, controlled-as}
 use Rattle.promises.specs.Promise.{Promised, promise}
 use Rattle.promises.specs.Shapes.{Shaped, Good, over-map}
+use Rattle.promises.specs.Underway.{nextPlace}
 
 -- of a plant's and a table's bytes; of a plant's bytes and a lent buffer; of a plant's and a table's bytes, a state and a reading
 abbrev pub Checker : Type 0
@@ -215,12 +221,11 @@ pub record CanRun (p : Plant) (table : List ℕ) (place left : ℕ) : Type 0 whe
   pub few : left ≤ p .k
   pub behind-header : 2 ≤ place
   pub in-table : place + left ≤ length table
-  pub a-mode : getD table place 0 < p .modes
-
--- with m modes left behind the one at a place the state moves one on, else it is idle
-abbrev pub movedOn : ℕ → ℕ → State
-movedOn place zero = idle
-movedOn place (suc m) = record { place = place + 1; left = suc m }
+  -- the number there is a mode
+  pub mode : ℕ
+  pub next : ℕ
+  pub stand : Stands table place (bytesOf mode) next
+  pub a-mode : mode < p .modes
 
 abbrev pub stateOf : ℕ → ℕ → State
 stateOf place left = record { place = place; left = left }
@@ -229,10 +234,10 @@ pub record Answers (control : Controller) : Type 0 where
   -- idle, the reading in R: its tile is the one of the table's that holds it; its first mode is answered, and the others are left
   pub first-mode : (plant table : List ℕ) (t : Tiled plant table) (x : List ℤ) → startsIn plant x ≡ true
       → (one : Tile (rulesOf (t .p))) → having (rulesOf (t .p)) x (tilesOf (rulesOf (t .p)) (t .tree) (rootOf (t .p)) 2) ≡ one ∷ []
-      → (u : ℕ) (us : List ℕ) → one .modes ≡ u ∷ us → control plant table idle x ≡ Answer.Mode u (stateWith us (one .place + 2))
-  -- running, the reading in S: the mode at the place is answered
+      → (u : ℕ) (us : List ℕ) → one .modes ≡ u ∷ us → control plant table idle x ≡ Answer.Mode u (stateWith us (nextPlace (firstPlace (rulesOf (t .p)) one) u))
+  -- running, the reading in S: the mode at the place is answered; with modes left the state moves behind it, else it is idle
   pub next-mode : (plant table : List ℕ) (t : Tiled plant table) (x : List ℤ) → safeIn plant x ≡ true
-      → (place m : ℕ) → CanRun (t .p) table place (suc m) → control plant table (stateOf place (suc m)) x ≡ Answer.Mode (getD table place 0) (movedOn place m)
+      → (place m : ℕ) (k : CanRun (t .p) table place (suc m)) → control plant table (stateOf place (suc m)) x ≡ Answer.Mode (k .mode) (stateAt (k .next) m)
   -- 11: the reading is outside R, idle, or outside S, running; the first dimension in which it is
   pub outside-root : (plant table : List ℕ) (t : Tiled plant table) (x : List ℤ) → startsIn plant x ≡ false
       → control plant table idle x ≡ Answer.Refused (outside (missed (rulesOf (t .p)) (rootOf (t .p)) x))
@@ -245,25 +250,34 @@ pub record Answers (control : Controller) : Type 0 where
       → control plant table (stateOf place (suc m)) x ≡ Answer.Refused badState
 
 -- the test of a state
-can-run : (p : Plant) (table : List ℕ) (place left : ℕ) → (canRun (rulesOf p) table place left ≡ true) ↔ CanRun p table place left
-can-run p table place left =
-    let a = leb left (p .k) in
-    let b = leb 2 place in
-    let c = leb (place + left) (length table) in
-    let d = ltb (getD table place 0) (p .modes) in (
-      λ e. record {
-        few = leb-true left (p .k) (first a b (first (a && b) c (first (a && b && c) d e)));
-        behind-header = leb-true 2 place (second a b (first (a && b) c (first (a && b && c) d e)));
-        in-table = leb-true (place + left) (length table) (second (a && b) c (first (a && b && c) d e));
-        a-mode = ltb-true (getD table place 0) (p .modes) (second (a && b && c) d e);
-      },
-      λ h. both (both (both (le-leb left (p .k) (h .few)) (le-leb 2 place (h .behind-header))) (le-leb (place + left) (length table) (h .in-table)))
-          (lt-ltb (getD table place 0) (p .modes) (h .a-mode)),
-    )
+module _ (plant : List ℕ) (p : Plant) (good-plant : plantJudged plant ≡ good p) (table : List ℕ) (place left : ℕ) where
+  mode-there : (k : CanRun p table place left) → numberAt table place ≡ Number.Value (k .mode) (k .next)
+  mode-there k = reads (k .mode) place (k .next) table (omega (arith, k .a-mode, judged-sizes plant p good-plant .modes)) (k .stand)
 
-mode-moves : (s : List ℕ) (place m : ℕ) → modeAt s place (suc m) ≡ Answer.Mode (getD s place 0) (movedOn place m)
-mode-moves s place zero = refl
-mode-moves s place (suc m) = refl
+  can-run : (canRun (p .k) (p .modes) table place left ≡ true) ↔ CanRun p table place left
+  can-run =
+      let a = leb left (p .k) in
+      let b = leb 2 place in
+      let c = leb (place + left) (length table) in
+      let d = isMode (p .modes) (numberAt table place) in (
+        λ e. go (numberAt table place) refl (leb-true left (p .k) (first a b (first (a && b) c (first (a && b && c) d e))))
+            (leb-true 2 place (second a b (first (a && b) c (first (a && b && c) d e))))
+            (leb-true (place + left) (length table) (second (a && b) c (first (a && b && c) d e))) (second (a && b && c) d e),
+        λ h. both (both (both (le-leb left (p .k) (h .few)) (le-leb 2 place (h .behind-header))) (le-leb (place + left) (length table) (h .in-table)))
+            (rw (mode-there h) (lt-ltb (h .mode) (p .modes) (h .a-mode))),
+      )
+    where
+      go : (v : Number) → numberAt table place ≡ v → left ≤ p .k → 2 ≤ place → place + left ≤ length table → isMode (p .modes) v ≡ true → CanRun p table place left
+      go Number.Broken q a b c e = never e
+      go (Number.Value u next) q a b c e = record {
+        few = a;
+        behind-header = b;
+        in-table = c;
+        mode = u;
+        next = next;
+        stand = was u place next table q .1;
+        a-mode = ltb-true u (p .modes) e;
+      }
 
 cannot : (b : Bool) → (b ≡ true → ⊥) → b ≡ false
 cannot true h = absurd (h refl)
@@ -274,10 +288,10 @@ module _ (plant table : List ℕ) (t : Tiled plant table) (x : List ℤ) where
   abbrev rules : Rules
   rules = rulesOf (t .p)
 
-  header-is : header rules table ≡ Walk.Next (headed rules)
-  header-is = header-read rules (judged-sizes plant (t .p) (t .judged)) table (headed rules) (table-stands rules table [] (t .tree) (t .is ∙ sym (append-nil (tableOf rules (t .tree)))) .0)
+  header-is : header (t .p .n) table ≡ Walk.Next (headed (t .p .n))
+  header-is = table-header rules (judged-sizes plant (t .p) (t .judged)) table [] (t .tree) (t .is ∙ sym (append-nil (tableOf rules (t .tree))))
 
-  idle-as : (place : ℕ) → controlled plant table (stateOf place 0) x ≡ idleCall rules table (headed rules) place x
+  idle-as : (place : ℕ) → controlled plant table (stateOf place 0) x ≡ idleCall rules table (headed (t .p .n)) place x
   unfolding C.call
   idle-as place = controlled-as plant (t .p) (t .judged) table (stateOf place 0) x ∙ rw header-is refl
 
@@ -299,17 +313,17 @@ controlled-answers = record {
       let modes : c .first ∷ c .later ≡ u ∷ us = sym (c .modes-are) ∙ ap (λ (o : Tile (rulesOf (t .p))). o .modes) same ∙ e in
       let a : c .first ≡ u = cc in
       let b : c .later ≡ us = cc in
-      let at : c .the .place ≡ one .place = ap (λ (o : Tile (rulesOf (t .p))). o .place) same in
+      let at : firstPlace (rulesOf (t .p)) (c .the) ≡ firstPlace (rulesOf (t .p)) one = ap (firstPlace (rulesOf (t .p))) same in
       c .answered ∙ rw (a, b, at) refl;
   next-mode = λ plant table t x h place m k.
-      running-as plant table t x place m ∙ simp (can-run (t .p) table place (suc m) .1 k, in-safe plant table t x true h) (mode-moves table place m);
+      running-as plant table t x place m ∙ simp (can-run plant (t .p) (t .judged) table place (suc m) .1 k, in-safe plant table t x true h) (rw (mode-there plant (t .p) (t .judged) table place (suc m) k) refl);
   outside-root = λ plant table t x h. idle-as plant table t x 0 ∙ simp (in-root plant table t x false h);
   outside-safe = λ plant table t x h place m k.
-      running-as plant table t x place m ∙ simp (can-run (t .p) table place (suc m) .1 k, in-safe plant table t x false h);
+      running-as plant table t x place m ∙ simp (can-run plant (t .p) (t .judged) table place (suc m) .1 k, in-safe plant table t x false h);
   no-place = λ plant table t x place. idle-as plant table t x (suc place) ∙ simp (eqb·suc-zero place);
   cannot-run = λ plant table t x place m k.
       running-as plant table t x place m
-      ∙ simp (cannot (canRun (rulesOf (t .p)) table place (suc m)) (λ e. k (can-run (t .p) table place (suc m) .0 e)));
+      ∙ simp (cannot (canRun (t .p .k) (t .p .modes) table place (suc m)) (λ e. k (can-run plant (t .p) (t .judged) table place (suc m) .0 e)));
 }
 
 -- two controllers of which this is true answer alike on every accepted table, in every state, whatever the reading
@@ -327,13 +341,13 @@ one-call f g F G plant table t st x = go (st .place) (st .left)
     safe-alike place m k false h = F .outside-safe plant table t x h place m k ∙ sym (G .outside-safe plant table t x h place m k)
     safe-alike place m k true h = F .next-mode plant table t x h place m k ∙ sym (G .next-mode plant table t x h place m k)
 
-    run-alike : (place m : ℕ) (b : Bool) → canRun (rulesOf (t .p)) table place (suc m) ≡ b → f plant table (stateOf place (suc m)) x ≡ g plant table (stateOf place (suc m)) x
-    run-alike place m true e = safe-alike place m (can-run (t .p) table place (suc m) .0 e) (safeIn plant x) refl
+    run-alike : (place m : ℕ) (b : Bool) → canRun (t .p .k) (t .p .modes) table place (suc m) ≡ b → f plant table (stateOf place (suc m)) x ≡ g plant table (stateOf place (suc m)) x
+    run-alike place m true e = safe-alike place m (can-run plant (t .p) (t .judged) table place (suc m) .0 e) (safeIn plant x) refl
     run-alike place m false e =
-        let k : CanRun (t .p) table place (suc m) → ⊥ = λ h. never (sym e ∙ can-run (t .p) table place (suc m) .1 h) in
+        let k : CanRun (t .p) table place (suc m) → ⊥ = λ h. never (sym e ∙ can-run plant (t .p) (t .judged) table place (suc m) .1 h) in
         F .cannot-run plant table t x place m k ∙ sym (G .cannot-run plant table t x place m k)
 
     go : (place left : ℕ) → f plant table (stateOf place left) x ≡ g plant table (stateOf place left) x
     go zero zero = idle-alike (startsIn plant x) refl
     go (suc place) zero = F .no-place plant table t x place ∙ sym (G .no-place plant table t x place)
-    go place (suc m) = run-alike place m (canRun (rulesOf (t .p)) table place (suc m)) refl
+    go place (suc m) = run-alike place m (canRun (t .p .k) (t .p .modes) table place (suc m)) refl

@@ -1,14 +1,14 @@
 -- S8 over bytes: on an accepted table an idle call on a reading in R chooses the one tile of the table that holds it, and answers that tile's first
 -- mode; and of every table, accepted or not, an idle call that is answered reads nothing behind the last mode of the tile that it chose.
--- Relies on pages Finds and Local at document 01's rules, where a tile's number and each of its modes is one byte.
-use Prim.Native.Nat.{ℕ, suc, _+_}
+-- Relies on pages Finds and Local at document 01's rules.
+use Prim.Native.Nat.{ℕ, _^_, _≤_}
 use mathlib.Core.Path.{_≡_, refl, sym, subst, _∙_}
 use mathlib.Core.Bool.{true}
-use mathlib.Core.List.{List, [], _∷_, _++_, append-nil}
+use mathlib.Core.List.{List, [], _∷_, append-nil}
 use native.Mathlib.Omega.{arith}
-use lib.ListN.{length, take, drop, getD}
+use lib.ListN.{length, take}
 use lib.IntN.{ℤ}
-use Rattle.laws.specs.Standing.{Stands, stand-back, at-cons}
+use Rattle.laws.specs.Standing.{Stands, stand-back}
 use Rattle.laws.specs.Tests.{never, guard-passed}
 use Rattle.meaning.specs.declared.Refusal.{Refusal}
 use Rattle.meaning.specs.declared.Plant.{Plant}
@@ -27,17 +27,15 @@ use Rattle.meaning.specs.Tables.{rulesOf, onPlant, controlled, startsIn}
 use Rattle.meaning.specs.Trees as Y
 use Rattle.meaning.specs.Trees.{modesBytes, Pattern, tableOf, Tile, tilesOf, having}
 use Rattle.meaning.specs.Verdicts.{modesAt, header}
-use Rattle.promises.specs.Bytes.{one-byte}
 use Rattle.promises.specs.Checked.{Tiled}
-use Rattle.promises.specs.Finds.{firstPlace, OneTile, finds, call-finds}
+use Rattle.promises.specs.Finds.{firstPlace, endPlace, OneTile, finds, call-finds}
 use Rattle.promises.specs.Judged.{judged-sound}
-use Rattle.promises.specs.Layouts.{modes-stand, header-stands, headed, table-stands, tile-read, header-read}
+use Rattle.promises.specs.Layouts.{modes-stand, header-stands, headed, table-header, tile-read}
 use Rattle.promises.specs.Local.{unseen}
 use Rattle.promises.specs.PlantMotion.{splits}
-use Rattle.promises.specs.PlantRules.{sizes, one-byte-modes, header-size, number-size, tile-size, controlled-as}
+use Rattle.promises.specs.PlantRules.{sizes, header-size, controlled-as}
 use Rattle.promises.specs.Shapes.{Good}
-use Rattle.promises.specs.Sound.{Sound}
-use Rattle.promises.specs.Underway.{mode-is, modes-length}
+use Rattle.promises.specs.Underway.{nextPlace, first-told}
 use Rattle.promises.specs.Walking.{walk-went}
 
 -- ---- of an accepted table
@@ -49,58 +47,51 @@ pub record Chosen (plant table : List ℕ) (t : Tiled plant table) (x : List ℤ
   pub only : having (rulesOf (t .p)) x (tilesOf (rulesOf (t .p)) (t .tree) (rootOf (t .p)) 2) ≡ the ∷ []
   pub holds-it : holds (rulesOf (t .p)) (the .box) x ≡ true
   -- it is the one found, the first of its modes standing behind their number
-  pub found : find (rulesOf (t .p)) (t .p .d) table 2 (rootOf (t .p)) x ≡ Found.Tile (the .place + 1) (length (the .modes))
-  -- its first mode is answered, and those to come are left; the byte at its place is their number
+  pub found : find (rulesOf (t .p)) (t .p .d) table 2 (rootOf (t .p)) x ≡ Found.Tile (firstPlace (rulesOf (t .p)) the) (length (the .modes))
+  -- its first mode is answered, and those to come are left, the next of them behind it
   pub first : ℕ
   pub later : List ℕ
   pub modes-are : the .modes ≡ first ∷ later
-  pub answered : controlled plant table idle x ≡ Answer.Mode first (stateWith later (the .place + 2))
+  pub answered : controlled plant table idle x ≡ Answer.Mode first (stateWith later (nextPlace (firstPlace (rulesOf (t .p)) the) first))
   -- and the answer is the same on every table that agrees with this one up to the tile's last mode
-  pub unread : (other : List ℕ) → take (the .place + 1 + length (the .modes)) table ≡ take (the .place + 1 + length (the .modes)) other
+  pub unread : (other : List ℕ) → take (endPlace (rulesOf (t .p)) the) table ≡ take (endPlace (rulesOf (t .p)) the) other
       → controlled plant other idle x ≡ controlled plant table idle x
 
-module _ (p : Plant) (s : Sound p) where
-  -- what is answered of a tile whose bytes stand in the table
-  record Told (table : List ℕ) (place : ℕ) (us : List ℕ) : Type 0 where
-    u : ℕ
-    vs : List ℕ
-    are : us ≡ u ∷ vs
-    told : modeAt table (place + length (bytesOf (length us))) (length us) ≡ Answer.Mode u (stateWith vs (place + 2))
+-- what is answered of a tile whose bytes stand in the table
+record Told (table : List ℕ) (place : ℕ) (us : List ℕ) : Type 0 where
+  u : ℕ
+  vs : List ℕ
+  are : us ≡ u ∷ vs
+  told : modeAt table place (length us) ≡ Answer.Mode u (stateWith vs (nextPlace place u))
 
-  first-told : (table : List ℕ) (place end : ℕ) (us : List ℕ) → Pattern (p .k) (p .modes) us
-      → Stands table place (bytesOf (length us) ++ modesBytes us) end → Told table place us
-  unfolding Y.modesBytes Y.below
-  first-told table place end [] g h = absurd (omega (arith, g .some))
-  first-told table place end (u ∷ vs) g h =
-      let back = stand-back (bytesOf (suc (length vs))) (modesBytes (u ∷ vs)) h in
-      let from = place + length (bytesOf (suc (length vs))) in
-      let bytes = rw (one-byte u (omega (arith, g .modes .0, s .modes-high))) at (back .bytes) in
-      let byte : getD table from 0 ≡ u = at-cons table from u (modesBytes vs ++ drop end table) bytes .1 in
-      let q : from + 1 ≡ place + 2 = omega (arith, number-size p s (u ∷ vs) g) in
-      record { u = u; vs = vs; are = refl; told = mode-is vs table from ∙ rw (byte, q) refl }
+pattern-told : (K N : ℕ) → N ≤ 2 ^ 35 → (table : List ℕ) (place end : ℕ) (us : List ℕ) → Pattern K N us → Stands table place (modesBytes us) end → Told table place us
+pattern-told K N small table place end [] g h = absurd (omega (arith, g .some))
+pattern-told K N small table place end (u ∷ vs) g h = record { u = u; vs = vs; are = refl; told = first-told N small u vs table place end (g .modes) h }
 
 -- the tile that was found is the one chosen
 tile-chosen : (plant table : List ℕ) (t : Tiled plant table) (x : List ℤ)
-    (f : OneTile (rulesOf (t .p)) (Good (rulesOf (t .p)) (rule (rulesOf (t .p)))) x table (headed (rulesOf (t .p)))
-    (tilesOf (rulesOf (t .p)) (t .tree) (rootOf (t .p)) (headed (rulesOf (t .p))))
-    (find (rulesOf (t .p)) (t .p .d) table (headed (rulesOf (t .p))) (rootOf (t .p)) x))
+    (f : OneTile (rulesOf (t .p)) (Good (rulesOf (t .p)) (rule (rulesOf (t .p)))) x table (headed (t .p .n))
+    (tilesOf (rulesOf (t .p)) (t .tree) (rootOf (t .p)) (headed (t .p .n)))
+    (find (rulesOf (t .p)) (t .p .d) table (headed (t .p .n)) (rootOf (t .p)) x))
     → call (rulesOf (t .p)) table idle x ≡ modeAt table (firstPlace (rulesOf (t .p)) (f .the)) (length (f .the .modes)) → Chosen plant table t x
+unfolding Y.layout
 tile-chosen plant table t x f c =
     let p = t .p in
     let r = rulesOf p in
     let s = judged-sound plant p (t .judged) in
     let g = f .known .shape in
-    let first = first-told p s table (f .the .place) (f .end) (f .the .modes) g (f .stand) in
-    let head = table-stands r table [] (t .tree) (t .is ∙ sym (append-nil (tableOf r (t .tree)))) .0 in
-    let w = unseen r (sizes p s) x table (headed r) (firstPlace r (f .the)) (length (f .the .modes)) (header-read r (sizes p s) table (headed r) head) (f .told) in
-    let same : w .end ≡ f .end = cc (tile-read r (sizes p s) (f .the .modes) table (f .the .place) (f .end) g (f .stand) .1, w .are) in
-    let end : w .end ≡ f .the .place + 1 + length (f .the .modes) = omega (arith, same, f .stand .end, tile-size p s (f .the .modes) g) in
+    let z = sizes p s in
+    let number = bytesOf (length (f .the .modes)) in
+    let first = pattern-told (p .k) (p .modes) (z .modes) table (firstPlace r (f .the)) (f .end) (f .the .modes) g (stand-back number (modesBytes (f .the .modes)) (f .stand)) in
+    let head = table-header r z table [] (t .tree) (t .is ∙ sym (append-nil (tableOf r (t .tree)))) in
+    let w = unseen r z x table (headed (p .n)) (firstPlace r (f .the)) (length (f .the .modes)) head (f .told) in
+    let same : w .end ≡ f .end = cc (tile-read r z (f .the .modes) table (f .the .place) (f .end) g (f .stand) .1, w .are) in
+    let end : w .end ≡ endPlace r (f .the) = same ∙ f .stand .end in
     record {
       the = f .the;
       only = subst (λ (m : ℕ). having r x (tilesOf r (t .tree) (rootOf p) m) ≡ f .the ∷ []) (header-size p s) (f .only);
       holds-it = f .holds-it;
-      found = subst (λ (m : ℕ). find r (p .d) table m (rootOf p) x ≡ Found.Tile (f .the .place + 1) (length (f .the .modes))) (header-size p s)
-          (rw (number-size p s (f .the .modes) g) at (f .told));
+      found = subst (λ (m : ℕ). find r (p .d) table m (rootOf p) x ≡ Found.Tile (firstPlace r (f .the)) (length (f .the .modes))) (header-size p s) (f .told);
       first = first .u;
       later = first .vs;
       modes-are = first .are;
@@ -124,15 +115,16 @@ chosen plant table t x h =
 
 -- ---- of every table, accepted or not
 
--- An idle call was answered so: by the tile whose modes stand from `from` on, and the same on every table that agrees up to its last mode.
+-- An idle call was answered so: by the tile whose modes stand from `from` up to `end`, and the same on every table that agrees up to there.
 pub record Unread (plant table : List ℕ) (x : List ℤ) (u : ℕ) (then : State) : Type 0 where
   pub p : Plant
   pub judged : plantJudged plant ≡ good p
   pub from : ℕ
   pub modes : List ℕ
   pub found : find (rulesOf p) (p .d) table 2 (rootOf p) x ≡ Found.Tile from (length modes)
-  pub are : modesAt (rulesOf p) (length modes) table from ≡ read modes (from + length modes)
-  pub same : (other : List ℕ) → take (from + length modes) table ≡ take (from + length modes) other → controlled plant other idle x ≡ Answer.Mode u then
+  pub end : ℕ
+  pub are : modesAt (p .modes) (length modes) table from ≡ read modes end
+  pub same : (other : List ℕ) → take end table ≡ take end other → controlled plant other idle x ≡ Answer.Mode u then
 
 refused-mode : {e : Refusal} {u : ℕ} {then : State} → Answer.Refused e ≡ Answer.Mode u then → ⊥
 refused-mode q = never cc
@@ -146,14 +138,14 @@ record Went (p : Plant) (table : List ℕ) (x : List ℤ) : Type 0 where
   at : ℕ
   from : ℕ
   k : ℕ
-  head : header (rulesOf p) table ≡ Walk.Next at
+  head : header (p .n) table ≡ Walk.Next at
   found : find (rulesOf p) (p .d) table at (rootOf p) x ≡ Found.Tile from k
 
 went : (p : Plant) (table : List ℕ) (x : List ℤ) (u : ℕ) (then : State) → call (rulesOf p) table idle x ≡ Answer.Mode u then → Went p table x
 unfolding C.call
 went p table x u then a =
     let r = rulesOf p in
-    let w = walk-went (header r table) Answer.Refused (λ at. idleCall r table at 0 x) (λ _. refused-mode) a in
+    let w = walk-went (header (p .n) table) Answer.Refused (λ at. idleCall r table at 0 x) (λ _. refused-mode) a in
     let g = guard-passed (holds r (rootOf p) x) (λ _. onFound table (find r (p .d) table (w .0) (rootOf p) x)) refused-mode (w .2) in
     let f = found-tile table (find r (p .d) table (w .0) (rootOf p) x) u then (g .1) in
     record { at = w .0; from = f .0; k = f .1; head = w .1; found = f .2 }
@@ -167,18 +159,18 @@ unread plant table x u then = go (plantJudged plant) refl
         let r = rulesOf p in
         let s = judged-sound plant p e in
         let z = unseen r (sizes p s) x table (w .at) (w .from) (w .k) (w .head) (w .found) in
-        let m = modes-stand r (w .k) table (w .from) (z .modes) (z .end) (z .are) in
+        let m = modes-stand (p .modes) (w .k) table (w .from) (z .modes) (z .end) (z .are) in
         let count : length (z .modes) ≡ w .k = m .count in
-        let begin : w .at ≡ 2 = omega (arith, header-stands r table (w .at) (w .head) .end, header-size p s) in
-        let end : w .from + length (z .modes) ≡ z .end = omega (arith, m .stand .end, modes-length (p .modes) (z .modes) (one-byte-modes p s) (m .modes)) in
+        let begin : w .at ≡ 2 = omega (arith, header-stands (p .n) table (w .at) (w .head) .end, header-size p s) in
         record {
           p = p;
           judged = e;
           from = w .from;
           modes = z .modes;
           found = rw count (rw begin at (w .found));
-          are = rw (end, count) (z .are);
-          same = λ other q. controlled-as plant p e other idle x ∙ z .same other (rw end at q) ∙ a;
+          end = z .end;
+          are = rw count (z .are);
+          same = λ other q. controlled-as plant p e other idle x ∙ z .same other q ∙ a;
         }
 
     go : (j : Judged Plant) → plantJudged plant ≡ j → onPlant j Answer.Refused (λ p. call (rulesOf p) table idle x) ≡ Answer.Mode u then

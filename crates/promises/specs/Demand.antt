@@ -1,6 +1,6 @@
 -- S9, demand 3. On an accepted table, over runs of any length, whatever readings come that may follow: no call is refused, every reading lies in S,
 -- and from each idle call the room is back in R, idle, within as many samples as the table's longest pattern.
--- Over any rules that split well and whose patterns keep their word. It holds so only while a mode takes one byte (page Laws).
+-- Over any rules that split well and whose patterns keep their word.
 -- That some reading always follows, so that no run gets stuck, is S12.
 use Prim.Native.Nat.{ℕ, suc, _+_, _≤_}
 use mathlib.Core.Path.{_≡_, refl, sym, ap, _∙_}
@@ -19,23 +19,27 @@ use Rattle.meaning.specs.Trees.{Tree, modesBytes, longest, Pattern, tableOf, Ov
 use Rattle.meaning.specs.Verdicts.{verdict, header}
 use Rattle.meaning.specs.Control.{idle, modeAt, call, stateWith}
 use Rattle.meaning.specs.Runs.{Run, start, sample, Samples, none, next}
-use Rattle.promises.specs.Laws.{Sizes, OneByte, Splits, Motion}
+use Rattle.promises.specs.Laws.{Sizes, Splits, Motion}
 use Rattle.promises.specs.Bytes.{bytes-some}
 use Rattle.promises.specs.Shapes.{Good, Working, over-short}
-use Rattle.promises.specs.Layouts.{header-read, headed, table-stands}
+use Rattle.promises.specs.Layouts.{headed, table-header}
 use Rattle.promises.specs.Accept.{accepted-exactly}
 use Rattle.promises.specs.Finds.{finds, call-finds}
-use Rattle.promises.specs.Underway.{Ready, Pending, ready-mode, ready-next, ready-told}
+use Rattle.promises.specs.Underway.{nextPlace, Ready, Pending, ready-mode, ready-next, ready-told}
 
 module _ (r : Rules) where
   open Rules r using (Reading, root, goal, safe, follows)
 
-  -- the states and readings that a run on the table s meets, and m samples of one
+  -- a call on the table s gives a mode and the next state
+  abbrev pub Gives : List ℕ → State → Reading → ℕ → State → Type 0
+  Gives s st x u then = call r s st x ≡ Answer.Mode u then
+
+  -- the states and readings that a run on it meets, and m samples of one
   abbrev pub Meets : List ℕ → State → Reading → Type 0
-  Meets s = Run (call r s) (holds r root) follows
+  Meets s = Run idle (Gives s) (holds r root) follows
 
   abbrev pub Sampled : List ℕ → ℕ → State → Reading → State → Reading → Type 0
-  Sampled s = Samples (call r s) (holds r root) follows
+  Sampled s = Samples idle (Gives s) (holds r root) follows
 
   -- idle again, the reading in the box that patterns end in, and so in R
   pub record Home (st : State) (y : Reading) : Type 0 where
@@ -75,7 +79,7 @@ module _ (r : Rules) (s : List ℕ) where
   stopped none e = (refl, refl)
   stopped (next a f rest) e = absurd (omega arith)
 
-module _ (r : Rules) (sizes : Sizes r) (one : OneByte r) (splits : Splits r) (motion : Motion r) (t : Tree) (works : Working r t) where
+module _ (r : Rules) (sizes : Sizes r) (splits : Splits r) (motion : Motion r) (t : Tree) (works : Working r t) where
   open Rules r using (Box, Reading, begin, root, goal, safe, D, K, N, follows)
 
   abbrev table : List ℕ
@@ -90,8 +94,8 @@ module _ (r : Rules) (sizes : Sizes r) (one : OneByte r) (splits : Splits r) (mo
       over-short r (longest t) (Good r (rule r)) Known (λ b us l g. (g, l))
       t D root (omega arith) works
 
-  header-is : header r table ≡ Walk.Next (headed r)
-  header-is = header-read r sizes table (headed r) (table-stands r table [] t (sym (append-nil table)) .0)
+  header-is : header (r .n) table ≡ Walk.Next (headed (r .n))
+  header-is = table-header r sizes table [] t (sym (append-nil table))
 
   -- what a call does: the mode that it answers, those to come, and that whatever may follow is as they say
   record Goes (st : State) (x : Reading) : Type 0 where
@@ -106,7 +110,7 @@ module _ (r : Rules) (sizes : Sizes r) (one : OneByte r) (splits : Splits r) (mo
     goes : Goes idle x
     short : suc (length (goes .vs)) ≤ longest t
 
-  tile-goes : (x : Reading) (b : Box) (us : List ℕ) (place end : ℕ) → Known b us → headed r ≤ place
+  tile-goes : (x : Reading) (b : Box) (us : List ℕ) (place end : ℕ) → Known b us → headed (r .n) ≤ place
       → Stands table place (bytesOf (length us) ++ modesBytes us) end
       → holds r b x ≡ true → call r table idle x ≡ modeAt table (place + length (bytesOf (length us))) (length us) → Called x
   tile-goes x b [] place end k l p h e = absurd (omega (arith, k .0 .shape .some))
@@ -127,9 +131,9 @@ module _ (r : Rules) (sizes : Sizes r) (one : OneByte r) (splits : Splits r) (mo
         goes = record {
           u = u;
           vs = vs;
-          place = first + 1;
-          told = e ∙ ready-mode r one motion table u vs first x ready;
-          then = ready-next r one motion table u vs first x ready;
+          place = nextPlace first u;
+          told = e ∙ ready-mode r sizes motion table u vs first x ready;
+          then = ready-next r sizes motion table u vs first x ready;
         };
         short = k .1;
       }
@@ -146,9 +150,9 @@ module _ (r : Rules) (sizes : Sizes r) (one : OneByte r) (splits : Splits r) (mo
   pending-goes (u ∷ us) place x h = record {
     u = u;
     vs = us;
-    place = place + 1;
-    told = ready-told r one motion table (headed r) header-is u us place x (h .0) (h .1);
-    then = ready-next r one motion table u us place x (h .0);
+    place = nextPlace place u;
+    told = ready-told r sizes motion table (headed (r .n)) header-is u us place x (h .0) (h .1);
+    then = ready-next r sizes motion table u us place x (h .0);
   }
 
   -- ---- where a run may stand
@@ -207,7 +211,7 @@ module _ (r : Rules) (sizes : Sizes r) (one : OneByte r) (splits : Splits r) (mo
       let q : z ≡ x = w .1 in
       record { again = w .0; in-goal = rw q h; in-root = rw q (motion .home x h) }
   pending-home (u ∷ us) place x h v z k =
-      step-home (pending-goes (u ∷ us) place x h) refl (λ y w j. pending-home us (place + 1) y w v z j) (stepped r table k (length us) refl)
+      step-home (pending-goes (u ∷ us) place x h) refl (λ y w j. pending-home us (nextPlace place u) y w v z j) (stepped r table k (length us) refl)
 
   demanded : Demand r table (longest t)
   demanded = record {
@@ -223,9 +227,9 @@ module _ (r : Rules) (sizes : Sizes r) (one : OneByte r) (splits : Splits r) (mo
   }
 
 -- S9: of every accepted table, and of the one tree that it is the table of
-pub demand : (r : Rules) → Sizes r → OneByte r → Splits r → Motion r → (s : List ℕ) → verdict r s ≡ Verdict.Accepted
+pub demand : (r : Rules) → Sizes r → Splits r → Motion r → (s : List ℕ) → verdict r s ≡ Verdict.Accepted
     → (t : Tree) × Working r t × (s ≡ tableOf r t) × Demand r s (longest t)
-demand r sizes one splits motion s e = let w = accepted-exactly r sizes s .0 e in (w .0, w .1, w .2, of (w .0) (w .1) (w .2))
+demand r sizes splits motion s e = let w = accepted-exactly r sizes s .0 e in (w .0, w .1, w .2, of (w .0) (w .1) (w .2))
   where
     of : (t : Tree) → Working r t → s ≡ tableOf r t → Demand r s (longest t)
-    of t o q = rw q (demanded r sizes one splits motion t o)
+    of t o q = rw q (demanded r sizes splits motion t o)

@@ -20,7 +20,7 @@ use Rattle.meaning.specs.Control.{among, find, idle, modeAt, call}
 use Rattle.promises.specs.Laws.{Sizes, holding, Splits}
 use Rattle.promises.specs.Walking.{lookAmong, find-split, find-tile}
 use Rattle.promises.specs.Shapes.{Good, over-map}
-use Rattle.promises.specs.Layouts.{tile-read, split-read, walk-reads, header-read, headed, table-stands}
+use Rattle.promises.specs.Layouts.{tile-read, split-read, walk-reads, headed, table-stands, table-header}
 
 bit-zero : (c : Bool) → bit c ≡ 0 → c ≡ false
 bit-zero true e = absurd (omega arith)
@@ -29,9 +29,12 @@ bit-zero false e = refl
 module _ (r : Rules) where
   open Rules r using (Box, Reading, children, root, D, K, N)
 
-  -- the place of a tile's first mode
+  -- the place of a tile's first mode, and that behind its last
   abbrev pub firstPlace : Tile r → ℕ
   firstPlace t = t .place + length (bytesOf (length (t .modes)))
+
+  abbrev pub endPlace : Tile r → ℕ
+  endPlace t = t .place + length (layout (tile (t .modes)))
 
   -- The tile was found, and is the only one of ts that holds the reading. Its bytes stand in s, not before lo.
   pub record OneTile (P : Box → List ℕ → Type 0) (x : Reading) (s : List ℕ) (lo : ℕ) (ts : List (Tile r)) (found : Found) : Type 0 where
@@ -151,10 +154,10 @@ module _ (r : Rules) where
 
 module _ (r : Rules) (sizes : Sizes r) (splits : Splits r) (P : r .Box → List ℕ → Type 0) (shape : (b : r .Box) (us : List ℕ) → P b us → Pattern (r .K) (r .N) us)
     (s rest : List ℕ) (t : Tree) (is : s ≡ tableOf r t ++ rest) (over : Over r P t (r .D) (r .root)) (x : r .Reading) (held : holds r (r .root) x ≡ true) where
-  pub finds : OneTile r P x s (headed r) (tilesOf r t (r .root) (headed r)) (find r (r .D) s (headed r) (r .root) x)
-  finds = tree-finds r sizes splits P shape x t (r .D) s (headed r) (r .root) (length (tableOf r t)) over (table-stands r s rest t is .1) held
+  pub finds : OneTile r P x s (headed (r .n)) (tilesOf r t (r .root) (headed (r .n))) (find r (r .D) s (headed (r .n)) (r .root) x)
+  finds = tree-finds r sizes splits P shape x t (r .D) s (headed (r .n)) (r .root) (length (tableOf r t)) over (table-stands r s rest t is .1) held
 
   -- and a call, idle, answers that tile's first mode
   pub call-finds : call r s idle x ≡ modeAt s (firstPlace r (finds .the)) (length (finds .the .modes))
   unfolding call
-  call-finds = simp (header-read r sizes s (headed r) (table-stands r s rest t is .0), held, finds .told)
+  call-finds = simp (table-header r sizes s rest t is, held, finds .told)

@@ -26,7 +26,7 @@ use Rattle.meaning.specs.Trees.{Tree, Forest, split, tile, leaf, more, layout, 
 use Rattle.meaning.specs.Verdicts as C
 use Rattle.meaning.specs.Verdicts.{onRule, onWalk, each, walk, verdict}
 use Rattle.promises.specs.Laws.{Sizes}
-use Rattle.promises.specs.Layouts.{tile-read, split-read, headed, header-read, table-stands}
+use Rattle.promises.specs.Layouts.{tile-read, split-read, headed, table-stands, table-header}
 use Rattle.promises.specs.Patterns as T
 use Rattle.promises.specs.Patterns.{lastOf, images, Lands, works-exactly}
 use Rattle.promises.specs.Shapes.{Good, Shaped, Working}
@@ -180,7 +180,7 @@ module _ (r : Rules) where
   pub record FirstBad (t : Tree) (one : Tile r) : Type 0 where
     pub front : List (Tile r)
     pub back : List (Tile r)
-    pub are : tilesOf r t root (headed r) ≡ front ++ one ∷ back
+    pub are : tilesOf r t root (headed n) ≡ front ++ one ∷ back
     pub work : Every TileWorks front
 
   -- what a table that keeps the file's rules comes to: its tiles all work, or there is a first that does not
@@ -207,11 +207,11 @@ module _ (r : Rules) where
         (tree-works t d b at (o .0) (w .0), forest-works f d bs (at + length (layout t)) (o .1) (w .1))
 
   -- the tiles behind those of a front that work
-  comes-from : (t : Tree) → Shaped r t → (front rest : List (Tile r)) → tilesOf r t root (headed r) ≡ front ++ rest → Every TileWorks front → Comes t
+  comes-from : (t : Tree) → Shaped r t → (front rest : List (Tile r)) → tilesOf r t root (headed n) ≡ front ++ rest → Every TileWorks front → Comes t
   unfolding E.Every
   comes-from t shape front [] e h =
-      let q : tilesOf r t root (headed r) ≡ front = e ∙ append-nil front in
-      working (tree-works t D root (headed r) shape (rw q h))
+      let q : tilesOf r t root (headed n) ≡ front = e ∙ append-nil front in
+      working (tree-works t D root (headed n) shape (rw q h))
   comes-from t shape front (one ∷ rest) e h =
       go (outcome (one .modes) (begin (one .box)))
       (λ w. comes-from t shape (front ++ one ∷ []) rest (e ∙ sym (append-assoc front (one ∷ []) rest)) (every-append TileWorks front (one ∷ []) h (w, tt)))
@@ -226,18 +226,18 @@ module _ (r : Rules) where
 
   pub comes : (t : Tree) → Shaped r t → Comes t
   unfolding E.Every
-  comes t shape = comes-from t shape [] (tilesOf r t root (headed r)) refl tt
+  comes t shape = comes-from t shape [] (tilesOf r t root (headed n)) refl tt
 
   module _ (sizes : Sizes r) (t : Tree) (shape : Shaped r t) (one : Tile r) (bad : FirstBad t one) where
     bad-told : (e : Refusal) → toldOf (rule r) one ≡ Walk.Refused e → verdict r (tableOf r t) ≡ Verdict.Refused e
     unfolding C.verdict
     bad-told e q =
         let s = tableOf r t in
-        let p = table-stands r s [] t (sym (append-nil s)) in
-        let w : walk r (rule r) D s (headed r) root ≡ Walk.Refused e =
-        walk-judges (rule r) sizes t D s (headed r) root (length s) shape (p .1)
+        let is = sym (append-nil s) in
+        let w : walk r (rule r) D s (headed n) root ≡ Walk.Refused e =
+        walk-judges (rule r) sizes t D s (headed n) root (length s) shape (table-stands r s [] t is .1)
         ∙ rw (bad .are) (judged-first (rule r) (bad .front) one (bad .back) (length s) e (bad .work) q) in
-        simp (header-read r sizes s (headed r) (p .0), w)
+        simp (table-header r sizes s [] t is, w)
 
     -- row 7
     pub leaving-told : (i : ℕ) → LeavesAt (begin (one .box)) (one .modes) i → verdict r (tableOf r t) ≡ Verdict.Refused (leaves (one .place) i)

@@ -1,5 +1,5 @@
 -- What the theorems over tables ask of the rules, each theorem naming only what it needs. Definitions alone: that document 01's rules of a sound
--- plant are so is pages PlantRules (Sizes, OneByte) and PlantMotion (Splits, Motion).
+-- plant are so is pages PlantRules (Sizes) and PlantMotion (Splits, Motion).
 use Prim.Native.Nat.{ℕ, _^_, _≤_, _<_}
 use mathlib.Core.Path.{_≡_}
 use mathlib.Core.Bool.{true}
@@ -15,10 +15,6 @@ module _ (r : Rules) where
     pub dimensions : n < 2 ^ 35
     pub nodes : K < 2 ^ 35
     pub modes : N ≤ 2 ^ 35
-
-  -- A mode is one byte. The controller's state counts bytes as modes, so that this is needed wherever it is run, and only there.
-  abbrev pub OneByte : Type 0
-  OneByte = N ≤ 128
 
   -- how many of the boxes hold a reading
   abbrev pub holding : List Box → Reading → ℕ

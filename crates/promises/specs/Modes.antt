@@ -1,42 +1,42 @@
 -- A mode that a call answers is a mode of the plant (document 01, "The controller": the mode there is below N), for every plant, table, state and reading,
--- accepted or not: running, the state's test says so; idle, the tile's modes were read, each below N, and the first of them is the byte at its place.
+-- accepted or not: running, the state's test says so; idle, the tile's modes were read, each below N.
 -- So the C face shows a mode below N, or 255 exactly where the call is refused. Relies on page Local for the tile that was found, and on page Judged.
 use Prim.Native.Nat.{ℕ, zero, suc, _+_, _≤_, _<_}
-use mathlib.Core.Path.{_≡_, refl, _∙_}
+use mathlib.Core.Path.{_≡_, refl}
 use mathlib.Core.Bool.{Bool, true, false, _&&_}
-use mathlib.Core.List.{List, [], _∷_, _++_}
+use mathlib.Core.List.{List, [], _∷_}
 use mathlib.Core.Logic.{_↔_}
 use native.Mathlib.Omega.{arith}
-use lib.ListN.{length, getD, drop}
+use lib.ListN.{length}
 use lib.Dec.{leb, ltb, eqb}
 use lib.IntN.{ℤ, pos}
 use borrow.Author.Tests.{lt-ltb, ltb-true}
 use Rattle.laws.specs.Lists.{at}
-use Rattle.laws.specs.Standing.{at-cons}
 use Rattle.laws.specs.Tests.{never, guard-passed, second}
 use Rattle.meaning.specs.declared.Refusal.{Refusal}
 use Rattle.meaning.specs.declared.Plant.{Plant}
+use Rattle.meaning.specs.declared.Number.{Number}
 use Rattle.meaning.specs.declared.Walk.{Walk}
 use Rattle.meaning.specs.declared.Found.{Found}
 use Rattle.meaning.specs.declared.State.{State}
 use Rattle.meaning.specs.declared.Answer.{Answer}
 use Rattle.meaning.specs.Control as C
-use Rattle.meaning.specs.Control.{modeAt, onFound, find, canRun, stateCall, call}
+use Rattle.meaning.specs.Control.{stateAt, stateWith, modeAt, onFound, find, canRun, stateCall, call}
 use Rattle.meaning.specs.Files.{Judged, good, bad}
+use Rattle.meaning.specs.Numbers.{numberAt}
 use Rattle.meaning.specs.Plants.{plantJudged}
 use Rattle.meaning.specs.Refusals.{answerShown}
 use Rattle.meaning.specs.Rules.{Rules, holds}
 use Rattle.meaning.specs.Tables as T
 use Rattle.meaning.specs.Tables.{rulesOf, onPlant, controlled}
 use Rattle.meaning.specs.Trees as Y
-use Rattle.meaning.specs.Trees.{modesBytes}
 use Rattle.meaning.specs.Verdicts.{header}
-use Rattle.promises.specs.Bytes.{one-byte}
 use Rattle.promises.specs.Judged.{judged-sound}
-use Rattle.promises.specs.Laws.{Sizes, OneByte}
+use Rattle.promises.specs.Laws.{Sizes}
 use Rattle.promises.specs.Layouts.{ModesStand, modes-stand}
 use Rattle.promises.specs.Local.{unseen}
-use Rattle.promises.specs.PlantRules.{sizes, one-byte-modes}
+use Rattle.promises.specs.PlantRules.{judged-sizes}
+use Rattle.promises.specs.Underway.{nextPlace, first-told}
 use Rattle.promises.specs.Walking.{walk-went}
 
 -- whether u is one of the plant's N modes, 0..N−1: none where the plant is refused
@@ -46,46 +46,65 @@ isMode plant u = onPlant (plantJudged plant) (λ _. false) λ p. ltb u (p .modes
 pub refused-mode : {e : Refusal} {u : ℕ} {then : State} → Answer.Refused e ≡ Answer.Mode u then → ⊥
 refused-mode e = never cc
 
+-- the first of the modes from a place on is answered, and is below N
+pub record First (N : ℕ) (s : List ℕ) (place left : ℕ) : Type 0 where
+  pub mode : ℕ
+  pub then : State
+  pub told : modeAt s place left ≡ Answer.Mode mode then
+  pub is-below : mode < N
+
+-- running: the state's test says so of the number at the place
+running-first : (K N : ℕ) (s : List ℕ) (place m : ℕ) → canRun K N s place (suc m) ≡ true → First N s place (suc m)
+running-first K N s place m e =
+    go (numberAt s place) refl (second (leb (suc m) K && leb 2 place && leb (place + suc m) (length s)) (C.isMode N (numberAt s place)) e)
+  where
+    go : (v : Number) → numberAt s place ≡ v → C.isMode N v ≡ true → First N s place (suc m)
+    go Number.Broken q h = never h
+    go (Number.Value u next) q h = record { mode = u; then = stateAt next m; told = rw q refl; is-below = ltb-true u N h }
+
+-- idle: the modes of the tile that was found were read
+module _ (r : Rules) (z : Sizes r) (s : List ℕ) (at : ℕ) (head : header (r .n) s ≡ Walk.Next at) (x : r .Reading) where
+  pub found-first : (from k : ℕ) → find r (r .D) s at (r .root) x ≡ Found.Tile from k → First (r .N) s from k
+  unfolding Y.below
+  found-first from k q =
+      let w = unseen r z x s at from k head q in
+      go (w .modes) (w .end) (modes-stand (r .N) k s from (w .modes) (w .end) (w .are)) (w .some)
+    where
+      go : (us : List ℕ) (m : ℕ) → ModesStand (r .N) k s from us m → 1 ≤ k → First (r .N) s from k
+      go [] m w l = absurd (omega (arith, w .count))
+      go (u ∷ us) m w l =
+          let e : k ≡ suc (length us) = omega (arith, w .count) in
+          record {
+            mode = u;
+            then = stateWith us (nextPlace from u);
+            told = rw e (first-told (r .N) (z .modes) u us s from m (w .modes) (w .stand));
+            is-below = w .modes .0;
+          }
+
 module _ {u : ℕ} {then : State} where
-  -- what is answered is the byte at the place
-  at-place : (s : List ℕ) (place left : ℕ) → modeAt s place left ≡ Answer.Mode u then → u ≡ getD s place 0
-  at-place s place zero e = absurd (refused-mode e)
-  at-place s place (suc zero) e = cc
-  at-place s place (suc (suc m)) e = cc
+  first-below : (N : ℕ) (s : List ℕ) (place left : ℕ) → First N s place left → modeAt s place left ≡ Answer.Mode u then → u < N
+  first-below N s place left f e = let q : f .mode ≡ u = cc (f .told, e) in rw q at (f .is-below)
 
-  module _ (r : Rules) (one : OneByte r) (s : List ℕ) where
-    -- of modes that were read, the first is the byte where they begin
-    first-below : (from k m : ℕ) (us : List ℕ) → ModesStand r k s from us m → modeAt s from k ≡ Answer.Mode u then → u < r .N
-    unfolding Y.modesBytes Y.below
-    first-below from k m [] w e = let q : k ≡ 0 = omega (arith, w .count) in absurd (refused-mode (rw q at e))
-    first-below from k m (v ∷ vs) w e =
-        let bytes = rw (one-byte v (omega (arith, w .modes .0))) at (w .stand .bytes) in
-        let q : u ≡ v = at-place s from k e ∙ at-cons s from v (modesBytes vs ++ drop m s) bytes .1 in
-        rw q (w .modes .0)
+  module _ (r : Rules) (z : Sizes r) (s : List ℕ) where
+    -- 12 and 11 were passed
+    state-below : (at : ℕ) → header (r .n) s ≡ Walk.Next at → (x : r .Reading) (place left : ℕ) → stateCall r s at place left x ≡ Answer.Mode u then → u < r .N
+    state-below at head x place zero e =
+        let a = guard-passed (eqb place 0) _ refused-mode e in
+        found (find r (r .D) s at (r .root) x) refl (guard-passed (holds r (r .root) x) _ refused-mode (a .1) .1)
+      where
+        found : (f : Found) → find r (r .D) s at (r .root) x ≡ f → onFound s f ≡ Answer.Mode u then → u < r .N
+        found (Found.Refused e) q a = absurd (refused-mode a)
+        found (Found.Tile from k) q a = first-below (r .N) s from k (found-first r z s at head x from k q) a
+    state-below at head x place (suc m) e =
+        let a = guard-passed (canRun (r .K) (r .N) s place (suc m)) _ refused-mode e in
+        let b = guard-passed (holds r (r .safe) x) _ refused-mode (a .1) in
+        first-below (r .N) s place (suc m) (running-first (r .K) (r .N) s place m (a .0)) (b .1)
 
-    module _ (z : Sizes r) (at : ℕ) (head : header r s ≡ Walk.Next at) (x : r .Reading) where
-      found-below : (f : Found) → find r (r .D) s at (r .root) x ≡ f → onFound s f ≡ Answer.Mode u then → u < r .N
-      found-below (Found.Refused e) q a = absurd (refused-mode a)
-      found-below (Found.Tile from k) q a =
-          let w = unseen r z x s at from k head q in
-          first-below from k (w .end) (w .modes) (modes-stand r k s from (w .modes) (w .end) (w .are)) a
-
-      -- 12 and 11 were passed
-      state-below : (place left : ℕ) → stateCall r s at place left x ≡ Answer.Mode u then → u < r .N
-      state-below place zero e =
-          let a = guard-passed (eqb place 0) _ refused-mode e in
-          found-below (find r (r .D) s at (r .root) x) refl (guard-passed (holds r (r .root) x) _ refused-mode (a .1) .1)
-      state-below place (suc m) e =
-          let a = guard-passed (canRun r s place (suc m)) _ refused-mode e in
-          let b = guard-passed (holds r (r .safe) x) _ refused-mode (a .1) in
-          let tests = leb (suc m) (r .K) && leb 2 place && leb (place + suc m) (length s) in
-          rw (at-place s place (suc m) (b .1)) (ltb-true (getD s place 0) (r .N) (second tests (ltb (getD s place 0) (r .N)) (a .0)))
-
-    call-below : Sizes r → (st : State) (x : r .Reading) → call r s st x ≡ Answer.Mode u then → u < r .N
+    call-below : (st : State) (x : r .Reading) → call r s st x ≡ Answer.Mode u then → u < r .N
     unfolding C.call
-    call-below z st x e =
-        let w = walk-went (header r s) Answer.Refused (λ at. stateCall r s at (st .place) (st .left) x) (λ _. refused-mode) e in
-        state-below z (w .0) (w .1) x (st .place) (st .left) (w .2)
+    call-below st x e =
+        let w = walk-went (header (r .n) s) Answer.Refused (λ at. stateCall r s at (st .place) (st .left) x) (λ _. refused-mode) e in
+        state-below (w .0) (w .1) x (st .place) (st .left) (w .2)
 
   -- of every plant, table, state and reading
   pub answered-mode : (plant table : List ℕ) (st : State) (x : List ℤ) → controlled plant table st x ≡ Answer.Mode u then
@@ -96,7 +115,7 @@ module _ {u : ℕ} {then : State} where
       go : (j : Judged Plant) → plantJudged plant ≡ j → onPlant j Answer.Refused (λ p. call (rulesOf p) table st x) ≡ Answer.Mode u then
           → (p : Plant) × (plantJudged plant ≡ good p) × (u < p .modes)
       go (bad f) q e = absurd (refused-mode e)
-      go (good p) q e = let s = judged-sound plant p q in (p, q, call-below (rulesOf p) (one-byte-modes p s) table (sizes p s) st x e)
+      go (good p) q e = (p, q, call-below (rulesOf p) (judged-sizes plant p q) table st x e)
 
   -- the same, as a test on the plant's bytes
   pub answered-is-mode : (plant table : List ℕ) (st : State) (x : List ℤ) → controlled plant table st x ≡ Answer.Mode u then → isMode plant u ≡ true

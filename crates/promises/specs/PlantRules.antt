@@ -1,4 +1,4 @@
--- Document 01's rules of a plant that was judged good: its numbers meet what page Laws asks of numbers, and take one byte each in a table; and the
+-- Document 01's rules of a plant that was judged good: its numbers meet what page Laws asks of numbers, and a table's header takes two bytes; and the
 -- answers about tables over bytes are those of its rules. How a plant was judged is told by its reader's verdict; a bad one is told first. That they split well and that their patterns keep their word is page PlantMotion.
 -- Relies on the ranges of page Sound.
 use Prim.Native.Nat.{ℕ, _+_}
@@ -21,26 +21,21 @@ use Rattle.meaning.specs.Numbers.{bytesOf}
 use Rattle.meaning.specs.Plants.{plantJudged, readOf}
 use Rattle.meaning.specs.Tables as T
 use Rattle.meaning.specs.Tables.{rulesOf, checked, tableBytes, made, controlled}
-use Rattle.meaning.specs.Trees.{Tree, modesBytes, layout, Pattern, tableOf}
+use Rattle.meaning.specs.Trees.{Tree, layout, tableOf}
 use Rattle.meaning.specs.Verdicts.{verdict}
 use Rattle.promises.specs.Bytes.{one-byte}
 use Rattle.promises.specs.Judged.{judged-sound}
-use Rattle.promises.specs.Laws.{Sizes, OneByte}
+use Rattle.promises.specs.Laws.{Sizes}
 use Rattle.promises.specs.Layouts.{headed}
 use Rattle.promises.specs.Sound.{Sound}
-use Rattle.promises.specs.Underway.{modes-length}
 
 module _ (p : Plant) (s : Sound p) where
   -- n is at most 4, K at most 6, N at most 16: numbers of five bytes hold them
   pub sizes : Sizes (rulesOf p)
   sizes = record { dimensions = omega (arith, s .n-high); nodes = omega (arith, s .k-high); modes = omega (arith, s .modes-high) }
 
-  -- and one byte holds a mode
-  pub one-byte-modes : OneByte (rulesOf p)
-  one-byte-modes = omega (arith, s .modes-high)
-
-  -- so that a table's header is two bytes
-  pub header-size : headed (rulesOf p) ≡ 2
+  -- and form and n take a byte each
+  pub header-size : headed (p .n) ≡ 2
   header-size =
       omega (
         arith,
@@ -58,14 +53,6 @@ module _ (p : Plant) (s : Sound p) where
         length-append (bytesOf (p .n)) (layout t),
         length-append (bytesOf 1) (bytesOf (p .n)),
       )
-
-  -- and a tile one byte and its modes
-  module _ (us : List ℕ) (g : Pattern (p .k) (p .modes) us) where
-    pub number-size : length (bytesOf (length us)) ≡ 1
-    number-size = ap length (one-byte (length us) (omega (arith, g .few, s .k-high)))
-
-    pub tile-size : length (bytesOf (length us) ++ modesBytes us) ≡ 1 + length us
-    tile-size = omega (arith, length-append (bytesOf (length us)) (modesBytes us), number-size, modes-length (p .modes) us one-byte-modes (g .modes))
 
 -- the reader's answer x says how the plant was judged
 module _ (j : Judged Plant) (x : PlantRead) (q : x ≡ readOf j) where

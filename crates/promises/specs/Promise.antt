@@ -22,7 +22,7 @@ use Rattle.promises.specs.Demand.{Meets, Sampled, Demand, demand}
 use Rattle.promises.specs.Judged.{judged-sound}
 use Rattle.promises.specs.Modes.{isMode, answered-is-mode}
 use Rattle.promises.specs.PlantMotion.{splits, motion, plant-follows}
-use Rattle.promises.specs.PlantRules.{sizes, one-byte-modes, checked-as, controlled-as}
+use Rattle.promises.specs.PlantRules.{sizes, checked-as, controlled-as}
 use Rattle.promises.specs.Sound.{Sound}
 
 -- What demand 3 says of a plant and a table whose longest pattern has so many modes. A tile is chosen where the controller is idle.
@@ -72,5 +72,5 @@ promise plant table a =
     let p = w .0 in
     let e = w .1 in
     let s = judged-sound plant p e in
-    let d = demand (rulesOf p) (sizes p s) (one-byte-modes p s) (splits p) (motion p s) table (sym (checked-as plant p e table) ∙ a) in
+    let d = demand (rulesOf p) (sizes p s) (splits p) (motion p s) table (sym (checked-as plant p e table) ∙ a) in
     (record { p = p; judged = e; tree = d .0; works = d .1; is = d .2 }, promised plant table p e (longest (d .0)) s (d .3))

@@ -2,12 +2,11 @@
 -- and the promises use that definition). Each line has the number, the place, the step and the values themselves, exactly where the promise's own
 -- condition holds: S1 the reader of numbers, S5 the tile rule, S6 the checker, S7 the maker, S8 and S9 a call. A whole number of a float is page Results.
 -- Relies on the pages of those promises, on page Shows, and on page Told for that no refusal is told by 0.
-use Prim.Native.Nat.{ℕ, zero, suc, _+_, _^_, _≤_, _<_}
+use Prim.Native.Nat.{ℕ, suc, _+_, _^_, _≤_, _<_}
 use mathlib.Core.Path.{_≡_, refl, sym, ap, _∙_}
 use mathlib.Core.Bool.{Bool, true, false, cond}
 use mathlib.Core.List.{List, [], _∷_, _++_}
 use mathlib.Core.Logic.{_↔_, Iff·trans}
-use native.Mathlib.Omega.{arith}
 use lib.Dec.{eqb}
 use lib.ListN.{length}
 use lib.IntN.{ℤ, pos}
@@ -28,7 +27,7 @@ use Rattle.meaning.specs.declared.State.{State}
 use Rattle.meaning.specs.declared.Answer.{Answer}
 use Rattle.meaning.specs.Refusals.{Shown, numberShown, signedShown, ruleShown, walkShown, foundShown, verdictShown, writtenShown, answerShown, badTable, noTable, short}
 use Rattle.meaning.specs.Control as C
-use Rattle.meaning.specs.Control.{idle, stateWith, modeAt, onFound, find}
+use Rattle.meaning.specs.Control.{idle, stateWith, onFound, find}
 use Rattle.meaning.specs.Files.{good}
 use Rattle.meaning.specs.Numbers.{numberAt, asSigned, signedAt, bytesOf, stored, restored}
 use Rattle.meaning.specs.Plants.{plantJudged, rootOf}
@@ -38,17 +37,18 @@ use Rattle.meaning.specs.Verdicts as W
 use Rattle.meaning.specs.Verdicts.{walk, header, verdict}
 use Rattle.promises.specs.Checked.{Tiled, checked-exactly}
 use Rattle.promises.specs.Chosen.{Chosen, chosen}
+use Rattle.promises.specs.Finds.{firstPlace}
 use Rattle.promises.specs.Laws.{Sizes}
 use Rattle.promises.specs.Layouts.{TreeStands, walk-stands, walk-reads, header-stands, header-read}
 use Rattle.promises.specs.Made.{maker-nine, maker-ten, maker-length}
-use Rattle.promises.specs.Modes.{isMode}
+use Rattle.promises.specs.Modes.{isMode, found-first}
 use Rattle.promises.specs.Numbers.{reads, was, restored-stored, stored-restored}
 use Rattle.promises.specs.Patterns.{Lands, works-exactly, staying, landing, leaves-exactly, misses-exactly}
-use Rattle.promises.specs.PlantRules.{checked-as, controlled-as}
+use Rattle.promises.specs.PlantRules.{judged-sizes, checked-as, controlled-as}
 use Rattle.promises.specs.Promise.{promise}
 use Rattle.promises.specs.Shows.{shows, refusing, noMode, same-refusal, Some, number-exactly, signed-exactly, rule-exactly, written-exactly, walk-exactly, verdict-exactly, answer-exactly, accepted-some, refused-some, mode-some, call-some}
-use Rattle.promises.specs.Told.{controllerNumbers, checker-some, controller-some}
-use Rattle.promises.specs.WalkTold.{WalkTells, FoundTells, header-tells, find-tells}
+use Rattle.promises.specs.Told.{checker-some, controller-some}
+use Rattle.promises.specs.Underway.{nextPlace}
 
 -- ---- S1: 0 with the value and the place behind it exactly where the number's bytes stand there, and else 1 there
 
@@ -139,12 +139,12 @@ module _ (plant buf : List ℕ) where
 
 pub chosen-shown : (plant table : List ℕ) (t : Tiled plant table) (x : List ℤ) → startsIn plant x ≡ true
     → (c : Chosen plant table t x)
-    × (foundShown (find (rulesOf (t .p)) (t .p .d) table 2 (rootOf (t .p)) x) ≡ shows 0 0 0 (pos (c .the .place + 1) ∷ pos (length (c .the .modes)) ∷ []))
+    × (foundShown (find (rulesOf (t .p)) (t .p .d) table 2 (rootOf (t .p)) x) ≡ shows 0 0 0 (pos (firstPlace (rulesOf (t .p)) (c .the)) ∷ pos (length (c .the .modes)) ∷ []))
     × (answerShown (controlled plant table idle x)
-    ≡ shows 0 0 0 (pos (c .first) ∷ pos (stateWith (c .later) (c .the .place + 2) .place) ∷ pos (length (c .later)) ∷ []))
+    ≡ shows 0 0 0 (pos (c .first) ∷ pos (stateWith (c .later) (nextPlace (firstPlace (rulesOf (t .p)) (c .the)) (c .first)) .place) ∷ pos (length (c .later)) ∷ []))
 chosen-shown plant table t x h =
     let c = chosen plant table t x h in
-    (c, ap foundShown (c .found), ap answerShown (c .answered) ∙ left (c .later) (c .first) (c .the .place + 2))
+    (c, ap foundShown (c .found), ap answerShown (c .answered) ∙ left (c .later) (c .first) (nextPlace (firstPlace (rulesOf (t .p)) (c .the)) (c .first)))
   where
     left : (us : List ℕ) (u place : ℕ) → answerShown (Answer.Mode u (stateWith us place)) ≡ shows 0 0 0 (pos u ∷ pos (stateWith us place .place) ∷ pos (length us) ∷ [])
     left [] u place = refl
@@ -172,31 +172,30 @@ module _ (plant table : List ℕ) (st : State) (x : List ℤ) where
 
 -- ---- S6 and S8 in their parts, which show what they pass on
 
-module _ (r : Rules) (z : Sizes r) (s : List ℕ) where
-  -- the header and a tree: 0 with the place behind it exactly where it stands
-  pub header-shown : (m : ℕ) → (walkShown (header r s) ≡ shows 0 0 0 (pos m ∷ [])) ↔ Stands s 0 (bytesOf 1 ++ bytesOf (r .n)) m
-  header-shown m = Iff·trans (walk-exactly (header r s) (Walk.Next m)) (λ e. header-stands r s m e, λ w. header-read r z s m w)
+-- the header and a tree: 0 with the place behind it exactly where it stands
+pub header-shown : (n : ℕ) → n < 2 ^ 35 → (s : List ℕ) (m : ℕ) → (walkShown (header n s) ≡ shows 0 0 0 (pos m ∷ [])) ↔ Stands s 0 (bytesOf 1 ++ bytesOf n) m
+header-shown n small s m = Iff·trans (walk-exactly (header n s) (Walk.Next m)) (λ e. header-stands n s m e, λ w. header-read n small s m w)
 
-  pub walk-shown : (judge : r .Box → List ℕ → Rule) (d at : ℕ) (b : r .Box) (m : ℕ)
-      → (walkShown (walk r judge d s at b) ≡ shows 0 0 0 (pos m ∷ [])) ↔ TreeStands r judge d s at b m
-  walk-shown judge d at b m =
-      Iff·trans (walk-exactly (walk r judge d s at b) (Walk.Next m)) (λ e. walk-stands r judge d s at b m e, λ w. walk-reads r z judge (w .tree) d s at b m (w .over) (w .stand))
+pub walk-shown : (r : Rules) → Sizes r → (s : List ℕ) (judge : r .Box → List ℕ → Rule) (d at : ℕ) (b : r .Box) (m : ℕ)
+    → (walkShown (walk r judge d s at b) ≡ shows 0 0 0 (pos m ∷ [])) ↔ TreeStands r judge d s at b m
+walk-shown r z s judge d at b m =
+    Iff·trans (walk-exactly (walk r judge d s at b) (Walk.Next m)) (λ e. walk-stands r judge d s at b m e, λ w. walk-reads r z judge (w .tree) d s at b m (w .over) (w .stand))
 
 module _ (plant : List ℕ) (p : Plant) (good-plant : plantJudged plant ≡ good p) (table : List ℕ) where
   -- the checker shows what the header shows that is refused; then what the walk shows; then 6 where bytes are left over
-  pub header-first : (e : Refusal) → walkShown (header (rulesOf p) table) ≡ refusing e [] → verdictShown (checked plant table) ≡ refusing e []
+  pub header-first : (e : Refusal) → walkShown (header (p .n) table) ≡ refusing e [] → verdictShown (checked plant table) ≡ refusing e []
   unfolding W.verdict
   header-first e h =
-      let q = walk-exactly (header (rulesOf p) table) (Walk.Refused e) .0 h in
+      let q = walk-exactly (header (p .n) table) (Walk.Refused e) .0 h in
       let is : checked plant table ≡ Verdict.Refused e = checked-as plant p good-plant table ∙ rw q refl in
       ap verdictShown is
 
-  module _ (at : ℕ) (head : walkShown (header (rulesOf p) table) ≡ shows 0 0 0 (pos at ∷ [])) where
+  module _ (at : ℕ) (head : walkShown (header (p .n) table) ≡ shows 0 0 0 (pos at ∷ [])) where
     abbrev walked : Walk
     walked = walk (rulesOf p) (rule (rulesOf p)) (p .d) table at (rootOf p)
 
-    head-is : header (rulesOf p) table ≡ Walk.Next at
-    head-is = walk-exactly (header (rulesOf p) table) (Walk.Next at) .0 head
+    head-is : header (p .n) table ≡ Walk.Next at
+    head-is = walk-exactly (header (p .n) table) (Walk.Next at) .0 head
 
     pub walk-next : (e : Refusal) → walkShown walked ≡ refusing e [] → verdictShown (checked plant table) ≡ refusing e []
     unfolding W.verdict
@@ -226,23 +225,16 @@ module _ (plant : List ℕ) (p : Plant) (good-plant : plantJudged plant ≡ good
         let r = rulesOf p in
         let held : holds r (rootOf p) x ≡ true = rw good-plant at h in
         let is : controlled plant table idle x ≡ onFound table (find r (p .d) table at (rootOf p) x) = controlled-as plant p good-plant table idle x ∙ rw (head-is, held) refl in
-        rw is (go (find r (p .d) table at (rootOf p) x) (find-tells r controllerNumbers table refl refl x (p .d) at (rootOf p) inside))
+        rw is (go (find r (p .d) table at (rootOf p) x) refl)
       where
-        inside : at ≤ length table
-        inside = go (header (rulesOf p) table) (header-tells (rulesOf p) controllerNumbers table refl refl refl) head-is
-          where
-            go : (w : Walk) → WalkTells controllerNumbers (length table) w → w ≡ Walk.Next at → at ≤ length table
-            go (Walk.Refused f) t q = never cc
-            go (Walk.Next m) t q = let z : m ≡ at = cc in rw z at t
-
-        tile : (from k : ℕ) → 1 ≤ k → answerShown (modeAt table from k) ≡ refusing e noMode → foundShown (Found.Tile from k) ≡ refusing e []
-        tile from zero l q = absurd (omega arith)
-        tile from (suc zero) l q = absurd (s (sym (ap (λ (a : Shown). a .number) q)))
-        tile from (suc (suc k)) l q = absurd (s (sym (ap (λ (a : Shown). a .number) q)))
-
-        go : (f : Found) → FoundTells controllerNumbers (length table) f → (foundShown f ≡ refusing e []) ↔ (answerShown (onFound table f) ≡ refusing e noMode)
-        go (Found.Tile from k) l = (λ q. let z = ap (λ (a : Shown). a .values) q in never cc, tile from k l)
-        go (Found.Refused f) t = (
+        -- a tile that is found has a first mode
+        go : (f : Found) → find (rulesOf p) (p .d) table at (rootOf p) x ≡ f → (foundShown f ≡ refusing e []) ↔ (answerShown (onFound table f) ≡ refusing e noMode)
+        go (Found.Tile from k) w =
+            let first = found-first (rulesOf p) (judged-sizes plant p good-plant) table at head-is x from k w in (
+              λ q. let z = ap (λ (a : Shown). a .values) q in never cc,
+              λ q. absurd (s (sym (ap (λ (a : Shown). a .number) (ap answerShown (sym (first .told)) ∙ q)))),
+            )
+        go (Found.Refused f) w = (
           λ q. ap (λ (g : Refusal). refusing g noMode) (same-refusal f e [] [] q),
           λ q. ap (λ (g : Refusal). refusing g []) (same-refusal f e noMode noMode q),
         )

@@ -149,7 +149,7 @@ module _ (control : Controller) (demand : Answers control) where
   unfolding computing tiled₅ Y.having
   line-9 = (
     demand .first-mode P′ table₅ tiled₅ (just 200) refl (record { box = rootOf plantP′; modes = 0 ∷ 1 ∷ []; place = 2 }) refl 0 (1 ∷ []) refl,
-    demand .next-mode P′ table₅ tiled₅ (just 186) refl 4 0 (record { few = omega arith; behind-header = omega arith; in-table = omega arith; a-mode = omega arith }),
+    demand .next-mode P′ table₅ tiled₅ (just 186) refl 4 0 (record { few = omega arith; behind-header = omega arith; in-table = omega arith; mode = 1; next = 5; stand = record { end = refl; bytes = refl }; a-mode = omega arith }),
   )
 
 pub one-mode : (control : Controller) (u : ℕ) → ((plant table : List ℕ) (st then : State) (x : List ℤ) (v : ℕ) → control plant table st x ≡ Answer.Mode v then → v ≡ u)

@@ -23,13 +23,13 @@ use Rattle.meaning.specs.Numbers.{bytesOf}
 use Rattle.meaning.specs.Plants.{rootOf}
 use Rattle.meaning.specs.Rules.{Rules, rule}
 use Rattle.meaning.specs.Trees as T
-use Rattle.meaning.specs.Trees.{Tree, Forest, split, tile, leaf, more, modesBytes, layout, layouts, tableOf, Over, Overs}
+use Rattle.meaning.specs.Trees.{Tree, Forest, split, tile, leaf, more, modesBytes, layout, layouts, below, tableOf, Over, Overs}
 use Rattle.meaning.specs.Tables.{rulesOf, checked}
 use Rattle.promises.specs.Bytes.{one-byte}
 use Rattle.promises.specs.Checked.{checked-exactly}
 use Rattle.promises.specs.Children.{Child, children-are}
 use Rattle.promises.specs.Judged.{judged-sound}
-use Rattle.promises.specs.PlantRules.{table-size, tile-size}
+use Rattle.promises.specs.PlantRules.{table-size}
 use Rattle.promises.specs.Shapes.{Good, Working, over-map}
 use Rattle.promises.specs.Sound.{Sound}
 
@@ -135,12 +135,21 @@ cap (suc (suc (suc zero))) d l h k e = omega (arith, most-grows 8 7 (omega arith
 cap (suc (suc (suc (suc zero)))) d l h k e = omega (arith, most-grows 16 7 (omega arith) d 3 (omega arith))
 cap (suc (suc (suc (suc (suc n))))) d l h k e = absurd (omega arith)
 
+-- modes below 128 take a byte each
+modes-length : (N : ℕ) (us : List ℕ) → N ≤ 128 → below N us → length (modesBytes us) ≡ length us
+unfolding T.below T.modesBytes
+modes-length N [] l h = refl
+modes-length N (u ∷ us) l h = rw (one-byte u (omega (arith, h .0))) (ap suc (modes-length N us l (h .1)))
+
 module _ (p : Plant) (s : Sound p) where
   abbrev Sided : List Side → Type 0
   Sided b = length b ≡ p .n
 
   brief : (b : List Side) (us : List ℕ) → Good (rulesOf p) (rule (rulesOf p)) b us → length (bytesOf (length us) ++ modesBytes us) ≤ 7
-  brief b us g = omega (arith, g .shape .few, s .k-high, tile-size p s us (g .shape))
+  brief b us g =
+      let few : length us ≤ 6 = omega (arith, g .shape .few, s .k-high) in
+      let number = ap length (one-byte (length us) (omega arith)) in
+      omega (arith, number, length-append (bytesOf (length us)) (modesBytes us), modes-length (p .modes) us (omega (arith, s .modes-high)) (g .shape .modes))
 
   pub working-length : (t : Tree) → Working (rulesOf p) t → length (tableOf (rulesOf p) t) ≤ 30_039
   working-length t o =

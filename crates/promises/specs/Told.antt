@@ -39,7 +39,7 @@ use Rattle.meaning.specs.Tables.{readingOf, rulesOf, onPlant, checked, made, ma
 use Rattle.meaning.specs.Verdicts as W
 use Rattle.meaning.specs.Verdicts.{walk, header, verdict}
 use Rattle.meaning.specs.Control as C
-use Rattle.meaning.specs.Control.{modeAt, onFound, find, canRun, inside, stateCall, call}
+use Rattle.meaning.specs.Control.{stateAt, modeAt, onFound, find, canRun, inside, stateCall, call}
 use Rattle.promises.specs.Boxes.{points, points-fit}
 use Rattle.promises.specs.Faults.{lies-size, dimension-in, plantNumbers, plant-told, plantValueNumbers, plant-file-told, sheetNumbers, sheet-told, sheetValueNumbers, sheet-file-told}
 use Rattle.promises.specs.Judged.{judged-sound}
@@ -48,7 +48,7 @@ use Rattle.promises.specs.PlantFiles.{plantFile}
 use Rattle.promises.specs.SheetFiles.{sheetFile}
 use Rattle.promises.specs.Shows.{refusing, noMode, Some}
 use Rattle.promises.specs.Telling.{oneOf, areOf, Telling, guard-keeps, told-more, not-told}
-use Rattle.promises.specs.WalkTold.{FoundTells, walk-keeps, table-told, header-tells, walk-tells, find-tells, rule-tells}
+use Rattle.promises.specs.WalkTold.{number-keeps, FoundTells, walk-keeps, table-told, header-tells, walk-tells, find-tells, rule-tells}
 
 -- ---- the numbers, besides those of a plant and of a sheet (page Faults); those of checker and controller are about the table
 
@@ -81,7 +81,7 @@ module _ (r : Rules) (s : List ℕ) where
   verdict-tells : r .K ≤ 6 → VerdictTells (verdict r s)
   unfolding W.verdict
   verdict-tells most =
-      walk-keeps checkerNumbers (length s) VerdictTells (header r s) Verdict.Refused _ (header-tells r checkerNumbers s refl refl refl) (λ e t. t)
+      walk-keeps checkerNumbers (length s) VerdictTells (header (r .n) s) Verdict.Refused _ (header-tells r checkerNumbers s refl refl refl) (λ e t. t)
       (λ at l. walk-keeps checkerNumbers (length s) VerdictTells (walk r (rule r) (r .D) s at (r .root)) Verdict.Refused _
       (walk-tells r checkerNumbers s refl refl (rule r) (rule-tells r checkerNumbers s refl refl most) (r .D) at (r .root) l) (λ e t. t)
       (λ next m. guard-keeps VerdictTells (eqb next (length s)) _ (λ _. table-told r checkerNumbers s refl refl next m) (λ _. tt)))
@@ -96,8 +96,7 @@ module _ (r : Rules) (s : List ℕ) where
 
   mode-tells : (place left : ℕ) → AnswerTells (modeAt s place left)
   mode-tells place zero = state-told
-  mode-tells place (suc zero) = tt
-  mode-tells place (suc (suc m)) = tt
+  mode-tells place (suc m) = number-keeps AnswerTells s place (λ u next. Answer.Mode u (stateAt next m)) state-told (λ u next l. tt)
 
   found-tells : (f : Found) → FoundTells controllerNumbers (length s) f → AnswerTells (onFound s f)
   found-tells (Found.Refused e) h = h
@@ -114,12 +113,12 @@ module _ (r : Rules) (s : List ℕ) where
         guard-keeps AnswerTells (eqb place 0) _ (λ _. state-told)
         (λ _. inside-tells (r .root) _ (few x .0) (found-tells (find r (r .D) s at (r .root) x) (find-tells r controllerNumbers s refl refl x (r .D) at (r .root) l)))
     state-tells at place (suc m) l =
-        guard-keeps AnswerTells (canRun r s place (suc m)) _ (λ _. state-told) (λ _. inside-tells (r .safe) _ (few x .1) (mode-tells place (suc m)))
+        guard-keeps AnswerTells (canRun (r .K) (r .N) s place (suc m)) _ (λ _. state-told) (λ _. inside-tells (r .safe) _ (few x .1) (mode-tells place (suc m)))
 
     call-tells : (st : State) → AnswerTells (call r s st x)
     unfolding C.call
     call-tells st =
-        walk-keeps controllerNumbers (length s) AnswerTells (header r s) Answer.Refused _ (header-tells r controllerNumbers s refl refl refl) (λ e t. t)
+        walk-keeps controllerNumbers (length s) AnswerTells (header (r .n) s) Answer.Refused _ (header-tells r controllerNumbers s refl refl refl) (λ e t. t)
         (λ at l. state-tells at (st .place) (st .left) l)
 
 -- a box of n sides has n tests for a reading

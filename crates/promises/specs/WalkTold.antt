@@ -44,7 +44,7 @@ module _ {A : Type 0} (P : A → Type 0) where
   split-keeps (c ∷ cs) rest a b = b (c ∷ cs)
 
   -- a number that was read ends in the file
-  number-keeps : {otherwise : A} (s : List ℕ) (at : ℕ) (rest : ℕ → ℕ → A) → P otherwise → ((v next : ℕ) → next ≤ length s → P (rest v next))
+  pub number-keeps : {otherwise : A} (s : List ℕ) (at : ℕ) (rest : ℕ → ℕ → A) → P otherwise → ((v next : ℕ) → next ≤ length s → P (rest v next))
       → P (onNumber (numberAt s at) otherwise rest)
   number-keeps {otherwise} s at rest a b = go (numberAt s at) refl
     where
@@ -53,13 +53,13 @@ module _ {A : Type 0} (P : A → Type 0) where
       go (Number.Value v next) q = b v next (stand-within s (bytesOf v) at next (was v at next s q .1) (bytes-some v))
 
 module _ (numbers : List ℕ) (size : ℕ) where
-  -- goes on in the file, or is refused so; is a tile of some modes, or is refused so
+  -- goes on in the file, or is refused so; is a tile, or is refused so
   abbrev pub WalkTells : Walk → Type 0
   WalkTells (Walk.Next m) = m ≤ size
   WalkTells (Walk.Refused e) = Telling numbers size e
 
   abbrev pub FoundTells : Found → Type 0
-  FoundTells (Found.Tile from k) = 1 ≤ k
+  FoundTells (Found.Tile from k) = Unit {0}
   FoundTells (Found.Refused e) = Telling numbers size e
 
   pub walk-keeps : {A : Type 0} (P : A → Type 0) (w : Walk) (refuse : Refusal → A) (rest : ℕ → A) → WalkTells w
@@ -86,17 +86,17 @@ module _ (r : Rules) (numbers s : List ℕ) (one : oneOf numbers 1 ≡ true) (si
   pub table-told : (at : ℕ) → at ≤ length s → Tells (badTable at)
   table-told at l = record { number = six; place = l; step = refl }
 
-  modes-tell : (k at : ℕ) → at ≤ length s → ReadTells numbers (length s) (modesAt r k s at)
+  modes-tell : (k at : ℕ) → at ≤ length s → ReadTells numbers (length s) (modesAt (r .N) k s at)
   unfolding W.modesAt
   modes-tell zero at l = l
   modes-tell (suc k) at l =
-      number-keeps (ReadTells numbers (length s)) s at (λ u next. guard (ltb u (r .N)) (refused (badTable at)) λ _. before u (modesAt r k s next)) (broken-told at l)
-      (λ u next m. guard-keeps (ReadTells numbers (length s)) (ltb u (r .N)) (λ _. before u (modesAt r k s next)) (λ _. table-told at l)
-      (λ _. before-tells numbers (length s) u (modesAt r k s next) (modes-tell k next m)))
+      number-keeps (ReadTells numbers (length s)) s at (λ u next. guard (ltb u (r .N)) (refused (badTable at)) λ _. before u (modesAt (r .N) k s next)) (broken-told at l)
+      (λ u next m. guard-keeps (ReadTells numbers (length s)) (ltb u (r .N)) (λ _. before u (modesAt (r .N) k s next)) (λ _. table-told at l)
+      (λ _. before-tells numbers (length s) u (modesAt (r .N) k s next) (modes-tell k next m)))
 
   node-keeps : {A : Type 0} (P : A → Type 0) (at : ℕ) (refuse : Refusal → A) (split : ℕ → A) (tile : ℕ → ℕ → A) → at ≤ length s
       → ((e : Refusal) → Tells e → P (refuse e)) → ((next : ℕ) → next ≤ length s → P (split next))
-      → ((k next : ℕ) → 1 ≤ k → k ≤ K → next ≤ length s → P (tile k next)) → P (nodeAt r s at refuse split tile)
+      → ((k next : ℕ) → 1 ≤ k → k ≤ K → next ≤ length s → P (tile k next)) → P (nodeAt K s at refuse split tile)
   node-keeps P at refuse split tile l a b c =
       number-keeps P s at (λ k next. onSize K k (refuse (badTable at)) (split next) (λ k. tile k next)) (a (broken at) (broken-told at l)) size
     where
@@ -110,21 +110,21 @@ module _ (r : Rules) (numbers s : List ℕ) (one : oneOf numbers 1 ≡ true) (si
   module _ (judge : Box → List ℕ → Rule)
       (judged : (b : Box) (us : List ℕ) (at next : ℕ) → 1 ≤ length us → length us ≤ K → at ≤ length s → next ≤ length s
       → WalkTells numbers (length s) (onRule (judge b us) at next)) where
-    tile-tells : (b : Box) (k at next : ℕ) → 1 ≤ k → k ≤ K → at ≤ length s → next ≤ length s → WalkTells numbers (length s) (onModes (modesAt r k s next) at (judge b))
-    tile-tells b k at next some few l m = go (modesAt r k s next) refl (modes-tell k next m)
+    tile-tells : (b : Box) (k at next : ℕ) → 1 ≤ k → k ≤ K → at ≤ length s → next ≤ length s → WalkTells numbers (length s) (onModes (modesAt (r .N) k s next) at (judge b))
+    tile-tells b k at next some few l m = go (modesAt (r .N) k s next) refl (modes-tell k next m)
       where
-        go : (t : Read (List ℕ)) → modesAt r k s next ≡ t → ReadTells numbers (length s) t → WalkTells numbers (length s) (onModes t at (judge b))
+        go : (t : Read (List ℕ)) → modesAt (r .N) k s next ≡ t → ReadTells numbers (length s) t → WalkTells numbers (length s) (onModes t at (judge b))
         go (refused e) q h = h
-        go (read us end) q h = let c = modes-stand r k s next us end q .count in judged b us at end (omega arith) (omega arith) l h
+        go (read us end) q h = let c = modes-stand (r .N) k s next us end q .count in judged b us at end (omega arith) (omega arith) l h
 
     pub walk-tells : (d at : ℕ) (b : Box) → at ≤ length s → WalkTells numbers (length s) (walk r judge d s at b)
     unfolding W.walk
     walk-tells zero at b l =
-        node-keeps (WalkTells numbers (length s)) at Walk.Refused (λ next. Walk.Refused (badTable at)) (λ k next. onModes (modesAt r k s next) at (judge b)) l
+        node-keeps (WalkTells numbers (length s)) at Walk.Refused (λ next. Walk.Refused (badTable at)) (λ k next. onModes (modesAt (r .N) k s next) at (judge b)) l
         (λ e t. t) (λ next m. table-told at l) (λ k next some few m. tile-tells b k at next some few l m)
     walk-tells (suc d) at b l =
         node-keeps (WalkTells numbers (length s)) at Walk.Refused
-        (λ next. splitAt (children b) (Walk.Refused (badTable at)) λ cs. each (λ p c. walk r judge d s p c) cs next) (λ k next. onModes (modesAt r k s next) at (judge b)) l
+        (λ next. splitAt (children b) (Walk.Refused (badTable at)) λ cs. each (λ p c. walk r judge d s p c) cs next) (λ k next. onModes (modesAt (r .N) k s next) at (judge b)) l
         (λ e t. t)
         (λ next m. split-keeps (WalkTells numbers (length s)) (children b) (λ cs. each (λ p c. walk r judge d s p c) cs next) (table-told at l)
         (λ cs. each-tells numbers (length s) (λ p c. walk r judge d s p c) (λ p c k. walk-tells d p c k) cs next m))
@@ -148,28 +148,28 @@ module _ (r : Rules) (numbers s : List ℕ) (one : oneOf numbers 1 ≡ true) (si
         go true later = ih at b l
         go false later = walk-keeps numbers (length s) (FoundTells numbers (length s)) (walk r (λ _ _. Works) d s at b) Found.Refused _ (pass-tells d at b l) (λ e t. t) later
 
-    found-tells : (k next : ℕ) → 1 ≤ k → next ≤ length s → FoundTells numbers (length s) (tileFound (modesAt r k s next) next k)
-    found-tells k next some m = go (modesAt r k s next) (modes-tell k next m)
+    found-tells : (k next : ℕ) → next ≤ length s → FoundTells numbers (length s) (tileFound (modesAt (r .N) k s next) next k)
+    found-tells k next m = go (modesAt (r .N) k s next) (modes-tell k next m)
       where
         go : (t : Read (List ℕ)) → ReadTells numbers (length s) t → FoundTells numbers (length s) (tileFound t next k)
         go (refused e) h = h
-        go (read us end) h = some
+        go (read us end) h = tt
 
     pub find-tells : (d at : ℕ) (b : Box) → at ≤ length s → FoundTells numbers (length s) (find r d s at b x)
     unfolding C.find
     find-tells zero at b l =
-        node-keeps (FoundTells numbers (length s)) at Found.Refused (λ next. Found.Refused (badTable at)) (λ k next. tileFound (modesAt r k s next) next k) l
-        (λ e t. t) (λ next m. table-told at l) (λ k next some few m. found-tells k next some m)
+        node-keeps (FoundTells numbers (length s)) at Found.Refused (λ next. Found.Refused (badTable at)) (λ k next. tileFound (modesAt (r .N) k s next) next k) l
+        (λ e t. t) (λ next m. table-told at l) (λ k next some few m. found-tells k next m)
     find-tells (suc d) at b l =
         node-keeps (FoundTells numbers (length s)) at Found.Refused
         (λ next. splitAt (children b) (Found.Refused (badTable at)) λ cs. lookAmong r x d s at cs next)
-        (λ k next. tileFound (modesAt r k s next) next k) l (λ e t. t)
+        (λ k next. tileFound (modesAt (r .N) k s next) next k) l (λ e t. t)
         (λ next m. split-keeps (FoundTells numbers (length s)) (children b) _ (table-told at l)
         (λ cs. among-tells d (λ p c k. find-tells d p c k) at l cs next m))
-        (λ k next some few m. found-tells k next some m)
+        (λ k next some few m. found-tells k next m)
 
   -- the header: 2 besides
-  pub header-tells : oneOf numbers 2 ≡ true → WalkTells numbers (length s) (header r s)
+  pub header-tells : oneOf numbers 2 ≡ true → WalkTells numbers (length s) (header (r .n) s)
   unfolding W.header
   header-tells two =
       number-keeps (WalkTells numbers (length s)) s 0 _ (broken-told 0 (omega arith))

@@ -94,44 +94,44 @@ split-some : {A B : Type 0} (otherwise : A) (rest : List B → A) (bs : List B) 
 split-some otherwise rest [] z = absurd (z refl)
 split-some otherwise rest (b ∷ bs) z = refl
 
+-- i of k are done
+module _ (N : ℕ) (s us : List ℕ) (at k i : ℕ) (h : i < k) where
+  modes-step : modesAt N (k - i) s at
+      ≡ onNumber (numberAt s at) (refused (broken at)) λ u m. guard (ltb u N) (refused (badTable at)) λ _. before u (modesAt N (k - (i + 1)) s m)
+  unfolding modesAt
+  modes-step = let q : k - i ≡ suc (k - (i + 1)) = omega arith in rw q refl
+
+  pub modes-broken : numberAt s at ≡ Number.Broken → behind us (modesAt N (k - i) s at) ≡ refused (broken at)
+  modes-broken e = rw (modes-step, e) (behind-refused us (broken at))
+
+  pub modes-over : (u m : ℕ) → numberAt s at ≡ Number.Value u m → N ≤ u → behind us (modesAt N (k - i) s at) ≡ refused (badTable at)
+  modes-over u m e l = rw modes-step (simp (e, le-ltb u N l) (behind-refused us (badTable at)))
+
+  pub modes-more : (u m : ℕ) → numberAt s at ≡ Number.Value u m → u < N
+      → behind us (modesAt N (k - i) s at) ≡ behind (us ++ u ∷ []) (modesAt N (k - (i + 1)) s m)
+  modes-more u m e l = rw modes-step (simp (e, lt-ltb u N l) (behind-more us u (modesAt N (k - (i + 1)) s m)))
+
+-- ---- a node
+
+-- what a node was, where its answer is no refusal
+pub data NodeWas {A : Type 0} (K : ℕ) (s : List ℕ) (at : ℕ) (split : ℕ → A) (tile : ℕ → ℕ → A) (a : A) : Type 0 where
+  was-split : (m : ℕ) → numberAt s at ≡ Number.Value 0 m → split m ≡ a → NodeWas K s at split tile a
+  was-tile : (k m : ℕ) → numberAt s at ≡ Number.Value k m → 1 ≤ k → k ≤ K → tile k m ≡ a → NodeWas K s at split tile a
+
+pub node-was : {A : Type 0} {a : A} (K : ℕ) (s : List ℕ) (at : ℕ) (refuse : Refusal → A) (split : ℕ → A) (tile : ℕ → ℕ → A)
+    → ((e : Refusal) → refuse e ≡ a → ⊥) → nodeAt K s at refuse split tile ≡ a → NodeWas K s at split tile a
+node-was {a} K s at refuse split tile never e =
+    let q = number-read (numberAt s at) (λ k m. onSize K k (refuse (badTable at)) (split m) (λ k. tile k m)) (never (broken at)) e in
+    size (q .0) (q .1) (q .2) (q .3)
+  where
+    size : (k m : ℕ) → numberAt s at ≡ Number.Value k m → onSize K k (refuse (badTable at)) (split m) (λ k. tile k m) ≡ a → NodeWas K s at split tile a
+    size zero m q e = was-split m q e
+    size (suc k) m q e =
+        let p = guard-passed (leb (suc k) K) (λ _. tile (suc k) m) (never (badTable at)) e in
+        was-tile (suc k) m q (omega arith) (leb-true (suc k) K (p .0)) (p .1)
+
 module _ (r : Rules) where
   open Rules r using (Box, Reading, children, K, N)
-
-  -- i of k are done
-  module _ (s us : List ℕ) (at k i : ℕ) (h : i < k) where
-    modes-step : modesAt r (k - i) s at
-        ≡ onNumber (numberAt s at) (refused (broken at)) λ u m. guard (ltb u N) (refused (badTable at)) λ _. before u (modesAt r (k - (i + 1)) s m)
-    unfolding modesAt
-    modes-step = let q : k - i ≡ suc (k - (i + 1)) = omega arith in rw q refl
-
-    pub modes-broken : numberAt s at ≡ Number.Broken → behind us (modesAt r (k - i) s at) ≡ refused (broken at)
-    modes-broken e = rw (modes-step, e) (behind-refused us (broken at))
-
-    pub modes-over : (u m : ℕ) → numberAt s at ≡ Number.Value u m → N ≤ u → behind us (modesAt r (k - i) s at) ≡ refused (badTable at)
-    modes-over u m e l = rw modes-step (simp (e, le-ltb u N l) (behind-refused us (badTable at)))
-
-    pub modes-more : (u m : ℕ) → numberAt s at ≡ Number.Value u m → u < N
-        → behind us (modesAt r (k - i) s at) ≡ behind (us ++ u ∷ []) (modesAt r (k - (i + 1)) s m)
-    modes-more u m e l = rw modes-step (simp (e, lt-ltb u N l) (behind-more us u (modesAt r (k - (i + 1)) s m)))
-
-  -- ---- a node
-
-  -- what a node was, where its answer is no refusal
-  pub data NodeWas {A : Type 0} (s : List ℕ) (at : ℕ) (split : ℕ → A) (tile : ℕ → ℕ → A) (a : A) : Type 0 where
-    was-split : (m : ℕ) → numberAt s at ≡ Number.Value 0 m → split m ≡ a → NodeWas s at split tile a
-    was-tile : (k m : ℕ) → numberAt s at ≡ Number.Value k m → 1 ≤ k → k ≤ K → tile k m ≡ a → NodeWas s at split tile a
-
-  pub node-was : {A : Type 0} {a : A} (s : List ℕ) (at : ℕ) (refuse : Refusal → A) (split : ℕ → A) (tile : ℕ → ℕ → A)
-      → ((e : Refusal) → refuse e ≡ a → ⊥) → nodeAt r s at refuse split tile ≡ a → NodeWas s at split tile a
-  node-was {a} s at refuse split tile never e =
-      let q = number-read (numberAt s at) (λ k m. onSize K k (refuse (badTable at)) (split m) (λ k. tile k m)) (never (broken at)) e in
-      size (q .0) (q .1) (q .2) (q .3)
-    where
-      size : (k m : ℕ) → numberAt s at ≡ Number.Value k m → onSize K k (refuse (badTable at)) (split m) (λ k. tile k m) ≡ a → NodeWas s at split tile a
-      size zero m q e = was-split m q e
-      size (suc k) m q e =
-          let p = guard-passed (leb (suc k) K) (λ _. tile (suc k) m) (never (badTable at)) e in
-          was-tile (suc k) m q (omega arith) (leb-true (suc k) K (p .0)) (p .1)
 
   -- a node that is walked over
   module _ (judge : Box → List ℕ → Rule) (d : ℕ) (s : List ℕ) (at : ℕ) (b : Box) where
@@ -157,7 +157,7 @@ module _ (r : Rules) where
     walk-over zero m e l = absurd (omega arith)
     walk-over (suc k) m e l = elim d [ zero ↦ simp (e, lt-leb (suc k) K l) | suc c ↦ simp (e, lt-leb (suc k) K l) ]
 
-    pub walk-tile : (k m : ℕ) → numberAt s at ≡ Number.Value k m → 1 ≤ k → k ≤ K → walk r judge d s at b ≡ onModes (modesAt r k s m) at (judge b)
+    pub walk-tile : (k m : ℕ) → numberAt s at ≡ Number.Value k m → 1 ≤ k → k ≤ K → walk r judge d s at b ≡ onModes (modesAt N k s m) at (judge b)
     unfolding walk
     walk-tile zero m e z l = absurd (omega arith)
     walk-tile (suc k) m e z l = elim d [ zero ↦ simp (e, le-leb (suc k) K l) | suc c ↦ simp (e, le-leb (suc k) K l) ]
@@ -189,7 +189,7 @@ module _ (r : Rules) where
     find-over zero m e l = absurd (omega arith)
     find-over (suc k) m e l = elim d [ zero ↦ simp (e, lt-leb (suc k) K l) | suc c ↦ simp (e, lt-leb (suc k) K l) ]
 
-    pub find-tile : (k m : ℕ) → numberAt s at ≡ Number.Value k m → 1 ≤ k → k ≤ K → find r d s at b x ≡ tileFound (modesAt r k s m) m k
+    pub find-tile : (k m : ℕ) → numberAt s at ≡ Number.Value k m → 1 ≤ k → k ≤ K → find r d s at b x ≡ tileFound (modesAt N k s m) m k
     unfolding find
     find-tile zero m e z l = absurd (omega arith)
     find-tile (suc k) m e z l = elim d [ zero ↦ simp (e, le-leb (suc k) K l) | suc c ↦ simp (e, le-leb (suc k) K l) ]
