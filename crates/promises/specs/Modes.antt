@@ -1,7 +1,7 @@
 -- A mode that a call answers is a mode of the plant (document 01, "The controller": the mode there is below N), for every plant, table, state and reading,
 -- accepted or not: running, the state's test says so; idle, the tile's modes were read, each below N.
 -- So the C face shows a mode below N, or 255 exactly where the call is refused. Relies on page Local for the tile that was found, and on page Judged.
-use Prim.Native.Nat.{ℕ, zero, suc, _+_, _≤_, _<_}
+use Prim.Native.Nat.{ℕ, zero, suc, _+_, _-_, _≤_, _<_}
 use mathlib.Core.Path.{_≡_, refl}
 use mathlib.Core.Bool.{Bool, true, false, _&&_}
 use mathlib.Core.List.{List, [], _∷_}
@@ -21,9 +21,9 @@ use Rattle.meaning.specs.declared.Found.{Found}
 use Rattle.meaning.specs.declared.State.{State}
 use Rattle.meaning.specs.declared.Answer.{Answer}
 use Rattle.meaning.specs.Control as C
-use Rattle.meaning.specs.Control.{stateAt, stateWith, modeAt, onFound, find, canRun, stateCall, call}
+use Rattle.meaning.specs.Control.{stateAt, modeAt, onFound, find, canRun, stateCall, call}
 use Rattle.meaning.specs.Files.{Judged, good, bad}
-use Rattle.meaning.specs.Numbers.{numberAt}
+use Rattle.meaning.specs.Numbers.{numberAt, bytesOf}
 use Rattle.meaning.specs.Plants.{plantJudged}
 use Rattle.meaning.specs.Refusals.{answerShown}
 use Rattle.meaning.specs.Rules.{Rules, holds}
@@ -33,10 +33,9 @@ use Rattle.meaning.specs.Trees as Y
 use Rattle.meaning.specs.Verdicts.{header}
 use Rattle.promises.specs.Judged.{judged-sound}
 use Rattle.promises.specs.Laws.{Sizes}
-use Rattle.promises.specs.Layouts.{ModesStand, modes-stand}
+use Rattle.promises.specs.Layouts.{ModesStand, modes-stand, first-read}
 use Rattle.promises.specs.Local.{unseen}
 use Rattle.promises.specs.PlantRules.{judged-sizes}
-use Rattle.promises.specs.Underway.{nextPlace, first-told}
 use Rattle.promises.specs.Walking.{walk-went}
 
 -- whether u is one of the plant's N modes, 0..N−1: none where the plant is refused
@@ -46,44 +45,49 @@ isMode plant u = onPlant (plantJudged plant) (λ _. false) λ p. ltb u (p .modes
 pub refused-mode : {e : Refusal} {u : ℕ} {then : State} → Answer.Refused e ≡ Answer.Mode u then → ⊥
 refused-mode e = never cc
 
--- the first of the modes from a place on is answered, and is below N
+-- the first of so many modes from a place on is the number there, and below N
 pub record First (N : ℕ) (s : List ℕ) (place left : ℕ) : Type 0 where
+  pub some : 1 ≤ left
   pub mode : ℕ
-  pub then : State
-  pub told : modeAt s place left ≡ Answer.Mode mode then
+  pub next : ℕ
+  pub is : numberAt s place ≡ Number.Value mode next
   pub is-below : mode < N
 
--- running: the state's test says so of the number at the place
+-- so it is answered
+pub first-answered : (N : ℕ) (s : List ℕ) (place left : ℕ) (f : First N s place left) → modeAt s place left ≡ Answer.Mode (f .mode) (stateAt (f .next) (left - 1))
+first-answered N s place zero f = absurd (omega (arith, f .some))
+first-answered N s place (suc m) f = let e : suc m - 1 ≡ m = omega arith in rw (f .is, e) refl
+
+-- running: the state's test says so
 running-first : (K N : ℕ) (s : List ℕ) (place m : ℕ) → canRun K N s place (suc m) ≡ true → First N s place (suc m)
 running-first K N s place m e =
     go (numberAt s place) refl (second (leb (suc m) K && leb 2 place && leb (place + suc m) (length s)) (C.isMode N (numberAt s place)) e)
   where
     go : (v : Number) → numberAt s place ≡ v → C.isMode N v ≡ true → First N s place (suc m)
     go Number.Broken q h = never h
-    go (Number.Value u next) q h = record { mode = u; then = stateAt next m; told = rw q refl; is-below = ltb-true u N h }
+    go (Number.Value u next) q h = record { some = omega arith; mode = u; next = next; is = q; is-below = ltb-true u N h }
 
 -- idle: the modes of the tile that was found were read
-module _ (r : Rules) (z : Sizes r) (s : List ℕ) (at : ℕ) (head : header (r .n) s ≡ Walk.Next at) (x : r .Reading) where
-  pub found-first : (from k : ℕ) → find r (r .D) s at (r .root) x ≡ Found.Tile from k → First (r .N) s from k
-  unfolding Y.below
-  found-first from k q =
-      let w = unseen r z x s at from k head q in
-      go (w .modes) (w .end) (modes-stand (r .N) k s from (w .modes) (w .end) (w .are)) (w .some)
-    where
-      go : (us : List ℕ) (m : ℕ) → ModesStand (r .N) k s from us m → 1 ≤ k → First (r .N) s from k
-      go [] m w l = absurd (omega (arith, w .count))
-      go (u ∷ us) m w l =
-          let e : k ≡ suc (length us) = omega (arith, w .count) in
-          record {
-            mode = u;
-            then = stateWith us (nextPlace from u);
-            told = rw e (first-told (r .N) (z .modes) u us s from m (w .modes) (w .stand));
-            is-below = w .modes .0;
-          }
+pub found-first : (r : Rules) → Sizes r → (s : List ℕ) (at : ℕ) → header (r .n) s ≡ Walk.Next at → (x : r .Reading) (from k : ℕ)
+    → find r (r .D) s at (r .root) x ≡ Found.Tile from k → First (r .N) s from k
+unfolding Y.below
+found-first r z s at head x from k q =
+    let w = unseen r z x s at from k head q in
+    go (w .modes) (w .end) (modes-stand (r .N) k s from (w .modes) (w .end) (w .are)) (w .some)
+  where
+    go : (us : List ℕ) (m : ℕ) → ModesStand (r .N) k s from us m → 1 ≤ k → First (r .N) s from k
+    go [] m w l = absurd (omega (arith, w .count))
+    go (u ∷ us) m w l = record {
+      some = l;
+      mode = u;
+      next = from + length (bytesOf u);
+      is = first-read (r .N) (z .modes) u us s from m (w .modes) (w .stand);
+      is-below = w .modes .0;
+    }
 
 module _ {u : ℕ} {then : State} where
   first-below : (N : ℕ) (s : List ℕ) (place left : ℕ) → First N s place left → modeAt s place left ≡ Answer.Mode u then → u < N
-  first-below N s place left f e = let q : f .mode ≡ u = cc (f .told, e) in rw q at (f .is-below)
+  first-below N s place left f e = let q : f .mode ≡ u = cc (first-answered N s place left f, e) in rw q at (f .is-below)
 
   module _ (r : Rules) (z : Sizes r) (s : List ℕ) where
     -- 12 and 11 were passed

@@ -41,7 +41,7 @@ use Rattle.promises.specs.Finds.{firstPlace}
 use Rattle.promises.specs.Laws.{Sizes}
 use Rattle.promises.specs.Layouts.{TreeStands, walk-stands, walk-reads, header-stands, header-read}
 use Rattle.promises.specs.Made.{maker-nine, maker-ten, maker-length}
-use Rattle.promises.specs.Modes.{isMode, found-first}
+use Rattle.promises.specs.Modes.{isMode, first-answered, found-first}
 use Rattle.promises.specs.Numbers.{reads, was, restored-stored, stored-restored}
 use Rattle.promises.specs.Patterns.{Lands, works-exactly, staying, landing, leaves-exactly, misses-exactly}
 use Rattle.promises.specs.PlantRules.{judged-sizes, checked-as, controlled-as}
@@ -232,7 +232,7 @@ module _ (plant : List ℕ) (p : Plant) (good-plant : plantJudged plant ≡ good
         go (Found.Tile from k) w =
             let first = found-first (rulesOf p) (judged-sizes plant p good-plant) table at head-is x from k w in (
               λ q. let z = ap (λ (a : Shown). a .values) q in never cc,
-              λ q. absurd (s (sym (ap (λ (a : Shown). a .number) (ap answerShown (sym (first .told)) ∙ q)))),
+              λ q. absurd (s (sym (ap (λ (a : Shown). a .number) (ap answerShown (sym (first-answered (p .modes) table from k first)) ∙ q)))),
             )
         go (Found.Refused f) w = (
           λ q. ap (λ (g : Refusal). refusing g noMode) (same-refusal f e [] [] q),

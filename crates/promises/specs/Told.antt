@@ -81,10 +81,10 @@ module _ (r : Rules) (s : List ℕ) where
   verdict-tells : r .K ≤ 6 → VerdictTells (verdict r s)
   unfolding W.verdict
   verdict-tells most =
-      walk-keeps checkerNumbers (length s) VerdictTells (header (r .n) s) Verdict.Refused _ (header-tells r checkerNumbers s refl refl refl) (λ e t. t)
+      walk-keeps checkerNumbers (length s) VerdictTells (header (r .n) s) Verdict.Refused _ (header-tells checkerNumbers s refl refl refl (r .n)) (λ e t. t)
       (λ at l. walk-keeps checkerNumbers (length s) VerdictTells (walk r (rule r) (r .D) s at (r .root)) Verdict.Refused _
-      (walk-tells r checkerNumbers s refl refl (rule r) (rule-tells r checkerNumbers s refl refl most) (r .D) at (r .root) l) (λ e t. t)
-      (λ next m. guard-keeps VerdictTells (eqb next (length s)) _ (λ _. table-told r checkerNumbers s refl refl next m) (λ _. tt)))
+      (walk-tells checkerNumbers s refl refl r (rule r) (rule-tells r checkerNumbers s refl refl most) (r .D) at (r .root) l) (λ e t. t)
+      (λ next m. guard-keeps VerdictTells (eqb next (length s)) _ (λ _. table-told checkerNumbers s refl refl next m) (λ _. tt)))
 
   -- answered, or refused so
   abbrev AnswerTells : Answer → Type 0
@@ -111,14 +111,14 @@ module _ (r : Rules) (s : List ℕ) where
     state-tells : (at place left : ℕ) → at ≤ length s → AnswerTells (stateCall r s at place left x)
     state-tells at place zero l =
         guard-keeps AnswerTells (eqb place 0) _ (λ _. state-told)
-        (λ _. inside-tells (r .root) _ (few x .0) (found-tells (find r (r .D) s at (r .root) x) (find-tells r controllerNumbers s refl refl x (r .D) at (r .root) l)))
+        (λ _. inside-tells (r .root) _ (few x .0) (found-tells (find r (r .D) s at (r .root) x) (find-tells controllerNumbers s refl refl r x (r .D) at (r .root) l)))
     state-tells at place (suc m) l =
         guard-keeps AnswerTells (canRun (r .K) (r .N) s place (suc m)) _ (λ _. state-told) (λ _. inside-tells (r .safe) _ (few x .1) (mode-tells place (suc m)))
 
     call-tells : (st : State) → AnswerTells (call r s st x)
     unfolding C.call
     call-tells st =
-        walk-keeps controllerNumbers (length s) AnswerTells (header (r .n) s) Answer.Refused _ (header-tells r controllerNumbers s refl refl refl) (λ e t. t)
+        walk-keeps controllerNumbers (length s) AnswerTells (header (r .n) s) Answer.Refused _ (header-tells controllerNumbers s refl refl refl (r .n)) (λ e t. t)
         (λ at l. state-tells at (st .place) (st .left) l)
 
 -- a box of n sides has n tests for a reading

@@ -74,9 +74,7 @@ module _ (numbers : List ℕ) (size : ℕ) where
       walk-keeps WalkTells (one at b) Walk.Refused (λ m. each one bs m) (h at b l) (λ e t. t) (λ m k. each-tells one h bs m k)
 
 -- 1 and 6 of what is read
-module _ (r : Rules) (numbers s : List ℕ) (one : oneOf numbers 1 ≡ true) (six : oneOf numbers 6 ≡ true) where
-  open Rules r using (Box, Reading, children, K)
-
+module _ (numbers s : List ℕ) (one : oneOf numbers 1 ≡ true) (six : oneOf numbers 6 ≡ true) where
   abbrev Tells : Refusal → Type 0
   Tells = Telling numbers (length s)
 
@@ -86,18 +84,18 @@ module _ (r : Rules) (numbers s : List ℕ) (one : oneOf numbers 1 ≡ true) (si
   pub table-told : (at : ℕ) → at ≤ length s → Tells (badTable at)
   table-told at l = record { number = six; place = l; step = refl }
 
-  modes-tell : (k at : ℕ) → at ≤ length s → ReadTells numbers (length s) (modesAt (r .N) k s at)
+  modes-tell : (N k at : ℕ) → at ≤ length s → ReadTells numbers (length s) (modesAt N k s at)
   unfolding W.modesAt
-  modes-tell zero at l = l
-  modes-tell (suc k) at l =
-      number-keeps (ReadTells numbers (length s)) s at (λ u next. guard (ltb u (r .N)) (refused (badTable at)) λ _. before u (modesAt (r .N) k s next)) (broken-told at l)
-      (λ u next m. guard-keeps (ReadTells numbers (length s)) (ltb u (r .N)) (λ _. before u (modesAt (r .N) k s next)) (λ _. table-told at l)
-      (λ _. before-tells numbers (length s) u (modesAt (r .N) k s next) (modes-tell k next m)))
+  modes-tell N zero at l = l
+  modes-tell N (suc k) at l =
+      number-keeps (ReadTells numbers (length s)) s at (λ u next. guard (ltb u N) (refused (badTable at)) λ _. before u (modesAt N k s next)) (broken-told at l)
+      (λ u next m. guard-keeps (ReadTells numbers (length s)) (ltb u N) (λ _. before u (modesAt N k s next)) (λ _. table-told at l)
+      (λ _. before-tells numbers (length s) u (modesAt N k s next) (modes-tell N k next m)))
 
-  node-keeps : {A : Type 0} (P : A → Type 0) (at : ℕ) (refuse : Refusal → A) (split : ℕ → A) (tile : ℕ → ℕ → A) → at ≤ length s
+  node-keeps : {A : Type 0} (P : A → Type 0) (K at : ℕ) (refuse : Refusal → A) (split : ℕ → A) (tile : ℕ → ℕ → A) → at ≤ length s
       → ((e : Refusal) → Tells e → P (refuse e)) → ((next : ℕ) → next ≤ length s → P (split next))
       → ((k next : ℕ) → 1 ≤ k → k ≤ K → next ≤ length s → P (tile k next)) → P (nodeAt K s at refuse split tile)
-  node-keeps P at refuse split tile l a b c =
+  node-keeps P K at refuse split tile l a b c =
       number-keeps P s at (λ k next. onSize K k (refuse (badTable at)) (split next) (λ k. tile k next)) (a (broken at) (broken-told at l)) size
     where
       size : (k next : ℕ) → next ≤ length s → P (onSize K k (refuse (badTable at)) (split next) (λ k. tile k next))
@@ -106,76 +104,80 @@ module _ (r : Rules) (numbers s : List ℕ) (one : oneOf numbers 1 ≡ true) (si
           guard-keeps P (leb (suc k) K) (λ _. tile (suc k) next) (λ _. a (badTable at) (table-told at l))
           (λ e. c (suc k) next (omega arith) (leb-true (suc k) K e) m)
 
-  -- and what the judge of a tile tells at its first byte
-  module _ (judge : Box → List ℕ → Rule)
-      (judged : (b : Box) (us : List ℕ) (at next : ℕ) → 1 ≤ length us → length us ≤ K → at ≤ length s → next ≤ length s
-      → WalkTells numbers (length s) (onRule (judge b us) at next)) where
-    tile-tells : (b : Box) (k at next : ℕ) → 1 ≤ k → k ≤ K → at ≤ length s → next ≤ length s → WalkTells numbers (length s) (onModes (modesAt (r .N) k s next) at (judge b))
-    tile-tells b k at next some few l m = go (modesAt (r .N) k s next) refl (modes-tell k next m)
-      where
-        go : (t : Read (List ℕ)) → modesAt (r .N) k s next ≡ t → ReadTells numbers (length s) t → WalkTells numbers (length s) (onModes t at (judge b))
-        go (refused e) q h = h
-        go (read us end) q h = let c = modes-stand (r .N) k s next us end q .count in judged b us at end (omega arith) (omega arith) l h
-
-    pub walk-tells : (d at : ℕ) (b : Box) → at ≤ length s → WalkTells numbers (length s) (walk r judge d s at b)
-    unfolding W.walk
-    walk-tells zero at b l =
-        node-keeps (WalkTells numbers (length s)) at Walk.Refused (λ next. Walk.Refused (badTable at)) (λ k next. onModes (modesAt (r .N) k s next) at (judge b)) l
-        (λ e t. t) (λ next m. table-told at l) (λ k next some few m. tile-tells b k at next some few l m)
-    walk-tells (suc d) at b l =
-        node-keeps (WalkTells numbers (length s)) at Walk.Refused
-        (λ next. splitAt (children b) (Walk.Refused (badTable at)) λ cs. each (λ p c. walk r judge d s p c) cs next) (λ k next. onModes (modesAt (r .N) k s next) at (judge b)) l
-        (λ e t. t)
-        (λ next m. split-keeps (WalkTells numbers (length s)) (children b) (λ cs. each (λ p c. walk r judge d s p c) cs next) (table-told at l)
-        (λ cs. each-tells numbers (length s) (λ p c. walk r judge d s p c) (λ p c k. walk-tells d p c k) cs next m))
-        (λ k next some few m. tile-tells b k at next some few l m)
-
-  -- passed tiles are told 1 and 6 alone
-  pass-tells : (d at : ℕ) (b : Box) → at ≤ length s → WalkTells numbers (length s) (walk r (λ _ _. Works) d s at b)
-  pass-tells = walk-tells (λ _ _. Works) (λ b us at next some few l m. m)
-
-  module _ (x : Reading) where
-    among-tells : (d : ℕ) → ((at : ℕ) (b : Box) → at ≤ length s → FoundTells numbers (length s) (find r d s at b x)) → (split : ℕ) → split ≤ length s
-        → (bs : List Box) (at : ℕ) → at ≤ length s
-        → FoundTells numbers (length s) (lookAmong r x d s split bs at)
-    unfolding C.among
-    among-tells d ih split m [] at l = table-told split m
-    among-tells d ih split m (b ∷ bs) at l = go (holds r b x) (λ next k. among-tells d ih split m bs next k)
-      where
-        go : (t : Bool) → ((next : ℕ) → next ≤ length s → FoundTells numbers (length s) (lookAmong r x d s split bs next))
-            → FoundTells numbers (length s)
-            (choose t (λ _. find r d s at b x) λ _. onWalk (walk r (λ _ _. Works) d s at b) Found.Refused λ next. lookAmong r x d s split bs next)
-        go true later = ih at b l
-        go false later = walk-keeps numbers (length s) (FoundTells numbers (length s)) (walk r (λ _ _. Works) d s at b) Found.Refused _ (pass-tells d at b l) (λ e t. t) later
-
-    found-tells : (k next : ℕ) → next ≤ length s → FoundTells numbers (length s) (tileFound (modesAt (r .N) k s next) next k)
-    found-tells k next m = go (modesAt (r .N) k s next) (modes-tell k next m)
-      where
-        go : (t : Read (List ℕ)) → ReadTells numbers (length s) t → FoundTells numbers (length s) (tileFound t next k)
-        go (refused e) h = h
-        go (read us end) h = tt
-
-    pub find-tells : (d at : ℕ) (b : Box) → at ≤ length s → FoundTells numbers (length s) (find r d s at b x)
-    unfolding C.find
-    find-tells zero at b l =
-        node-keeps (FoundTells numbers (length s)) at Found.Refused (λ next. Found.Refused (badTable at)) (λ k next. tileFound (modesAt (r .N) k s next) next k) l
-        (λ e t. t) (λ next m. table-told at l) (λ k next some few m. found-tells k next m)
-    find-tells (suc d) at b l =
-        node-keeps (FoundTells numbers (length s)) at Found.Refused
-        (λ next. splitAt (children b) (Found.Refused (badTable at)) λ cs. lookAmong r x d s at cs next)
-        (λ k next. tileFound (modesAt (r .N) k s next) next k) l (λ e t. t)
-        (λ next m. split-keeps (FoundTells numbers (length s)) (children b) _ (table-told at l)
-        (λ cs. among-tells d (λ p c k. find-tells d p c k) at l cs next m))
-        (λ k next some few m. found-tells k next m)
-
   -- the header: 2 besides
-  pub header-tells : oneOf numbers 2 ≡ true → WalkTells numbers (length s) (header (r .n) s)
+  pub header-tells : oneOf numbers 2 ≡ true → (n : ℕ) → WalkTells numbers (length s) (header n s)
   unfolding W.header
-  header-tells two =
+  header-tells two n =
       number-keeps (WalkTells numbers (length s)) s 0 _ (broken-told 0 (omega arith))
       (λ form at l. guard-keeps (WalkTells numbers (length s)) (eqb form 1) _ (λ _. record { number = two; place = refl; step = refl })
       (λ _. number-keeps (WalkTells numbers (length s)) s at _ (broken-told at l)
-      (λ m next k. guard-keeps (WalkTells numbers (length s)) (eqb m (r .n)) _ (λ _. table-told at l) (λ _. k))))
+      (λ m next k. guard-keeps (WalkTells numbers (length s)) (eqb m n) _ (λ _. table-told at l) (λ _. k))))
+
+  -- a tree
+  module _ (r : Rules) where
+    open Rules r using (Box, Reading, children, K, N)
+
+    -- and what the judge of a tile tells at its first byte
+    module _ (judge : Box → List ℕ → Rule)
+        (judged : (b : Box) (us : List ℕ) (at next : ℕ) → 1 ≤ length us → length us ≤ K → at ≤ length s → next ≤ length s
+        → WalkTells numbers (length s) (onRule (judge b us) at next)) where
+      tile-tells : (b : Box) (k at next : ℕ) → 1 ≤ k → k ≤ K → at ≤ length s → next ≤ length s → WalkTells numbers (length s) (onModes (modesAt N k s next) at (judge b))
+      tile-tells b k at next some few l m = go (modesAt N k s next) refl (modes-tell N k next m)
+        where
+          go : (t : Read (List ℕ)) → modesAt N k s next ≡ t → ReadTells numbers (length s) t → WalkTells numbers (length s) (onModes t at (judge b))
+          go (refused e) q h = h
+          go (read us end) q h = let c = modes-stand N k s next us end q .count in judged b us at end (omega arith) (omega arith) l h
+
+      pub walk-tells : (d at : ℕ) (b : Box) → at ≤ length s → WalkTells numbers (length s) (walk r judge d s at b)
+      unfolding W.walk
+      walk-tells zero at b l =
+          node-keeps (WalkTells numbers (length s)) K at Walk.Refused (λ next. Walk.Refused (badTable at)) (λ k next. onModes (modesAt N k s next) at (judge b)) l
+          (λ e t. t) (λ next m. table-told at l) (λ k next some few m. tile-tells b k at next some few l m)
+      walk-tells (suc d) at b l =
+          node-keeps (WalkTells numbers (length s)) K at Walk.Refused
+          (λ next. splitAt (children b) (Walk.Refused (badTable at)) λ cs. each (λ p c. walk r judge d s p c) cs next) (λ k next. onModes (modesAt N k s next) at (judge b)) l
+          (λ e t. t)
+          (λ next m. split-keeps (WalkTells numbers (length s)) (children b) (λ cs. each (λ p c. walk r judge d s p c) cs next) (table-told at l)
+          (λ cs. each-tells numbers (length s) (λ p c. walk r judge d s p c) (λ p c k. walk-tells d p c k) cs next m))
+          (λ k next some few m. tile-tells b k at next some few l m)
+
+    -- passed tiles are told 1 and 6 alone
+    pass-tells : (d at : ℕ) (b : Box) → at ≤ length s → WalkTells numbers (length s) (walk r (λ _ _. Works) d s at b)
+    pass-tells = walk-tells (λ _ _. Works) (λ b us at next some few l m. m)
+
+    module _ (x : Reading) where
+      among-tells : (d : ℕ) → ((at : ℕ) (b : Box) → at ≤ length s → FoundTells numbers (length s) (find r d s at b x)) → (split : ℕ) → split ≤ length s
+          → (bs : List Box) (at : ℕ) → at ≤ length s
+          → FoundTells numbers (length s) (lookAmong r x d s split bs at)
+      unfolding C.among
+      among-tells d ih split m [] at l = table-told split m
+      among-tells d ih split m (b ∷ bs) at l = go (holds r b x) (λ next k. among-tells d ih split m bs next k)
+        where
+          go : (t : Bool) → ((next : ℕ) → next ≤ length s → FoundTells numbers (length s) (lookAmong r x d s split bs next))
+              → FoundTells numbers (length s)
+              (choose t (λ _. find r d s at b x) λ _. onWalk (walk r (λ _ _. Works) d s at b) Found.Refused λ next. lookAmong r x d s split bs next)
+          go true later = ih at b l
+          go false later = walk-keeps numbers (length s) (FoundTells numbers (length s)) (walk r (λ _ _. Works) d s at b) Found.Refused _ (pass-tells d at b l) (λ e t. t) later
+
+      found-tells : (k next : ℕ) → next ≤ length s → FoundTells numbers (length s) (tileFound (modesAt N k s next) next k)
+      found-tells k next m = go (modesAt N k s next) (modes-tell N k next m)
+        where
+          go : (t : Read (List ℕ)) → ReadTells numbers (length s) t → FoundTells numbers (length s) (tileFound t next k)
+          go (refused e) h = h
+          go (read us end) h = tt
+
+      pub find-tells : (d at : ℕ) (b : Box) → at ≤ length s → FoundTells numbers (length s) (find r d s at b x)
+      unfolding C.find
+      find-tells zero at b l =
+          node-keeps (FoundTells numbers (length s)) K at Found.Refused (λ next. Found.Refused (badTable at)) (λ k next. tileFound (modesAt N k s next) next k) l
+          (λ e t. t) (λ next m. table-told at l) (λ k next some few m. found-tells k next m)
+      find-tells (suc d) at b l =
+          node-keeps (FoundTells numbers (length s)) K at Found.Refused
+          (λ next. splitAt (children b) (Found.Refused (badTable at)) λ cs. lookAmong r x d s at cs next)
+          (λ k next. tileFound (modesAt N k s next) next k) l (λ e t. t)
+          (λ next m. split-keeps (FoundTells numbers (length s)) (children b) _ (table-told at l)
+          (λ cs. among-tells d (λ p c k. find-tells d p c k) at l cs next m))
+          (λ k next some few m. found-tells k next m)
 
 -- the judge that is the tile rule: 7 and 8
 images-size : (r : Rules) (k : r .Kept) (us : List ℕ) → length (images r k us) ≡ length us
