@@ -42,7 +42,7 @@ use Rattle.meaning.specs.Verdicts.{header, verdict}
 use Rattle.promises.specs.Buffers.{wrote}
 use Rattle.promises.specs.Checked.{Tiled, accepted-judged, checked-exactly}
 use Rattle.promises.specs.Chosen.{chosen}
-use Rattle.promises.specs.Finds.{firstPlace}
+use Rattle.promises.specs.Finds.{firstPlace, nextPlace}
 use Rattle.promises.specs.FirstFault.{LeavesAt, MissesAt, FirstBad, Comes, working, leaving, missing, comes, leaving-told, missing-told}
 use Rattle.promises.specs.Layouts.{headed, table-header}
 use Rattle.promises.specs.Made.{made-accepted, made-exactly, nine-exactly, maker-nine, maker-ten, maker-writes}
@@ -50,7 +50,6 @@ use Rattle.promises.specs.Numbers.{reads, was}
 use Rattle.promises.specs.PlantRules.{judged-sizes, checked-as, made-as, controlled-as}
 use Rattle.promises.specs.Promise.{Promised, promise}
 use Rattle.promises.specs.Shapes.{Shaped, Good, over-map}
-use Rattle.promises.specs.Underway.{nextPlace}
 
 -- of a plant's and a table's bytes; of a plant's bytes and a lent buffer; of a plant's and a table's bytes, a state and a reading
 abbrev pub Checker : Type 0

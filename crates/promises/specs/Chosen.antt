@@ -1,14 +1,13 @@
 -- S8 over bytes: on an accepted table an idle call on a reading in R chooses the one tile of the table that holds it, and answers that tile's first
 -- mode; and of every table, accepted or not, an idle call that is answered reads nothing behind the last mode of the tile that it chose.
 -- Relies on pages Finds and Local at document 01's rules.
-use Prim.Native.Nat.{ℕ, _^_, _≤_}
+use Prim.Native.Nat.{ℕ}
 use mathlib.Core.Path.{_≡_, refl, sym, subst, _∙_}
 use mathlib.Core.Bool.{true}
 use mathlib.Core.List.{List, [], _∷_, append-nil}
 use native.Mathlib.Omega.{arith}
 use lib.ListN.{length, take}
 use lib.IntN.{ℤ}
-use Rattle.laws.specs.Standing.{Stands, stand-back}
 use Rattle.laws.specs.Tests.{never, guard-passed}
 use Rattle.meaning.specs.declared.Refusal.{Refusal}
 use Rattle.meaning.specs.declared.Plant.{Plant}
@@ -17,25 +16,23 @@ use Rattle.meaning.specs.declared.Answer.{Answer}
 use Rattle.meaning.specs.declared.Walk.{Walk}
 use Rattle.meaning.specs.declared.Found.{Found}
 use Rattle.meaning.specs.Control as C
-use Rattle.meaning.specs.Control.{idle, modeAt, onFound, find, idleCall, call, stateWith}
+use Rattle.meaning.specs.Control.{idle, onFound, find, idleCall, call, stateWith}
 use Rattle.meaning.specs.Files.{Judged, good, bad, read}
-use Rattle.meaning.specs.Numbers.{bytesOf}
 use Rattle.meaning.specs.Plants.{plantJudged, rootOf}
 use Rattle.meaning.specs.Rules.{rule, holds}
 use Rattle.meaning.specs.Tables as T
 use Rattle.meaning.specs.Tables.{rulesOf, onPlant, controlled, startsIn}
 use Rattle.meaning.specs.Trees as Y
-use Rattle.meaning.specs.Trees.{modesBytes, Pattern, tableOf, Tile, tilesOf, having}
+use Rattle.meaning.specs.Trees.{tableOf, Tile, tilesOf, having}
 use Rattle.meaning.specs.Verdicts.{modesAt, header}
 use Rattle.promises.specs.Checked.{Tiled}
-use Rattle.promises.specs.Finds.{firstPlace, endPlace, OneTile, finds, call-finds}
+use Rattle.promises.specs.Finds.{nextPlace, firstPlace, endPlace, OneTile, finds, call-finds}
 use Rattle.promises.specs.Judged.{judged-sound}
 use Rattle.promises.specs.Layouts.{modes-stand, header-stands, headed, table-header, tile-read}
 use Rattle.promises.specs.Local.{unseen}
 use Rattle.promises.specs.PlantMotion.{splits}
 use Rattle.promises.specs.PlantRules.{sizes, header-size, controlled-as}
 use Rattle.promises.specs.Shapes.{Good}
-use Rattle.promises.specs.Underway.{nextPlace, first-told}
 use Rattle.promises.specs.Walking.{walk-went}
 
 -- ---- of an accepted table
@@ -57,23 +54,13 @@ pub record Chosen (plant table : List ℕ) (t : Tiled plant table) (x : List ℤ
   pub unread : (other : List ℕ) → take (endPlace (rulesOf (t .p)) the) table ≡ take (endPlace (rulesOf (t .p)) the) other
       → controlled plant other idle x ≡ controlled plant table idle x
 
--- what is answered of a tile whose bytes stand in the table
-record Told (table : List ℕ) (place : ℕ) (us : List ℕ) : Type 0 where
-  u : ℕ
-  vs : List ℕ
-  are : us ≡ u ∷ vs
-  told : modeAt table place (length us) ≡ Answer.Mode u (stateWith vs (nextPlace place u))
-
-pattern-told : (K N : ℕ) → N ≤ 2 ^ 35 → (table : List ℕ) (place end : ℕ) (us : List ℕ) → Pattern K N us → Stands table place (modesBytes us) end → Told table place us
-pattern-told K N small table place end [] g h = absurd (omega (arith, g .some))
-pattern-told K N small table place end (u ∷ vs) g h = record { u = u; vs = vs; are = refl; told = first-told N small u vs table place end (g .modes) h }
-
 -- the tile that was found is the one chosen
 tile-chosen : (plant table : List ℕ) (t : Tiled plant table) (x : List ℤ)
     (f : OneTile (rulesOf (t .p)) (Good (rulesOf (t .p)) (rule (rulesOf (t .p)))) x table (headed (t .p .n))
     (tilesOf (rulesOf (t .p)) (t .tree) (rootOf (t .p)) (headed (t .p .n)))
     (find (rulesOf (t .p)) (t .p .d) table (headed (t .p .n)) (rootOf (t .p)) x))
-    → call (rulesOf (t .p)) table idle x ≡ modeAt table (firstPlace (rulesOf (t .p)) (f .the)) (length (f .the .modes)) → Chosen plant table t x
+    → call (rulesOf (t .p)) table idle x ≡ Answer.Mode (f .first) (stateWith (f .later) (nextPlace (firstPlace (rulesOf (t .p)) (f .the)) (f .first)))
+    → Chosen plant table t x
 unfolding Y.layout
 tile-chosen plant table t x f c =
     let p = t .p in
@@ -81,8 +68,6 @@ tile-chosen plant table t x f c =
     let s = judged-sound plant p (t .judged) in
     let g = f .known .shape in
     let z = sizes p s in
-    let number = bytesOf (length (f .the .modes)) in
-    let first = pattern-told (p .k) (p .modes) (z .modes) table (firstPlace r (f .the)) (f .end) (f .the .modes) g (stand-back number (modesBytes (f .the .modes)) (f .stand)) in
     let head = table-header r z table [] (t .tree) (t .is ∙ sym (append-nil (tableOf r (t .tree)))) in
     let w = unseen r z x table (headed (p .n)) (firstPlace r (f .the)) (length (f .the .modes)) head (f .told) in
     let same : w .end ≡ f .end = cc (tile-read r z (f .the .modes) table (f .the .place) (f .end) g (f .stand) .1, w .are) in
@@ -92,10 +77,10 @@ tile-chosen plant table t x f c =
       only = subst (λ (m : ℕ). having r x (tilesOf r (t .tree) (rootOf p) m) ≡ f .the ∷ []) (header-size p s) (f .only);
       holds-it = f .holds-it;
       found = subst (λ (m : ℕ). find r (p .d) table m (rootOf p) x ≡ Found.Tile (firstPlace r (f .the)) (length (f .the .modes))) (header-size p s) (f .told);
-      first = first .u;
-      later = first .vs;
-      modes-are = first .are;
-      answered = controlled-as plant p (t .judged) table idle x ∙ c ∙ first .told;
+      first = f .first;
+      later = f .later;
+      modes-are = f .modes-are;
+      answered = controlled-as plant p (t .judged) table idle x ∙ c;
       unread = λ other q.
           controlled-as plant p (t .judged) other idle x
           ∙ w .same other (subst (λ (m : ℕ). take m table ≡ take m other) (sym end) q)

@@ -1,8 +1,8 @@
 -- S8: of a tree of sound shape, exactly one tile holds a reading that R holds, and it is the one that is found.
 -- Over any rules that split well and whose numbers fit five bytes. The tiles may be of any kind, working or not, and any bytes may stand behind the
--- table: P is whatever else is known of each tile, and so is known of the one that is found.
-use Prim.Native.Nat.{ℕ, zero, suc, _+_, _≤_}
-use mathlib.Core.Path.{_≡_, refl, ap, _∙_}
+-- table: P is whatever else is known of each tile, and so is known of the one that is found. Of it a call answers the first mode.
+use Prim.Native.Nat.{ℕ, zero, suc, _+_, _^_, _≤_}
+use mathlib.Core.Path.{_≡_, refl, ap, subst, _∙_}
 use mathlib.Core.Bool.{Bool, true, false, cond}
 use mathlib.Core.List.{List, [], _∷_, _++_, append-nil}
 use native.Mathlib.Omega.{arith}
@@ -12,15 +12,25 @@ use Rattle.laws.specs.Standing.{Stands, stand-front, stand-back}
 use Rattle.meaning.specs.declared.Rule.the-variants.{Works}
 use Rattle.meaning.specs.declared.Walk.{Walk}
 use Rattle.meaning.specs.declared.Found.{Found}
+use Rattle.meaning.specs.declared.Answer.{Answer}
 use Rattle.meaning.specs.Numbers.{bytesOf}
 use Rattle.meaning.specs.Rules.{Rules, holds}
-use Rattle.meaning.specs.Trees.{Tree, Forest, split, tile, leaf, more, modesBytes, layout, layouts, Pattern, tableOf, Over, Overs, Tile, tilesOf, tilesIn, having}
+use Rattle.meaning.specs.Trees.{Tree, Forest, split, tile, leaf, more, modesBytes, layout, layouts, below, Pattern, tableOf, Over, Overs, Tile, tilesOf, tilesIn, having}
 use Rattle.meaning.specs.Verdicts.{walk}
-use Rattle.meaning.specs.Control.{among, find, idle, modeAt, call}
+use Rattle.meaning.specs.Control.{among, find, idle, stateWith, modeAt, call}
 use Rattle.promises.specs.Laws.{Sizes, holding, Splits}
 use Rattle.promises.specs.Walking.{lookAmong, find-split, find-tile}
 use Rattle.promises.specs.Shapes.{Good, over-map}
-use Rattle.promises.specs.Layouts.{tile-read, split-read, walk-reads, headed, table-stands, table-header}
+use Rattle.promises.specs.Layouts.{first-read, tile-read, split-read, walk-reads, headed, table-stands, table-header}
+
+-- the place behind a mode that stands there
+abbrev pub nextPlace : ℕ → ℕ → ℕ
+nextPlace place u = place + length (bytesOf u)
+
+-- the first of some modes is answered, and the others are to come behind it
+pub first-told : (N : ℕ) → N ≤ 2 ^ 35 → (u : ℕ) (vs s : List ℕ) (place end : ℕ) → below N (u ∷ vs) → Stands s place (modesBytes (u ∷ vs)) end
+    → modeAt s place (suc (length vs)) ≡ Answer.Mode u (stateWith vs (nextPlace place u))
+first-told N small u vs s place end h p = rw (first-read N small u vs s place end h p) refl
 
 bit-zero : (c : Bool) → bit c ≡ 0 → c ≡ false
 bit-zero true e = absurd (omega arith)
@@ -43,6 +53,9 @@ module _ (r : Rules) where
     pub told : found ≡ Found.Tile (firstPlace the) (length (the .modes))
     pub holds-it : holds r (the .box) x ≡ true
     pub known : P (the .box) (the .modes)
+    pub first : ℕ
+    pub later : List ℕ
+    pub modes-are : the .modes ≡ first ∷ later
     pub behind : lo ≤ the .place
     pub end : ℕ
     pub stand : Stands s (the .place) (bytesOf (length (the .modes)) ++ modesBytes (the .modes)) end
@@ -90,6 +103,9 @@ module _ (r : Rules) where
       told = q ∙ k .told;
       holds-it = k .holds-it;
       known = k .known;
+      first = k .first;
+      later = k .later;
+      modes-are = k .modes-are;
       behind = omega (arith, k .behind);
       end = k .end;
       stand = k .stand;
@@ -115,6 +131,10 @@ module _ (r : Rules) where
         having-append x (tilesOf r t b at) (tilesIn r f bs m) ∙ rw (none-tree t d b at o c) refl in
         seen (omega arith) w (rw (c, pass t d s at b m o p) refl) (later z)
 
+    first-of : (us : List ℕ) → 1 ≤ length us → (u : ℕ) × (vs : List ℕ) × (us ≡ u ∷ vs)
+    first-of [] l = absurd (omega arith)
+    first-of (u ∷ vs) l = (u, vs, refl)
+
     mutual
       unfolding Over layout tilesOf having count
 
@@ -123,12 +143,16 @@ module _ (r : Rules) where
       tree-finds (tile us) d s at b m o p h =
           let g = shape b us o in
           let q = tile-read r sizes us s at m g p in
+          let f = first-of us (g .some) in
           record {
             the = record { box = b; modes = us; place = at };
             only = simp h;
             told = find-tile r x d s at b (length us) (at + length (bytesOf (length us))) (q .0) (g .some) (g .few) ∙ rw (q .1) refl;
             holds-it = h;
             known = o;
+            first = f .0;
+            later = f .1;
+            modes-are = f .2;
             behind = omega arith;
             end = m;
             stand = p;
@@ -158,6 +182,15 @@ module _ (r : Rules) (sizes : Sizes r) (splits : Splits r) (P : r .Box → List 
   finds = tree-finds r sizes splits P shape x t (r .D) s (headed (r .n)) (r .root) (length (tableOf r t)) over (table-stands r s rest t is .1) held
 
   -- and a call, idle, answers that tile's first mode
-  pub call-finds : call r s idle x ≡ modeAt s (firstPlace r (finds .the)) (length (finds .the .modes))
+  pub call-finds : call r s idle x ≡ Answer.Mode (finds .first) (stateWith (finds .later) (nextPlace (firstPlace r (finds .the)) (finds .first)))
   unfolding call
-  call-finds = simp (table-header r sizes s rest t is, held, finds .told)
+  call-finds =
+      let us = finds .the .modes in
+      let e : us ≡ finds .first ∷ finds .later = finds .modes-are in
+      let place = firstPlace r (finds .the) in
+      let back = stand-back (bytesOf (length us)) (modesBytes us) (finds .stand) in
+      simp (table-header r sizes s rest t is, held, finds .told) (
+      ap (λ (k : ℕ). modeAt s place k) (ap length e)
+      ∙ first-told (r .N) (sizes .modes) (finds .first) (finds .later) s place (finds .end)
+      (rw e at (shape (finds .the .box) us (finds .known) .modes)) (subst (λ (vs : List ℕ). Stands s place (modesBytes vs) (finds .end)) e back)
+      )

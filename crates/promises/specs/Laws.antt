@@ -1,5 +1,5 @@
 -- What the theorems over tables ask of the rules, each theorem naming only what it needs. Definitions alone: that document 01's rules of a sound
--- plant are so is pages PlantRules (Sizes) and PlantMotion (Splits, Motion).
+-- plant are so is pages PlantRules (Sizes) and PlantMotion (Splits, Motion, Returns).
 use Prim.Native.Nat.{ℕ, _^_, _≤_, _<_}
 use mathlib.Core.Path.{_≡_}
 use mathlib.Core.Bool.{true}
@@ -33,6 +33,9 @@ module _ (r : Rules) where
     pub in-kept : (k : Kept) (x : Reading) → Inv k x → holds r (kept k) x ≡ true
     -- a box that lies in another holds no reading that the other does not
     pub inside : (a b : Box) (x : Reading) → within a b ≡ true → holds r a x ≡ true → holds r b x ≡ true
-    -- the goal lies in R, and R in S
-    pub home : (x : Reading) → holds r goal x ≡ true → holds r root x ≡ true
+    -- the box that is tiled lies in S
     pub root-safe : (x : Reading) → holds r root x ≡ true → holds r safe x ≡ true
+
+  -- The box that patterns end in lies in the box that is tiled, so that where one ends another begins. Only trips repeated ask for it.
+  abbrev pub Returns : Type 0
+  Returns = (x : Reading) → holds r goal x ≡ true → holds r root x ≡ true

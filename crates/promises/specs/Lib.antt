@@ -64,10 +64,11 @@ pub mod Sound
 pub mod Splits
 pub mod Starred
 pub mod TableLengths
+pub mod TableTrips
 pub mod Telling
 pub mod Told
+pub mod Trips
 pub mod Turning
-pub mod Underway
 pub mod Unique
 pub mod WalkTold
 pub mod Walking

@@ -1,7 +1,7 @@
 -- Document 01's rules of a sound plant meet the laws of page Laws; so a pattern that works for a box keeps every run in S and brings it back
 -- to R (S5), and some reading always follows (S12). Relies on pages Images, Splits, Patterns and Reached.
 -- Readings are lists of any length: those beyond n are ignored, and 0 stands where one is missing.
-use Prim.Native.Nat.{ℕ}
+use Prim.Native.Nat.{ℕ, _≤_}
 use mathlib.Core.Path.{_≡_, refl, sym, _∙_}
 use mathlib.Core.Bool.{true}
 use mathlib.Core.List.{List}
@@ -15,13 +15,14 @@ use Rattle.laws.specs.Lists.{at}
 use Rattle.laws.specs.Tabs.{length-tab, getD-tab}
 use Rattle.meaning.specs.declared.Plant.{Plant}
 use Rattle.meaning.specs.declared.Rule.the-variants.{Works}
-use Rattle.meaning.specs.Boxes.{Side}
+use Rattle.meaning.specs.Boxes.{Side, within}
+use Rattle.meaning.specs.Images.{Step}
 use Rattle.meaning.specs.Plants.{rootOf, safeOf, rowOf, stepOf}
-use Rattle.meaning.specs.Rules.{rule, holds}
-use Rattle.meaning.specs.Tables.{readingOf, rulesOf}
+use Rattle.meaning.specs.Rules.{Rules, rule, holds}
+use Rattle.meaning.specs.Tables.{readingOf, rulesFrom, rulesOf}
 use Rattle.promises.specs.Boxes.{within-fits}
 use Rattle.promises.specs.Images.{image-holds}
-use Rattle.promises.specs.Laws.{Splits, Motion}
+use Rattle.promises.specs.Laws.{Splits, Motion, Returns}
 use Rattle.promises.specs.Patterns.{Through, Arrives, works-arrives}
 use Rattle.promises.specs.Reached.{Wide, reached-size, some-follows}
 use Rattle.promises.specs.Sound.{Sound}
@@ -33,22 +34,36 @@ whole n y e =
     ext-getD (pos 0) (readingOf n y) y (length-tab (at y) n 0 ∙ sym e)
     (λ i l. getD-tab (at y) (pos 0) n 0 i (omega (arith, length-tab (at y) n 0)) ∙ rw zero-add refl)
 
+-- document 01's rules, whatever is tiled and wherever patterns end
+module _ (n N K D : ℕ) (root goal safe : List Side) (step : ℕ → Step) where
+  abbrev rules : Rules
+  rules = rulesFrom n N K D root goal safe step
+
+  pub splits-from : Splits rules
+  splits-from b x some = one-child b (readingOf n x) some
+
+  -- all that is known of a reading is that the image holds it
+  pub motion-from : ((u : ℕ) → 1 ≤ step u .q) → within root safe ≡ true → Motion rules
+  motion-from low in-safe = record {
+    Inv = λ b x. holds rules b x ≡ true;
+    at-begin = λ b x h. h;
+    at-image = λ b u x y h f. image-holds (step u) b (readingOf n x) (readingOf n y) (low u) h f;
+    in-kept = λ b x h. h;
+    inside = λ a b x w h. within-fits a b (readingOf n x) w h;
+    root-safe = λ x h. within-fits root safe (readingOf n x) in-safe h;
+  }
+
 module _ (p : Plant) where
   pub splits : Splits (rulesOf p)
-  splits b x some = one-child b (readingOf (p .n) x) some
+  splits = splits-from (p .n) (p .modes) (p .k) (p .d) (rootOf p) (rootOf p) (safeOf p) (stepOf p)
+
+  -- patterns end in R itself
+  pub returns : Returns (rulesOf p)
+  returns x h = h
 
   module _ (s : Sound p) where
-    -- all that is known of a reading is that the image holds it
     pub motion : Motion (rulesOf p)
-    motion = record {
-      Inv = λ b x. holds (rulesOf p) b x ≡ true;
-      at-begin = λ b x h. h;
-      at-image = λ b u x y h f. image-holds (stepOf p u) b (readingOf (p .n) x) (readingOf (p .n) y) (s .q-low) h f;
-      in-kept = λ b x h. h;
-      inside = λ a b x w h. within-fits a b (readingOf (p .n) x) w h;
-      home = λ x h. h;
-      root-safe = λ x h. within-fits (rootOf p) (safeOf p) (readingOf (p .n) x) (s .root-safe) h;
-    }
+    motion = motion-from (p .n) (p .modes) (p .k) (p .d) (rootOf p) (rootOf p) (safeOf p) (stepOf p) (λ u. s .q-low) (s .root-safe)
 
     -- S5: where a pattern works for a box, every run through it from a reading of the box stays in S and ends in R
     pub plant-works : (b : List Side) (us : List ℕ) → rule (rulesOf p) b us ≡ Works

@@ -14,16 +14,17 @@ use Rattle.meaning.specs.declared.Answer.{Answer}
 use Rattle.meaning.specs.Control.{idle}
 use Rattle.meaning.specs.Files.{good}
 use Rattle.meaning.specs.Plants.{plantJudged}
-use Rattle.meaning.specs.Runs.{start, sample, none, next}
-use Rattle.meaning.specs.Tables.{rulesOf, checked, controlled, startsIn, safeIn, mayFollow, TableRun, TableSamples}
+use Rattle.meaning.specs.Tables as T
+use Rattle.meaning.specs.Tables.{rulesOf, checked, controlled, startsIn, safeIn, mayFollow, gives, TableRun, TableSamples}
 use Rattle.meaning.specs.Trees.{longest}
 use Rattle.promises.specs.Checked.{Tiled, accepted-judged}
-use Rattle.promises.specs.Demand.{Meets, Sampled, Demand, demand}
+use Rattle.promises.specs.Demand.{Demand, demand}
 use Rattle.promises.specs.Judged.{judged-sound}
 use Rattle.promises.specs.Modes.{isMode, answered-is-mode}
-use Rattle.promises.specs.PlantMotion.{splits, motion, plant-follows}
-use Rattle.promises.specs.PlantRules.{sizes, checked-as, controlled-as}
+use Rattle.promises.specs.PlantMotion.{splits, motion, returns, plant-follows}
+use Rattle.promises.specs.PlantRules.{sizes, checked-as}
 use Rattle.promises.specs.Sound.{Sound}
+use Rattle.promises.specs.Trips.{Repeated}
 
 -- What demand 3 says of a plant and a table whose longest pattern has so many modes. A tile is chosen where the controller is idle.
 pub record Promised (plant table : List ℕ) (most : ℕ) : Type 0 where
@@ -40,30 +41,18 @@ pub record Promised (plant table : List ℕ) (most : ℕ) : Type 0 where
   -- and no run gets stuck: whatever mode is answered, some reading may follow
   pub goes-on : (u : ℕ) (x : List ℤ) → (y : List ℤ) × (mayFollow plant u x y ≡ true)
 
--- ---- runs over bytes are runs over the rules of the plant that was judged good
-
-module _ (plant table : List ℕ) (p : Plant) (e : plantJudged plant ≡ good p) where
-  meets : {st : State} {x : List ℤ} → TableRun plant table st x → Meets (rulesOf p) table st x
-  meets (start h) = start (rw e at h)
-  meets (sample {s = st} {x = x} run a f) = sample (meets run) (sym (controlled-as plant p e table st x) ∙ a) (rw e at f)
-
-  sampled : {m : ℕ} {st v : State} {x z : List ℤ} → TableSamples plant table m st x v z → Sampled (rulesOf p) table m st x v z
-  sampled none = none
-  sampled (next {s = st} {x = x} a f rest) = next (sym (controlled-as plant p e table st x) ∙ a) (rw e at f) (sampled rest)
-
-  promised : (most : ℕ) → Sound p → Demand (rulesOf p) table most → Promised plant table most
-  promised most s d = record {
-    answered = λ {st} {x} run.
-        let w = d .answered (meets run) in
-        let a = controlled-as plant p e table st x ∙ w .2 in
-        (w .0, w .1, a, answered-is-mode plant table st x a);
-    in-safe = λ run. rw e (d .in-safe (meets run));
-    in-root = λ run. rw e (d .in-root (meets run));
-    returns = λ run.
-        let w = d .returns (meets run) in
-        (w .0, w .1, w .2, λ st y k. let h = w .3 st y (sampled k) in (h .again, rw e (h .in-root)));
-    goes-on = λ u x. rw e (plant-follows p s u x);
-  }
+-- runs over bytes are runs over the rules of the plant that was judged good
+promised : (plant table : List ℕ) (p : Plant) → plantJudged plant ≡ good p → (most : ℕ) → Sound p → Demand (rulesOf p) table most → Promised plant table most
+unfolding T.controlled
+promised plant table p e most s d =
+    let b : Repeated idle (λ st x u then. gives plant table st x u then) (λ u x y. mayFollow plant u x y) (λ x. safeIn plant x) (λ x. startsIn plant x) (λ x. startsIn plant x) most = rw e d in
+    record {
+      answered = λ {st} {x} run. let w = b .answered run in (w .0, w .1, w .2, answered-is-mode plant table st x (w .2));
+      in-safe = b .in-safe;
+      in-root = b .in-root;
+      returns = λ run. let w = b .returns run in (w .0, w .1, w .2, λ st y k. let h = w .3 st y k in (h .again, h .in-root));
+      goes-on = λ u x. rw e (plant-follows p s u x);
+    }
 
 -- S9: of every accepted table, and of the one tree that it is the layout of
 pub promise : (plant table : List ℕ) → checked plant table ≡ Verdict.Accepted → (t : Tiled plant table) × Promised plant table (longest (t .tree))
@@ -72,5 +61,5 @@ promise plant table a =
     let p = w .0 in
     let e = w .1 in
     let s = judged-sound plant p e in
-    let d = demand (rulesOf p) (sizes p s) (splits p) (motion p s) table (sym (checked-as plant p e table) ∙ a) in
+    let d = demand (rulesOf p) (sizes p s) (splits p) (motion p s) (returns p) table (sym (checked-as plant p e table) ∙ a) in
     (record { p = p; judged = e; tree = d .0; works = d .1; is = d .2 }, promised plant table p e (longest (d .0)) s (d .3))

@@ -37,7 +37,7 @@ use Rattle.meaning.specs.Verdicts as W
 use Rattle.meaning.specs.Verdicts.{walk, header, verdict}
 use Rattle.promises.specs.Checked.{Tiled, checked-exactly}
 use Rattle.promises.specs.Chosen.{Chosen, chosen}
-use Rattle.promises.specs.Finds.{firstPlace}
+use Rattle.promises.specs.Finds.{firstPlace, nextPlace}
 use Rattle.promises.specs.Laws.{Sizes}
 use Rattle.promises.specs.Layouts.{TreeStands, walk-stands, walk-reads, header-stands, header-read}
 use Rattle.promises.specs.Made.{maker-nine, maker-ten, maker-length}
@@ -48,7 +48,6 @@ use Rattle.promises.specs.PlantRules.{judged-sizes, checked-as, controll
 use Rattle.promises.specs.Promise.{promise}
 use Rattle.promises.specs.Shows.{shows, refusing, noMode, same-refusal, Some, number-exactly, signed-exactly, rule-exactly, written-exactly, walk-exactly, verdict-exactly, answer-exactly, accepted-some, refused-some, mode-some, call-some}
 use Rattle.promises.specs.Told.{checker-some, controller-some}
-use Rattle.promises.specs.Underway.{nextPlace}
 
 -- ---- S1: 0 with the value and the place behind it exactly where the number's bytes stand there, and else 1 there
 
