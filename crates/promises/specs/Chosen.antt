@@ -26,7 +26,7 @@ use Rattle.meaning.specs.Trees as Y
 use Rattle.meaning.specs.Trees.{tableOf, Tile, tilesOf, having}
 use Rattle.meaning.specs.Verdicts.{modesAt, header}
 use Rattle.promises.specs.Checked.{Tiled}
-use Rattle.promises.specs.Finds.{nextPlace, firstPlace, endPlace, OneTile, finds, call-finds}
+use Rattle.promises.specs.Finds.{nextPlace, firstPlace, endPlace, the, finds, call-finds}
 use Rattle.promises.specs.Judged.{judged-sound}
 use Rattle.promises.specs.Layouts.{modes-stand, header-stands, headed, table-header, tile-read}
 use Rattle.promises.specs.Local.{unseen}
@@ -54,49 +54,36 @@ pub record Chosen (plant table : List ℕ) (t : Tiled plant table) (x : List ℤ
   pub unread : (other : List ℕ) → take (endPlace (rulesOf (t .p)) the) table ≡ take (endPlace (rulesOf (t .p)) the) other
       → controlled plant other idle x ≡ controlled plant table idle x
 
--- the tile that was found is the one chosen
-tile-chosen : (plant table : List ℕ) (t : Tiled plant table) (x : List ℤ)
-    (f : OneTile (rulesOf (t .p)) (Good (rulesOf (t .p)) (rule (rulesOf (t .p)))) x table (headed (t .p .n))
-    (tilesOf (rulesOf (t .p)) (t .tree) (rootOf (t .p)) (headed (t .p .n)))
-    (find (rulesOf (t .p)) (t .p .d) table (headed (t .p .n)) (rootOf (t .p)) x))
-    → call (rulesOf (t .p)) table idle x ≡ Answer.Mode (f .first) (stateWith (f .later) (nextPlace (firstPlace (rulesOf (t .p)) (f .the)) (f .first)))
-    → Chosen plant table t x
+-- S8, of a reading in R and a table that is that of a tree
+pub chosen : (plant table : List ℕ) (t : Tiled plant table) (x : List ℤ) → startsIn plant x ≡ true → Chosen plant table t x
 unfolding Y.layout
-tile-chosen plant table t x f c =
+chosen plant table t x h =
     let p = t .p in
     let r = rulesOf p in
     let s = judged-sound plant p (t .judged) in
-    let g = f .known .shape in
     let z = sizes p s in
-    let head = table-header r z table [] (t .tree) (t .is ∙ sym (append-nil (tableOf r (t .tree)))) in
-    let w = unseen r z x table (headed (p .n)) (firstPlace r (f .the)) (length (f .the .modes)) head (f .told) in
-    let same : w .end ≡ f .end = cc (tile-read r z (f .the .modes) table (f .the .place) (f .end) g (f .stand) .1, w .are) in
-    let end : w .end ≡ endPlace r (f .the) = same ∙ f .stand .end in
+    let held : holds r (rootOf p) x ≡ true = rw (t .judged) at h in
+    let is = t .is ∙ sym (append-nil (tableOf r (t .tree))) in
+    let f = finds r z (splits p) (Good r (rule r)) (λ b us g. g .shape) table [] (t .tree) is (t .works) x held in
+    let us = f .first ∷ f .later in
+    let w = unseen r z x table (headed (p .n)) (firstPlace r (the r f)) (length us) (table-header r z table [] (t .tree) is) (f .told) in
+    let same : w .end ≡ f .end = cc (tile-read r z us table (f .place) (f .end) (f .known .shape) (f .stand) .1, w .are) in
+    let end : w .end ≡ endPlace r (the r f) = same ∙ f .stand .end in
     record {
-      the = f .the;
-      only = subst (λ (m : ℕ). having r x (tilesOf r (t .tree) (rootOf p) m) ≡ f .the ∷ []) (header-size p s) (f .only);
+      the = the r f;
+      only = subst (λ (m : ℕ). having r x (tilesOf r (t .tree) (rootOf p) m) ≡ the r f ∷ []) (header-size p s) (f .only);
       holds-it = f .holds-it;
-      found = subst (λ (m : ℕ). find r (p .d) table m (rootOf p) x ≡ Found.Tile (firstPlace r (f .the)) (length (f .the .modes))) (header-size p s) (f .told);
+      found = subst (λ (m : ℕ). find r (p .d) table m (rootOf p) x ≡ Found.Tile (firstPlace r (the r f)) (length us)) (header-size p s) (f .told);
       first = f .first;
       later = f .later;
-      modes-are = f .modes-are;
-      answered = controlled-as plant p (t .judged) table idle x ∙ c;
+      modes-are = refl;
+      answered = controlled-as plant p (t .judged) table idle x
+          ∙ call-finds r z (splits p) (Good r (rule r)) (λ b us g. g .shape) table [] (t .tree) is (t .works) x held;
       unread = λ other q.
           controlled-as plant p (t .judged) other idle x
           ∙ w .same other (subst (λ (m : ℕ). take m table ≡ take m other) (sym end) q)
           ∙ sym (controlled-as plant p (t .judged) table idle x);
     }
-
--- S8, of a reading in R and a table that is that of a tree
-pub chosen : (plant table : List ℕ) (t : Tiled plant table) (x : List ℤ) → startsIn plant x ≡ true → Chosen plant table t x
-chosen plant table t x h =
-    let p = t .p in
-    let r = rulesOf p in
-    let z = sizes p (judged-sound plant p (t .judged)) in
-    let held : holds r (rootOf p) x ≡ true = rw (t .judged) at h in
-    let is = t .is ∙ sym (append-nil (tableOf r (t .tree))) in
-    tile-chosen plant table t x (finds r z (splits p) (Good r (rule r)) (λ b us g. g .shape) table [] (t .tree) is (t .works) x held)
-    (call-finds r z (splits p) (Good r (rule r)) (λ b us g. g .shape) table [] (t .tree) is (t .works) x held)
 
 -- ---- of every table, accepted or not
 

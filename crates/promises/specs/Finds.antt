@@ -2,7 +2,7 @@
 -- Over any rules that split well and whose numbers fit five bytes. The tiles may be of any kind, working or not, and any bytes may stand behind the
 -- table: P is whatever else is known of each tile, and so is known of the one that is found. Of it a call answers the first mode.
 use Prim.Native.Nat.{ℕ, zero, suc, _+_, _^_, _≤_}
-use mathlib.Core.Path.{_≡_, refl, ap, subst, _∙_}
+use mathlib.Core.Path.{_≡_, refl, ap, _∙_}
 use mathlib.Core.Bool.{Bool, true, false, cond}
 use mathlib.Core.List.{List, [], _∷_, _++_, append-nil}
 use native.Mathlib.Omega.{arith}
@@ -46,19 +46,26 @@ module _ (r : Rules) where
   abbrev pub endPlace : Tile r → ℕ
   endPlace t = t .place + length (layout (tile (t .modes)))
 
+  -- the tile at a place, by its first mode and the others
+  abbrev pub tileOf : Box → ℕ → List ℕ → ℕ → Tile r
+  tileOf b u us place = record { box = b; modes = u ∷ us; place = place }
+
   -- The tile was found, and is the only one of ts that holds the reading. Its bytes stand in s, not before lo.
   pub record OneTile (P : Box → List ℕ → Type 0) (x : Reading) (s : List ℕ) (lo : ℕ) (ts : List (Tile r)) (found : Found) : Type 0 where
-    pub the : Tile r
-    pub only : having r x ts ≡ the ∷ []
-    pub told : found ≡ Found.Tile (firstPlace the) (length (the .modes))
-    pub holds-it : holds r (the .box) x ≡ true
-    pub known : P (the .box) (the .modes)
+    pub box : Box
     pub first : ℕ
     pub later : List ℕ
-    pub modes-are : the .modes ≡ first ∷ later
-    pub behind : lo ≤ the .place
+    pub place : ℕ
+    pub only : having r x ts ≡ tileOf box first later place ∷ []
+    pub told : found ≡ Found.Tile (firstPlace (tileOf box first later place)) (suc (length later))
+    pub holds-it : holds r box x ≡ true
+    pub known : P box (first ∷ later)
+    pub behind : lo ≤ place
     pub end : ℕ
-    pub stand : Stands s (the .place) (bytesOf (length (the .modes)) ++ modesBytes (the .modes)) end
+    pub stand : Stands s place (bytesOf (suc (length later)) ++ modesBytes (first ∷ later)) end
+
+  abbrev pub the : {P : Box → List ℕ → Type 0} {x : Reading} {s : List ℕ} {lo : ℕ} {ts : List (Tile r)} {found : Found} → OneTile P x s lo ts found → Tile r
+  the f = tileOf (f .box) (f .first) (f .later) (f .place)
 
   keep-append : (c : Bool) (t : Tile r) (a b : List (Tile r)) → cond c (t ∷ (a ++ b)) (a ++ b) ≡ cond c (t ∷ a) a ++ b
   keep-append true t a b = refl
@@ -98,14 +105,14 @@ module _ (r : Rules) where
     seen : {s : List ℕ} {lo hi : ℕ} {ts us : List (Tile r)} {f g : Found} → lo ≤ hi → having r x us ≡ having r x ts → g ≡ f → OneTile P x s hi ts f
         → OneTile P x s lo us g
     seen l p q k = record {
-      the = k .the;
+      box = k .box;
+      first = k .first;
+      later = k .later;
+      place = k .place;
       only = p ∙ k .only;
       told = q ∙ k .told;
       holds-it = k .holds-it;
       known = k .known;
-      first = k .first;
-      later = k .later;
-      modes-are = k .modes-are;
       behind = omega (arith, k .behind);
       end = k .end;
       stand = k .stand;
@@ -131,28 +138,24 @@ module _ (r : Rules) where
         having-append x (tilesOf r t b at) (tilesIn r f bs m) ∙ rw (none-tree t d b at o c) refl in
         seen (omega arith) w (rw (c, pass t d s at b m o p) refl) (later z)
 
-    first-of : (us : List ℕ) → 1 ≤ length us → (u : ℕ) × (vs : List ℕ) × (us ≡ u ∷ vs)
-    first-of [] l = absurd (omega arith)
-    first-of (u ∷ vs) l = (u, vs, refl)
-
     mutual
       unfolding Over layout tilesOf having count
 
       tree-finds : (t : Tree) (d : ℕ) (s : List ℕ) (at : ℕ) (b : Box) (m : ℕ) → Over r P t d b → Stands s at (layout t) m → holds r b x ≡ true
           → OneTile P x s at (tilesOf r t b at) (find r d s at b x)
-      tree-finds (tile us) d s at b m o p h =
-          let g = shape b us o in
-          let q = tile-read r sizes us s at m g p in
-          let f = first-of us (g .some) in
+      tree-finds (tile []) d s at b m o p h = absurd (omega (arith, shape b [] o .some))
+      tree-finds (tile (u ∷ us)) d s at b m o p h =
+          let g = shape b (u ∷ us) o in
+          let q = tile-read r sizes (u ∷ us) s at m g p in
           record {
-            the = record { box = b; modes = us; place = at };
+            box = b;
+            first = u;
+            later = us;
+            place = at;
             only = simp h;
-            told = find-tile r x d s at b (length us) (at + length (bytesOf (length us))) (q .0) (g .some) (g .few) ∙ rw (q .1) refl;
+            told = find-tile r x d s at b (suc (length us)) (at + length (bytesOf (suc (length us)))) (q .0) (g .some) (g .few) ∙ rw (q .1) refl;
             holds-it = h;
             known = o;
-            first = f .0;
-            later = f .1;
-            modes-are = f .2;
             behind = omega arith;
             end = m;
             stand = p;
@@ -182,15 +185,11 @@ module _ (r : Rules) (sizes : Sizes r) (splits : Splits r) (P : r .Box → List 
   finds = tree-finds r sizes splits P shape x t (r .D) s (headed (r .n)) (r .root) (length (tableOf r t)) over (table-stands r s rest t is .1) held
 
   -- and a call, idle, answers that tile's first mode
-  pub call-finds : call r s idle x ≡ Answer.Mode (finds .first) (stateWith (finds .later) (nextPlace (firstPlace r (finds .the)) (finds .first)))
+  pub call-finds : call r s idle x ≡ Answer.Mode (finds .first) (stateWith (finds .later) (nextPlace (firstPlace r (the r finds)) (finds .first)))
   unfolding call
   call-finds =
-      let us = finds .the .modes in
-      let e : us ≡ finds .first ∷ finds .later = finds .modes-are in
-      let place = firstPlace r (finds .the) in
-      let back = stand-back (bytesOf (length us)) (modesBytes us) (finds .stand) in
-      simp (table-header r sizes s rest t is, held, finds .told) (
-      ap (λ (k : ℕ). modeAt s place k) (ap length e)
-      ∙ first-told (r .N) (sizes .modes) (finds .first) (finds .later) s place (finds .end)
-      (rw e at (shape (finds .the .box) us (finds .known) .modes)) (subst (λ (vs : List ℕ). Stands s place (modesBytes vs) (finds .end)) e back)
-      )
+      let f = finds in
+      let us = f .first ∷ f .later in
+      let place = firstPlace r (the r f) in
+      simp (table-header r sizes s rest t is, held, f .told)
+      (first-told (r .N) (sizes .modes) (f .first) (f .later) s place (f .end) (shape (f .box) us (f .known) .modes) (stand-back (bytesOf (length us)) (modesBytes us) (f .stand)))

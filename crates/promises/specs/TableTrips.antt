@@ -19,7 +19,7 @@ use Rattle.meaning.specs.Trees.{Tree, modesBytes, longest, below, Pattern, tabl
 use Rattle.meaning.specs.Control as C
 use Rattle.meaning.specs.Control.{idle, stateWith, call}
 use Rattle.promises.specs.Bytes.{bytes-some}
-use Rattle.promises.specs.Finds.{nextPlace, finds, call-finds}
+use Rattle.promises.specs.Finds.{nextPlace, firstPlace, the, finds, call-finds}
 use Rattle.promises.specs.Laws.{Sizes, Splits, Motion}
 use Rattle.promises.specs.Layouts.{first-read, headed, table-header}
 use Rattle.promises.specs.Patterns as Q
@@ -142,37 +142,31 @@ module _ (r : Rules) (sizes : Sizes r) (splits : Splits r) (motion : Motion r) (
   known : Over r Known t D root
   known = over-short r (longest t) (Good r (rule r)) Known (λ b us l g. (g, l)) t D root (omega arith) works
 
-  tile-trip : (x : Reading) → holds r root x ≡ true → (b : Box) (us : List ℕ) (place end u : ℕ) (vs : List ℕ) → us ≡ u ∷ vs → Known b us → headed n ≤ place
-      → Stands table place (bytesOf (length us) ++ modesBytes us) end → holds r b x ≡ true
-      → call r table idle x ≡ Answer.Mode u (stateWith vs (nextPlace (place + length (bytesOf (length us))) u)) → TripOn r table (length us) x
-  tile-trip x w b [] place end u vs e k l p h c = absurd (omega (arith, k .0 .shape .some))
-  tile-trip x w b (v ∷ ws) place end u vs e k l p h c =
-      let first = place + length (bytesOf (suc (length ws))) in
-      let a : u ≡ v = cc in
-      let d : vs ≡ ws = cc in
-      let ready : Ready r motion table (v ∷ ws) first x = record {
-        kept = begin b;
-        modes = k .0 .shape .modes;
-        few = k .0 .shape .few;
-        far = omega (arith, length-append (bytesOf 1) (bytesOf n), bytes-some 1, bytes-some n);
-        end = end;
-        stand = stand-back (bytesOf (suc (length ws))) (modesBytes (v ∷ ws)) p;
-        here = motion .at-begin b x h;
-        lands = works-exactly r b (v ∷ ws) .0 (k .0 .works);
-      } in (
-        motion .root-safe x w,
-        answers (ToGoOn r table (length ws)) idle x v (stateWith ws (nextPlace first v)) (rw (a, d) at c)
-            (λ y f. let q = next-ready v ws first x ready y f in to-go ws (nextPlace first v) y (q .0) (q .1)),
-      )
-
   pub table-trips : (x : Reading) → holds r root x ≡ true → TileTrip r t x
   table-trips x h =
       let shape : (b : Box) (us : List ℕ) → Known b us → Pattern K N us = λ b us k. k .0 .shape in
       let f = finds r sizes splits Known shape table [] t is known x h in
-      let c = call-finds r sizes splits Known shape table [] t is known x h in
+      let u = f .first in
+      let us = f .later in
+      let g = f .known .0 in
+      let place = firstPlace r (the r f) in
+      let ready : Ready r motion table (u ∷ us) place x = record {
+        kept = begin (f .box);
+        modes = g .shape .modes;
+        few = g .shape .few;
+        far = omega (arith, f .behind, length-append (bytesOf 1) (bytesOf n), bytes-some 1, bytes-some n);
+        end = f .end;
+        stand = stand-back (bytesOf (suc (length us))) (modesBytes (u ∷ us)) (f .stand);
+        here = motion .at-begin (f .box) x (f .holds-it);
+        lands = works-exactly r (f .box) (u ∷ us) .0 (g .works);
+      } in
       record {
-        the = f .the;
+        the = the r f;
         only = f .only;
         short = f .known .1;
-        trip = tile-trip x h (f .the .box) (f .the .modes) (f .the .place) (f .end) (f .first) (f .later) (f .modes-are) (f .known) (f .behind) (f .stand) (f .holds-it) c;
+        trip = (
+          motion .root-safe x h,
+          answers (ToGoOn r table (length us)) idle x u (stateWith us (nextPlace place u)) (call-finds r sizes splits Known shape table [] t is known x h)
+              (λ y q. let w = next-ready u us place x ready y q in to-go us (nextPlace place u) y (w .0) (w .1)),
+        );
       }

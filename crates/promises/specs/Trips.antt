@@ -8,9 +8,13 @@ use native.Mathlib.Omega.{arith}
 use Rattle.meaning.specs.Runs.{Run, start, sample, Samples, none, next}
 
 module _ {State Reading : Type 0} (idle : State) (gives : State → Reading → ℕ → State → Type 0) (follows : ℕ → Reading → Reading → Bool) where
-  -- a sample: a call gives some mode, and whatever it gives and whatever reading may follow is as P says
+  -- a call is answered: it gives some mode and the next state
+  abbrev pub Answered : State → Reading → Type 0
+  Answered st x = (u : ℕ) × (then : State) × gives st x u then
+
+  -- a sample: a call is answered, and whatever it gives and whatever reading may follow is as P says
   pub record Sampled (P : State → Reading → Type 0) (st : State) (x : Reading) : Type 0 where
-    pub told : (u : ℕ) × (then : State) × gives st x u then
+    pub told : Answered st x
     pub leads : {u : ℕ} {then : State} {y : Reading} → gives st x u then → follows u x y ≡ true → P then y
 
   module _ (safe goal : Reading → Bool) where
@@ -29,15 +33,14 @@ module _ {State Reading : Type 0} (idle : State) (gives : State → Reading → 
       abbrev pub Leads : ℕ → State → Reading → State → Reading → Type 0
       Leads = Samples idle gives starts follows
 
-      -- a trip, by what samples lead to
+      -- a trip of m samples, by what they lead to
       pub record Made (m : ℕ) (x : Reading) : Type 0 where
         pub some : 1 ≤ m
-        -- during the first m samples no call is refused, and every reading lies in S
-        pub answered : {i : ℕ} {st : State} {y : Reading} → Leads i idle x st y → i < m → (u : ℕ) × (then : State) × gives st y u then
-        pub in-safe : {i : ℕ} {st : State} {y : Reading} → Leads i idle x st y → i ≤ m → safe y ≡ true
-        -- it is idle after just m of them, on a reading in the goal, and not before
-        pub busy : {i : ℕ} {st : State} {y : Reading} → Leads i idle x st y → 1 ≤ i → i < m → st ≡ idle → ⊥
-        pub ends : {i : ℕ} {st : State} {y : Reading} → Leads i idle x st y → i ≡ m → (st ≡ idle) × (goal y ≡ true)
+        -- while there are fewer, the reading lies in S, the call is answered, and only the first is idle
+        pub during : {i : ℕ} {st : State} {y : Reading} → Leads i idle x st y → i < m
+            → (safe y ≡ true) × (1 ≤ i → st ≡ idle → ⊥) × Answered st y
+        -- after just m, whatever readings came, it is idle again, the reading in S and in the goal
+        pub ends : {st : State} {y : Reading} → Leads m idle x st y → (safe y ≡ true) × (st ≡ idle) × (goal y ≡ true)
 
       after : {i : ℕ} {st v : State} {x z : Reading} → Leads i st x v z → (m : ℕ) → i ≤ m → ToGo m st x → ToGo (m - i) v z
       unfolding ToGo
@@ -45,98 +48,79 @@ module _ {State Reading : Type 0} (idle : State) (gives : State → Reading → 
       after (next {m = i} g f rest) zero l h = absurd (omega arith)
       after (next {m = i} g f rest) (suc m) l h = let e : suc m - suc i ≡ m - i = omega arith in rw e (after rest m (omega arith) (h .2 .leads g f))
 
-      -- with some to go, and with none
-      going : (k : ℕ) {st : State} {x : Reading} → 1 ≤ k → ToGo k st x → (st ≡ idle → ⊥) × ((u : ℕ) × (then : State) × gives st x u then)
-      unfolding ToGo
-      going zero l h = absurd (omega arith)
-      going (suc k) l h = (h .1, h .2 .told)
-
-      gone : (k : ℕ) {st : State} {x : Reading} → k ≡ 0 → ToGo k st x → (st ≡ idle) × (goal x ≡ true)
-      unfolding ToGo
-      gone zero e h = (h .1, h .2)
-      gone (suc k) e h = absurd (omega arith)
-
-      safe-now : (k : ℕ) (st : State) (x : Reading) → ToGo k st x → safe x ≡ true
-      unfolding ToGo
-      safe-now zero st x h = h .0
-      safe-now (suc k) st x h = h .0
-
       pub made : (m : ℕ) (x : Reading) → Trip m x → Made m x
+      unfolding ToGo
       made zero x t = absurd t
-      made (suc m) x t = record { some = omega arith; answered = answered; in-safe = in-safe; busy = busy; ends = ends }
+      made (suc m) x t = record { some = omega arith; during = during; ends = λ k. ends k refl }
         where
-          answered : {i : ℕ} {st : State} {y : Reading} → Leads i idle x st y → i < suc m → (u : ℕ) × (then : State) × gives st y u then
-          answered none l = t .1 .told
-          answered (next {m = i} g f rest) l = going (m - i) (omega arith) (after rest m (omega arith) (t .1 .leads g f)) .1
+          going : (k : ℕ) {st : State} {y : Reading} → 1 ≤ k → ToGo k st y → (safe y ≡ true) × (st ≡ idle → ⊥) × Answered st y
+          going zero l h = absurd (omega arith)
+          going (suc k) l h = (h .0, h .1, h .2 .told)
 
-          in-safe : {i : ℕ} {st : State} {y : Reading} → Leads i idle x st y → i ≤ suc m → safe y ≡ true
-          in-safe none l = t .0
-          in-safe (next {m = i} {v = st} {z = y} g f rest) l = safe-now (m - i) st y (after rest m (omega arith) (t .1 .leads g f))
+          during : {i : ℕ} {st : State} {y : Reading} → Leads i idle x st y → i < suc m
+              → (safe y ≡ true) × (1 ≤ i → st ≡ idle → ⊥) × Answered st y
+          during none l = (t .0, λ k. absurd (omega arith), t .1 .told)
+          during (next {m = i} g f rest) l = let h = going (m - i) (omega arith) (after rest m (omega arith) (t .1 .leads g f)) in (h .0, λ k. h .1, h .2)
 
-          busy : {i : ℕ} {st : State} {y : Reading} → Leads i idle x st y → 1 ≤ i → i < suc m → st ≡ idle → ⊥
-          busy none k l = absurd (omega arith)
-          busy (next {m = i} g f rest) k l = going (m - i) (omega arith) (after rest m (omega arith) (t .1 .leads g f)) .0
-
-          ends : {i : ℕ} {st : State} {y : Reading} → Leads i idle x st y → i ≡ suc m → (st ≡ idle) × (goal y ≡ true)
+          ends : {i : ℕ} {st : State} {y : Reading} → Leads i idle x st y → i ≡ suc m → (safe y ≡ true) × (st ≡ idle) × (goal y ≡ true)
           ends none e = absurd (omega arith)
-          ends (next {m = i} g f rest) e = gone (m - i) (omega arith) (after rest m (omega arith) (t .1 .leads g f))
+          ends (next {m = i} g f rest) e = let q : m - i ≡ 0 = omega arith in rw q at (after rest m (omega arith) (t .1 .leads g f))
 
-    -- ---- trips repeated
+      -- ---- trips repeated, `starts` the readings on which they begin
 
-    -- idle again, the reading in the goal, and so where trips begin
-    pub record Home (starts : Reading → Bool) (st : State) (y : Reading) : Type 0 where
-      pub again : st ≡ idle
-      pub in-goal : goal y ≡ true
-      pub in-root : starts y ≡ true
+      -- where a run stands: idle where a trip begins, or with some samples to go
+      pub data OnTheWay : State → Reading → Type 0 where
+        begins : {x : Reading} → starts x ≡ true → OnTheWay idle x
+        under-way : {st : State} {x : Reading} (m : ℕ) → ToGo (suc m) st x → OnTheWay st x
 
-    -- of every run, of any length
-    pub record Repeated (starts : Reading → Bool) (most : ℕ) : Type 0 where
-      -- no call is refused
-      pub answered : {st : State} {x : Reading} → Run idle gives starts follows st x → (u : ℕ) × (then : State) × gives st x u then
-      -- every reading lies in S, and, where the state is idle, where trips begin
-      pub in-safe : {st : State} {x : Reading} → Run idle gives starts follows st x → safe x ≡ true
-      pub in-root : {x : Reading} → Run idle gives starts follows idle x → starts x ≡ true
-      -- From each idle call on there is a number of samples, at most `most`, after which it is home whatever readings came.
-      pub returns : {x : Reading} → Run idle gives starts follows idle x
-          → (m : ℕ) × (1 ≤ m) × (m ≤ most) × ((st : State) (y : Reading) → Samples idle gives starts follows m idle x st y → Home starts st y)
+      -- idle again, the reading in the goal, and so where a trip begins
+      pub record Home (st : State) (y : Reading) : Type 0 where
+        pub again : st ≡ idle
+        pub in-goal : goal y ≡ true
+        pub in-root : starts y ≡ true
 
-    module _ (starts : Reading → Bool) (home : (x : Reading) → goal x ≡ true → starts x ≡ true) (most : ℕ)
-        (trips : (x : Reading) → starts x ≡ true → (m : ℕ) × (m ≤ most) × Trip m x) where
-      -- where a run stands: idle where trips begin, or with some samples to go
-      data On : State → Reading → Type 0 where
-        begins : {x : Reading} → starts x ≡ true → On idle x
-        under-way : {st : State} {x : Reading} (m : ℕ) → ToGo (suc m) st x → On st x
+      -- of every run, of any length
+      pub record Repeated (most : ℕ) : Type 0 where
+        -- no call is refused
+        pub answered : {st : State} {x : Reading} → Run idle gives starts follows st x → Answered st x
+        -- every reading lies in S, and a trip begins on it where the state is idle
+        pub in-safe : {st : State} {x : Reading} → Run idle gives starts follows st x → safe x ≡ true
+        pub in-root : {x : Reading} → Run idle gives starts follows idle x → starts x ≡ true
+        -- From each idle call on there is a number of samples, at most `most`, after which it is home whatever readings came.
+        pub returns : {x : Reading} → Run idle gives starts follows idle x → (m : ℕ) × (1 ≤ m) × (m ≤ most) × ((st : State) (y : Reading) → Leads m idle x st y → Home st y)
 
-      on : (m : ℕ) (st : State) (x : Reading) → ToGo m st x → On st x
-      unfolding ToGo
-      on zero st x h = let e : st ≡ idle = h .1 in rw e (begins (home x (h .2)))
-      on (suc m) st x h = under-way m h
+      module _ (home : (x : Reading) → goal x ≡ true → starts x ≡ true) (most : ℕ) (trips : (x : Reading) → starts x ≡ true → (m : ℕ) × (m ≤ most) × Trip m x) where
+        on : (m : ℕ) (st : State) (x : Reading) → ToGo m st x → OnTheWay st x
+        unfolding ToGo
+        on zero st x h = let e : st ≡ idle = h .1 in rw e (begins (home x (h .2)))
+        on (suc m) st x h = under-way m h
 
-      goes : {st : State} {x : Reading} → On st x → (safe x ≡ true) × Sampled On st x
-      unfolding ToGo
-      goes (begins {x = x} h) = let w = trips x h in of (w .0) (w .2)
-        where
-          of : (m : ℕ) → Trip m x → (safe x ≡ true) × Sampled On idle x
-          of zero t = absurd t
-          of (suc m) t = (t .0, record { told = t .1 .told; leads = λ {u} {then} {y} g f. on m then y (t .1 .leads g f) })
-      goes (under-way m h) = (h .0, record { told = h .2 .told; leads = λ {u} {then} {y} g f. on m then y (h .2 .leads g f) })
+        -- on the way the reading is in S, the call is answered, and whatever may follow is on the way
+        pub goes : {st : State} {x : Reading} → OnTheWay st x → (safe x ≡ true) × Sampled OnTheWay st x
+        unfolding ToGo
+        goes (begins {x = x} h) = let w = trips x h in of (w .0) (w .2)
+          where
+            of : (m : ℕ) → Trip m x → (safe x ≡ true) × Sampled OnTheWay idle x
+            of zero t = absurd t
+            of (suc m) t = (t .0, record { told = t .1 .told; leads = λ {u} {then} {y} g f. on m then y (t .1 .leads g f) })
+        goes (under-way m h) = (h .0, record { told = h .2 .told; leads = λ {u} {then} {y} g f. on m then y (h .2 .leads g f) })
 
-      runs-on : {st : State} {x : Reading} → Run idle gives starts follows st x → On st x
-      runs-on (start h) = begins h
-      runs-on (sample run g f) = goes (runs-on run) .1 .leads g f
+        run-goes : {st : State} {x : Reading} → Run idle gives starts follows st x → OnTheWay st x
+        run-goes (start h) = begins h
+        run-goes (sample run g f) = goes (run-goes run) .1 .leads g f
 
-      idle-begins : {st : State} {x : Reading} → On st x → st ≡ idle → starts x ≡ true
-      unfolding ToGo
-      idle-begins (begins h) e = h
-      idle-begins (under-way m h) e = absurd (h .1 e)
+        idle-begins : {st : State} {x : Reading} → OnTheWay st x → st ≡ idle → starts x ≡ true
+        unfolding ToGo
+        idle-begins (begins h) e = h
+        idle-begins (under-way m h) e = absurd (h .1 e)
 
-      pub repeated : Repeated starts most
-      repeated = record {
-        answered = λ run. goes (runs-on run) .1 .told;
-        in-safe = λ run. goes (runs-on run) .0;
-        in-root = λ run. idle-begins (runs-on run) refl;
-        returns = λ {x} run.
-            let w = trips x (idle-begins (runs-on run) refl) in
-            let t = made starts (w .0) x (w .2) in
-            (w .0, t .some, w .1, λ st y k. let e = t .ends k refl in record { again = e .0; in-goal = e .1; in-root = home y (e .1) });
-      }
+        pub repeated : Repeated most
+        repeated = record {
+          answered = λ run. goes (run-goes run) .1 .told;
+          in-safe = λ run. goes (run-goes run) .0;
+          in-root = λ run. idle-begins (run-goes run) refl;
+          returns = λ {x} run.
+              let w = trips x (idle-begins (run-goes run) refl) in
+              let t = made (w .0) x (w .2) in
+              (w .0, t .some, w .1, λ st y k. let e = t .ends k in record { again = e .1; in-goal = e .2; in-root = home y (e .2) });
+        }
