@@ -19,17 +19,17 @@ use Rattle.meaning.specs.declared.Plant.{Plant}
 use Rattle.meaning.specs.declared.Verdict.{Verdict}
 use Rattle.meaning.specs.Boxes as B
 use Rattle.meaning.specs.Boxes.{Side, side, sideAt, covers, lies, within, long, middle, halves, inFront, pieces, anyLong, children}
+use Rattle.meaning.specs.Images.{Step}
 use Rattle.meaning.specs.Numbers.{bytesOf}
-use Rattle.meaning.specs.Plants.{rootOf}
+use Rattle.meaning.specs.Plants.{rootOf, safeOf, stepOf}
 use Rattle.meaning.specs.Rules.{Rules, rule}
 use Rattle.meaning.specs.Trees as T
 use Rattle.meaning.specs.Trees.{Tree, Forest, split, tile, leaf, more, modesBytes, layout, layouts, below, tableOf, Over, Overs}
-use Rattle.meaning.specs.Tables.{rulesOf, checked}
+use Rattle.meaning.specs.Tables.{rulesFrom, rulesOf, checked}
 use Rattle.promises.specs.Bytes.{one-byte}
 use Rattle.promises.specs.Checked.{checked-exactly}
 use Rattle.promises.specs.Children.{Child, children-are}
 use Rattle.promises.specs.Judged.{judged-sound}
-use Rattle.promises.specs.PlantRules.{table-size}
 use Rattle.promises.specs.Shapes.{Good, Working, over-map}
 use Rattle.promises.specs.Sound.{Sound}
 
@@ -123,10 +123,46 @@ within-size [] (t ∷ b) e = never e
 within-size (s ∷ a) [] e = never e
 within-size (s ∷ a) (t ∷ b) e = ap suc (within-size a b (second (covers t s) (all (lies a b)) e))
 
--- ---- the bound of a plant
+-- ---- document 01's rules, whatever is tiled and wherever patterns end
+
+-- modes below 128 take a byte each
+modes-length : (N : ℕ) (us : List ℕ) → N ≤ 128 → below N us → length (modesBytes us) ≡ length us
+unfolding T.below T.modesBytes
+modes-length N [] l h = refl
+modes-length N (u ∷ us) l h = rw (one-byte u (omega (arith, h .0))) (ap suc (modes-length N us l (h .1)))
+
+module _ (n N K D : ℕ) (root goal safe : List Side) (step : ℕ → Step) (rooms : n ≤ 4) (modes : N ≤ 128) (longest : K ≤ 6) (sides : length root ≡ n) where
+  abbrev rules : Rules
+  rules = rulesFrom n N K D root goal safe step
+
+  abbrev Sided : List Side → Type 0
+  Sided b = length b ≡ n
+
+  brief : (b : List Side) (us : List ℕ) → Good rules (rule rules) b us → length (bytesOf (length us) ++ modesBytes us) ≤ 7
+  brief b us g =
+      let few : length us ≤ 6 = omega (arith, g .shape .few) in
+      let number = ap length (one-byte (length us) (omega arith)) in
+      omega (arith, number, length-append (bytesOf (length us)) (modesBytes us), modes-length N us modes (g .shape .modes))
+
+  -- the header has two bytes
+  pub table-length : (t : Tree) → Working rules t → length (tableOf rules t) ≤ 2 + most (2 ^ n) 7 D
+  table-length t o =
+      let short = over-map rules (Good rules (rule rules)) (λ b us. length (bytesOf (length us) ++ modesBytes us) ≤ 7) brief t D root o in
+      let tree = tree-length rules (2 ^ n) 7 (one-le-pow n 2 (omega arith)) Sided
+      (λ b z. let q : length b ≡ n = z in rw (← q) (children-few b))
+      (λ b z. every-map (Child b) Sided (λ a k. within-size a b (k .inside) ∙ z) (children b) (children-are b))
+      t D root sides short in
+      omega (
+        arith,
+        tree,
+        length-append (bytesOf 1) (bytesOf n ++ layout t),
+        length-append (bytesOf n) (layout t),
+        ap length (one-byte 1 (omega arith)),
+        ap length (one-byte n (omega arith)),
+      )
 
 -- n·D ≤ 12, D ≤ 6: two dimensions of depth 6 have the longest
-cap : (n d : ℕ) → 1 ≤ n → n ≤ 4 → d ≤ 6 → n * d ≤ 12 → most (2 ^ n) 7 d ≤ 30_037
+pub cap : (n d : ℕ) → 1 ≤ n → n ≤ 4 → d ≤ 6 → n * d ≤ 12 → most (2 ^ n) 7 d ≤ 30_037
 unfolding most
 cap zero d l h k e = absurd (omega arith)
 cap (suc zero) d l h k e = omega (arith, most-grows 2 7 (omega arith) d 6 k)
@@ -135,36 +171,23 @@ cap (suc (suc (suc zero))) d l h k e = omega (arith, most-grows 8 7 (omega arith
 cap (suc (suc (suc (suc zero)))) d l h k e = omega (arith, most-grows 16 7 (omega arith) d 3 (omega arith))
 cap (suc (suc (suc (suc (suc n))))) d l h k e = absurd (omega arith)
 
--- modes below 128 take a byte each
-modes-length : (N : ℕ) (us : List ℕ) → N ≤ 128 → below N us → length (modesBytes us) ≡ length us
-unfolding T.below T.modesBytes
-modes-length N [] l h = refl
-modes-length N (u ∷ us) l h = rw (one-byte u (omega (arith, h .0))) (ap suc (modes-length N us l (h .1)))
+-- at most sixteen tiles, n·D ≤ 4: one dimension of depth 4 has the longest
+pub cap-few : (n d : ℕ) → 1 ≤ n → n ≤ 4 → n * d ≤ 4 → most (2 ^ n) 7 d ≤ 127
+unfolding most
+cap-few zero d l h e = absurd (omega arith)
+cap-few (suc zero) d l h e = omega (arith, most-grows 2 7 (omega arith) d 4 (omega arith))
+cap-few (suc (suc zero)) d l h e = omega (arith, most-grows 4 7 (omega arith) d 2 (omega arith))
+cap-few (suc (suc (suc zero))) d l h e = omega (arith, most-grows 8 7 (omega arith) d 1 (omega arith))
+cap-few (suc (suc (suc (suc zero)))) d l h e = omega (arith, most-grows 16 7 (omega arith) d 1 (omega arith))
+cap-few (suc (suc (suc (suc (suc n))))) d l h e = absurd (omega arith)
 
-module _ (p : Plant) (s : Sound p) where
-  abbrev Sided : List Side → Type 0
-  Sided b = length b ≡ p .n
+-- ---- the bound of a plant: an accepted table has at most 30,039 bytes
 
-  brief : (b : List Side) (us : List ℕ) → Good (rulesOf p) (rule (rulesOf p)) b us → length (bytesOf (length us) ++ modesBytes us) ≤ 7
-  brief b us g =
-      let few : length us ≤ 6 = omega (arith, g .shape .few, s .k-high) in
-      let number = ap length (one-byte (length us) (omega arith)) in
-      omega (arith, number, length-append (bytesOf (length us)) (modesBytes us), modes-length (p .modes) us (omega (arith, s .modes-high)) (g .shape .modes))
-
-  pub working-length : (t : Tree) → Working (rulesOf p) t → length (tableOf (rulesOf p) t) ≤ 30_039
-  working-length t o =
-      let r = rulesOf p in
-      let c = 2 ^ p .n in
-      let short = over-map r (Good r (rule r)) (λ b us. length (bytesOf (length us) ++ modesBytes us) ≤ 7) brief t (p .d) (rootOf p) o in
-      let tree = tree-length r c 7 (one-le-pow (p .n) 2 (omega arith)) Sided
-      (λ b z. let q : length b ≡ p .n = z in rw (← q) (children-few b))
-      (λ b z. every-map (Child b) Sided (λ a k. within-size a b (k .inside) ∙ z) (children b) (children-are b))
-      t (p .d) (rootOf p) (length-tab (sideAt (p .rlo) (p .rhi)) (p .n) 0) short in
-      omega (arith, tree, cap (p .n) (p .d) (s .n-low) (s .n-high) (s .d-high) (s .nd-high), table-size p s t)
-
--- an accepted table has at most 30,039 bytes
 pub at-most : (plant table : List ℕ) → checked plant table ≡ Verdict.Accepted → length table ≤ 30_039
-at-most plant table a = let t = checked-exactly plant table .0 a in of (t .p) (t .tree) (t .is) (working-length (t .p) (judged-sound plant (t .p) (t .judged)) (t .tree) (t .works))
+at-most plant table a = let t = checked-exactly plant table .0 a in of (t .p) (judged-sound plant (t .p) (t .judged)) (t .tree) (t .works) (t .is)
   where
-    of : (p : Plant) (t : Tree) → table ≡ tableOf (rulesOf p) t → length (tableOf (rulesOf p) t) ≤ 30_039 → length table ≤ 30_039
-    of p t q l = rw q l
+    of : (p : Plant) → Sound p → (t : Tree) → Working (rulesOf p) t → table ≡ tableOf (rulesOf p) t → length table ≤ 30_039
+    of p s t o q =
+        let l = table-length (p .n) (p .modes) (p .k) (p .d) (rootOf p) (rootOf p) (safeOf p) (stepOf p)
+        (s .n-high) (omega (arith, s .modes-high)) (s .k-high) (length-tab (sideAt (p .rlo) (p .rhi)) (p .n) 0) t o in
+        rw q (omega (arith, l, cap (p .n) (p .d) (s .n-low) (s .n-high) (s .d-high) (s .nd-high)))
