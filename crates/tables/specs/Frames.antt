@@ -1,9 +1,59 @@
--- A plant as the code hands it on: its small numbers by value, its coefficients lent. Definitions alone.
+-- A frame: what a table is made, checked and run by, its small numbers by value and its coefficients lent; its rules, and what is asked of it, which
+-- a judged plant's own frame has. Definitions alone.
+use Prim.Native.Nat.{ℕ, _≤_, _<_}
+use mathlib.Core.Path.{_≡_}
+use mathlib.Core.Bool.{true}
 use mathlib.Core.List.{List}
-use lib.IntN.{ℤ}
+use lib.IntN.{ℤ, pos, _-ℤ_}
+use lib.Signed.{_≤ℤ_}
+use Rattle.laws.specs.Lists.{at}
 use Rattle.meaning.specs.declared.Plant.{Plant}
+use Rattle.meaning.specs.Boxes.{within}
+use Rattle.meaning.specs.Plants.{edgeLimit, bandLimit, rowStart}
+use Rattle.meaning.specs.Rules.{Rules}
+use Rattle.meaning.specs.Tables.{rulesFrom}
+use Rattle.tables.specs.declared.boxes.Bx.{Bx}
 use Rattle.tables.specs.declared.frames.Frame.{Frame}
+use Rattle.tables.specs.Boxes.{boxOf, Small}
+use Rattle.tables.specs.Images.{stepFrom, RowSound}
 
+abbrev pub boxFrom : List ℤ → List ℤ → Bx
+boxFrom lo hi = record { lo = lo; hi = hi }
+
+-- a plant's own: R is tiled, and patterns end in R
+abbrev pub frameOf : Plant → Frame
+frameOf p = record {
+  n = p .n;
+  modes = p .modes;
+  q = p .q;
+  k = p .k;
+  d = p .d;
+  root = boxFrom (p .rlo) (p .rhi);
+  goal = boxFrom (p .rlo) (p .rhi);
+  safe = boxFrom (p .slo) (p .shi);
+  band = boxFrom (p .wlo) (p .whi);
+}
+
+abbrev pub rulesIn : Frame → List ℤ → Rules
+rulesIn f coef =
+    rulesFrom (f .n) (f .modes) (f .k) (f .d) (boxOf (f .n) (f .root)) (boxOf (f .n) (f .goal)) (boxOf (f .n) (f .safe))
+    (stepFrom (f .n) (f .q) (f .band .lo) (f .band .hi) coef)
+
+pub record FrameSound (f : Frame) (coef : List ℤ) : Type 0 where
+  pub rooms : f .n ≤ 4
+  pub longest : f .k ≤ 6
+  pub least : 1 ≤ f .q
+  pub most : f .q ≤ 10_000
+  pub modes : f .modes ≤ 16
+  pub root : Small edgeLimit (boxOf (f .n) (f .root))
+  pub goal : Small edgeLimit (boxOf (f .n) (f .goal))
+  pub safe : Small edgeLimit (boxOf (f .n) (f .safe))
+  pub band : Small bandLimit (boxOf (f .n) (f .band))
+  pub in-safe : within (boxOf (f .n) (f .goal)) (boxOf (f .n) (f .safe)) ≡ true
+  pub wide : (i : ℕ) → i < f .n → (pos (f .q) -ℤ pos 1) ≤ℤ (at (f .band .hi) i -ℤ at (f .band .lo) i)
+  pub rows : (u i : ℕ) → u < f .modes → i < f .n → RowSound (f .n) coef (rowStart (f .n) u i)
+
+-- TODO goes with the search's recut: a plant from a frame
 abbrev pub plantFrom : Frame → List ℤ → Plant
 plantFrom f coef = record {
   n = f .n;

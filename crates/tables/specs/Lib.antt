@@ -3,9 +3,9 @@ pub mod Images
 pub mod Frames
 pub mod Tiles
 pub mod Modes
-pub mod Trees
 pub mod Control
 pub mod Search
 pub mod Limits
 pub mod Beginnings
 pub mod Makes
+pub mod Walks

@@ -17,16 +17,13 @@ use meaning::State;
 use meaning::Verdict;
 use meaning::Walk;
 ghost use mathlib.Core.Path.{_≡_};
-ghost use mathlib.Core.List.{List};
 ghost use Prim.Native.Nat.{_≤_};
-ghost use lib.IntN.{ℤ};
 ghost use Rattle.meaning.specs.Boxes.{fits};
 ghost use Rattle.meaning.specs.Control.{idleCall, runningCall, call};
-ghost use Rattle.meaning.specs.Tables.{readingOf, rulesOf, controlled};
+ghost use Rattle.meaning.specs.Tables.{readingOf, controlled};
 ghost use Rattle.tables.specs.Boxes.{boxOf};
-ghost use Rattle.tables.specs.Frames.{plantFrom};
+ghost use Rattle.tables.specs.Frames.{rulesIn, FrameSound};
 ghost use Rattle.tables.specs.Control.{admission};
-ghost use Rattle.tables.specs.Trees.{Ready};
 
 // Whether a call may go on: the state can be, and then the box holds the reading; 12 before 11.
 fn admit(can: bool, n: usize, b: Bx, x: [i64; 4]) -> Verdict
@@ -46,13 +43,20 @@ fn admit(can: bool, n: usize, b: Bx, x: [i64; 4]) -> Verdict
 }
 
 // Idle: the reading must be in R; its tile is found, its first mode answered.
-fn idle_call(f: Frame, table: &[u8], at: usize, place: usize, x: [i64; 4]) -> Answer
-    requires { ⌜ Ready f (f .root) ⌝ }
-    ensures { λ r. ⌜ ((coef : List ℤ) → r ≡ idleCall (rulesOf (plantFrom f coef)) (now (table .entry)) at place x) ⌝ }
+fn idle_call(
+    f: Frame,
+    coef: &[i64; 320],
+    table: &[u8],
+    at: usize,
+    place: usize,
+    x: [i64; 4],
+) -> Answer
+    requires { ⌜ FrameSound f (now coef) ⌝ }
+    ensures { λ r. ⌜ r ≡ idleCall (rulesIn f (now (coef .entry))) (now (table .entry)) at place x ⌝ }
 {
     match admit(place == 0, f.n, f.root, x) {
         Verdict::Refused(e) => Answer::Refused(e),
-        Verdict::Accepted => match finds::find(f, table, at, f.root, f.d, x) {
+        Verdict::Accepted => match finds::find(f, coef, table, f.d, at, f.root, x) {
             Found::Refused(e) => Answer::Refused(e),
             Found::Tile(from, k) => states::answer(table, from, k),
         },
@@ -60,11 +64,18 @@ fn idle_call(f: Frame, table: &[u8], at: usize, place: usize, x: [i64; 4]) -> An
 }
 
 // Running: the reading must be in S; the mode at the place is answered.
-fn running_call(f: Frame, table: &[u8], place: usize, left: usize, x: [i64; 4]) -> Answer
-    requires { ⌜ (f .n ≤ 4) × (1 ≤ left) ⌝ }
-    ensures { λ r. ⌜ ((coef : List ℤ) → r ≡ runningCall (rulesOf (plantFrom f coef)) (now (table .entry)) place left x) ⌝ }
+fn running_call(
+    f: Frame,
+    coef: &[i64; 320],
+    table: &[u8],
+    place: usize,
+    left: usize,
+    x: [i64; 4],
+) -> Answer
+    requires { ⌜ f .n ≤ 4 ⌝ }
+    ensures { λ r. ⌜ r ≡ runningCall (rulesIn f (now (coef .entry))) (now (table .entry)) place left x ⌝ }
 {
-    let can = states::can_run(f, table, place, left);
+    let can = states::can_run(f.k, f.modes, table, place, left);
     match admit(can, f.n, f.safe, x) {
         Verdict::Refused(e) => Answer::Refused(e),
         Verdict::Accepted => states::answer(table, place, left),
@@ -72,17 +83,17 @@ fn running_call(f: Frame, table: &[u8], place: usize, left: usize, x: [i64; 4]) 
 }
 
 // A call on a plant that was read.
-fn call(f: Frame, table: &[u8], st: State, x: [i64; 4]) -> Answer
-    requires { ⌜ Ready f (f .root) ⌝ }
-    ensures { λ r. ⌜ ((coef : List ℤ) → r ≡ call (rulesOf (plantFrom f coef)) (now (table .entry)) st x) ⌝ }
+fn call(f: Frame, coef: &[i64; 320], table: &[u8], st: State, x: [i64; 4]) -> Answer
+    requires { ⌜ FrameSound f (now coef) ⌝ }
+    ensures { λ r. ⌜ r ≡ call (rulesIn f (now (coef .entry))) (now (table .entry)) st x ⌝ }
 {
     match headers::header(f.n, table) {
         Walk::Refused(e) => Answer::Refused(e),
         Walk::Next(at) => {
             if st.left == 0 {
-                idle_call(f, table, at, st.place, x)
+                idle_call(f, coef, table, at, st.place, x)
             } else {
-                running_call(f, table, st.place, st.left, x)
+                running_call(f, coef, table, st.place, st.left, x)
             }
         }
     }
@@ -98,7 +109,8 @@ pub fn control(plant: &[u8], table: &[u8], st: State, x: [i64; 4]) -> Answer
         Verdict::Refused(e) => Answer::Refused(e),
         Verdict::Accepted => {
             let p = read.plant;
-            call(frames::framed(p), table, st, x)
+            let coef = p.coef;
+            call(frames::framed(p), &coef, table, st, x)
         }
     }
 }

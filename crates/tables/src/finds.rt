@@ -1,32 +1,28 @@
 // The tile that holds a reading (document 01, "The controller"). Of a split's children the one that holds the reading is gone into, and those
 // before it are passed: what stands behind the tile's last mode is never read.
-// Relies on passes, modes and boxes, and on crate files for numbers. Leaves out whether R holds the reading, and what the tile's modes answer.
+// Relies on walks, modes and boxes, and on crate files for numbers. Leaves out whether R holds the reading, and what the tile's modes answer.
 use crate::boxes;
 use crate::boxes::Bx;
 use crate::frames::Frame;
 use crate::modes;
-use crate::passes;
 use crate::refusals;
+use crate::walks;
 use files::numbers;
 use meaning::Found;
 use meaning::Number;
 use meaning::Walk;
 ghost use mathlib.Core.Path.{_≡_};
-ghost use mathlib.Core.List.{List};
 ghost use Prim.Native.Nat.{_≤_};
-ghost use lib.IntN.{ℤ};
-ghost use Rattle.meaning.specs.declared.Plant.{Plant};
 ghost use Rattle.meaning.specs.Control.{find, tileFound};
-ghost use Rattle.meaning.specs.Tables.{rulesOf};
+ghost use Rattle.meaning.specs.Plants.{edgeLimit};
 ghost use Rattle.meaning.specs.Verdicts.{modesAt};
-ghost use Rattle.tables.specs.Boxes.{boxOf};
-ghost use Rattle.tables.specs.Frames.{plantFrom};
-ghost use Rattle.tables.specs.Trees.{Ready};
+ghost use Rattle.tables.specs.Boxes.{boxOf, Small};
+ghost use Rattle.tables.specs.Frames.{rulesIn, FrameSound};
 
 // A tile of k modes at `from`: found, once they are all read.
 fn tile(modes: usize, k: usize, table: &[u8], from: usize) -> Found
     requires { ⌜ k ≤ 6 ⌝ }
-    ensures { λ r. ⌜ ((p : Plant) → p .modes ≡ modes → r ≡ tileFound (modesAt (rulesOf p) k (now (table .entry)) from) from k) ⌝ }
+    ensures { λ r. ⌜ r ≡ tileFound (modesAt modes k (now (table .entry)) from) from k ⌝ }
 {
     let read = modes::read_modes(modes, k, table, from);
     let answer = read.answer;
@@ -36,10 +32,18 @@ fn tile(modes: usize, k: usize, table: &[u8], from: usize) -> Found
     }
 }
 
-// The tile in the tree at `at`, over box b with `depth` left.
-pub fn find(f: Frame, table: &[u8], at: usize, b: Bx, depth: usize, x: [i64; 4]) -> Found
-    requires { ⌜ Ready f b ⌝ }
-    ensures { λ r. ⌜ ((coef : List ℤ) → r ≡ find (rulesOf (plantFrom f coef)) depth (now (table .entry)) at (boxOf (f .n) b) x) ⌝ }
+// The tile in the tree at `at`, over box b with depth d left.
+pub fn find(
+    f: Frame,
+    coef: &[i64; 320],
+    table: &[u8],
+    d: usize,
+    at: usize,
+    b: Bx,
+    x: [i64; 4],
+) -> Found
+    requires { ⌜ FrameSound f (now coef) × Small edgeLimit (boxOf (f .n) b) ⌝ }
+    ensures { λ r. ⌜ r ≡ find (rulesIn f (now (coef .entry))) d (now (table .entry)) at (boxOf (f .n) b) x ⌝ }
 {
     let Number::Value(k, next) = numbers::number(table, at) else {
         return Found::Refused(files::refusals::broken(at));
@@ -51,7 +55,7 @@ pub fn find(f: Frame, table: &[u8], at: usize, b: Bx, depth: usize, x: [i64; 4])
     if 0 < k {
         return tile(f.modes, k, table, next);
     }
-    if depth == 0 {
+    if d == 0 {
         return Found::Refused(refusals::bad_table(at));
     }
     let count = boxes::count(n, b);
@@ -60,9 +64,9 @@ pub fn find(f: Frame, table: &[u8], at: usize, b: Bx, depth: usize, x: [i64; 4])
     while c < count {
         let child = boxes::child(n, b, c);
         if n <= boxes::missed(n, child, x) {
-            return find(f, table, place, child, depth - 1, x);
+            return find(f, coef, table, d - 1, place, child, x);
         }
-        match passes::pass(f, table, place, child, depth - 1) {
+        match walks::walk(f, coef, false, table, d - 1, place, child) {
             Walk::Refused(e) => {
                 return Found::Refused(e);
             }

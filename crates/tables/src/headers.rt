@@ -5,13 +5,11 @@ use files::numbers;
 use meaning::Number;
 use meaning::Walk;
 ghost use mathlib.Core.Path.{_≡_};
-ghost use Rattle.meaning.specs.declared.Plant.{Plant};
-ghost use Rattle.meaning.specs.Tables.{rulesOf};
 ghost use Rattle.meaning.specs.Verdicts.{header};
 
-// The place behind the header of a table for a plant of n dimensions. Of the plant nothing else is asked.
+// The place behind the header of a table for n dimensions.
 pub fn header(n: usize, table: &[u8]) -> Walk
-    ensures { λ r. ⌜ ((p : Plant) → p .n ≡ n → r ≡ header (rulesOf p) (now (table .entry))) ⌝ }
+    ensures { λ r. ⌜ r ≡ header n (now (table .entry)) ⌝ }
 {
     let Number::Value(form, at) = numbers::number(table, 0) else {
         return Walk::Refused(files::refusals::broken(0));

@@ -7,8 +7,6 @@ use meaning::Number;
 use meaning::Walk;
 ghost use mathlib.Core.Path.{_≡_};
 ghost use Prim.Native.Nat.{_≤_};
-ghost use Rattle.meaning.specs.declared.Plant.{Plant};
-ghost use Rattle.meaning.specs.Tables.{rulesOf};
 ghost use Rattle.meaning.specs.Verdicts.{modesAt};
 ghost use Rattle.tables.specs.Modes.{readOf};
 
@@ -18,10 +16,10 @@ pub struct ModesRead {
     pub us: [usize; 6],
 }
 
-// The k modes at `at`, where a plant has `modes` of them. Of the plant nothing else is asked.
+// The k modes at `at`, each below `modes`.
 pub fn read_modes(modes: usize, k: usize, table: &[u8], at: usize) -> ModesRead
     requires { ⌜ k ≤ 6 ⌝ }
-    ensures { λ r. ⌜ ((p : Plant) → p .modes ≡ modes → readOf k r ≡ modesAt (rulesOf p) k (now (table .entry)) at) ⌝ }
+    ensures { λ r. ⌜ readOf k r ≡ modesAt modes k (now (table .entry)) at ⌝ }
 {
     let mut us = [0usize; 6];
     let mut w = at;

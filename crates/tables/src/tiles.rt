@@ -9,17 +9,15 @@ use meaning::Rule;
 ghost use mathlib.Core.Path.{_≡_};
 ghost use Rattle.meaning.specs.Plants.{edgeLimit};
 ghost use Rattle.meaning.specs.Rules.{rule};
-ghost use Rattle.meaning.specs.Tables.{rulesOf};
-ghost use Rattle.promises.specs.Sound.{Sound};
 ghost use Rattle.tables.specs.Boxes.{boxOf, Small};
-ghost use Rattle.tables.specs.Frames.{plantFrom};
+ghost use Rattle.tables.specs.Frames.{rulesIn, FrameSound};
 ghost use Rattle.tables.specs.Tiles.{patternOf, Pattern};
 
 // The first k modes of us, tried on box b. Leaving S is told before missing R.
 pub fn tile_rule(f: Frame, coef: &[i64; 320], k: usize, us: [usize; 6], b: Bx) -> Rule
-    requires plant { ⌜ Sound (plantFrom f (now coef)) × Small edgeLimit (boxOf (f .n) b) ⌝ }
+    requires plant { ⌜ FrameSound f (now coef) × Small edgeLimit (boxOf (f .n) b) ⌝ }
     requires pattern { ⌜ Pattern (f .modes) k us ⌝ }
-    ensures { λ r. ⌜ r ≡ rule (rulesOf (plantFrom f (now (coef .entry)))) (boxOf (f .n) b) (patternOf k us) ⌝ }
+    ensures { λ r. ⌜ r ≡ rule (rulesIn f (now (coef .entry))) (boxOf (f .n) b) (patternOf k us) ⌝ }
 {
     let n = f.n;
     let q = f.q;
@@ -40,8 +38,8 @@ pub fn tile_rule(f: Frame, coef: &[i64; 320], k: usize, us: [usize; 6], b: Bx) -
             return Rule::Leaves(i + 1);
         }
     }
-    let root = f.root;
-    if boxes::within(n, c, root) {
+    let goal = f.goal;
+    if boxes::within(n, c, goal) {
         Rule::Works
     } else {
         Rule::Misses(k)

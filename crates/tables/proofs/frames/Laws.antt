@@ -1,19 +1,27 @@
--- What a sound plant gives the functions of this crate: small boxes R and S, and each mode's step in its ranges. The only page that looks into
--- `Sound`. Assumes nothing.
+-- What a sound frame gives, each mode's step in its ranges; and that a sound plant's own frame is sound. The only page that looks into `Sound`. Assumes
+-- nothing.
 use Prim.Native.Nat.{ℕ, _+_, _*_, _≤_, _<_}
+use mathlib.Core.Path.{_≡_}
 use mathlib.Core.List.{List}
 use native.Mathlib.Omega.{arith}
 use native.Mathlib.Nat.{mul-le-mul}
-use lib.IntN.{ℤ, pos, _-ℤ_}
-use lib.Signed.{_≤ℤ_}
-use Rattle.laws.specs.Lists.{at}
+use lib.IntN.{ℤ}
 use Rattle.meaning.specs.declared.Plant.{Plant}
 use Rattle.meaning.specs.Boxes.{sideAt, sidesOf}
 use Rattle.meaning.specs.Plants.{edgeLimit, bandLimit, rootOf, safeOf, rowStart}
+use Rattle.tables.specs.declared.frames.Frame.{Frame}
 use Rattle.tables.specs.Boxes.{Small}
 use Rattle.tables.specs.Images.{RowSound, StepSound}
+use Rattle.tables.specs.Frames.{frameOf, FrameSound}
 use Rattle.promises.specs.Sound.{Edges, Sound}
 use Rattle.tables.proofs.boxes.Laws.{small-tab}
+
+-- ---- what a sound frame gives
+
+pub step-in : (f : Frame) (coef : List ℤ) → FrameSound f coef → (u : ℕ) → u < f .modes → StepSound (f .n) (f .q) (f .band .lo) (f .band .hi) coef u
+step-in f coef g u h = record { rooms = g .rooms; least = g .least; most = g .most; bands = g .band; rows = λ i k. g .rows u i h k }
+
+-- ---- a plant's own frame
 
 edges-small : {k n : ℕ} {lo hi : List ℤ} → Edges k n lo hi → Small k (sidesOf n lo hi)
 edges-small {k} {n} {lo} {hi} e =
@@ -29,21 +37,6 @@ row-inside n modes u i h m l k =
     omega (arith, mul-le-mul d b)
 
 module _ (p : Plant) (g : Sound p) where
-  pub rooms : p .n ≤ 4
-  rooms = g .n-high
-
-  pub longest : p .k ≤ 6
-  longest = g .k-high
-
-  pub root-small : Small edgeLimit (rootOf p)
-  root-small = edges-small (g .root)
-
-  pub safe-small : Small edgeLimit (safeOf p)
-  safe-small = edges-small (g .safe)
-
-  pub band-small : Small bandLimit (sidesOf (p .n) (p .wlo) (p .whi))
-  band-small = edges-small (g .band)
-
   row-sound : (u i : ℕ) → u < p .modes → i < p .n → RowSound (p .n) (p .coef) (rowStart (p .n) u i)
   row-sound u i h k = record {
     some = g .n-low;
@@ -53,14 +46,47 @@ module _ (p : Plant) (g : Sound p) where
     offset = g .offsets u i h k;
   }
 
-  pub step-sound : (u : ℕ) → u < p .modes → StepSound (p .n) (p .q) (p .wlo) (p .whi) (p .coef) u
-  step-sound u h = record { rooms = g .n-high; least = g .q-low; most = g .q-high; bands = band-small; rows = λ i k. row-sound u i h k }
+  pub own-sound : FrameSound (frameOf p) (p .coef)
+  own-sound = record {
+    rooms = g .n-high;
+    longest = g .k-high;
+    least = g .q-low;
+    most = g .q-high;
+    modes = g .modes-high;
+    root = edges-small (g .root);
+    goal = edges-small (g .root);
+    safe = edges-small (g .safe);
+    band = edges-small (g .band);
+    in-safe = g .root-safe;
+    wide = g .wide;
+    rows = row-sound;
+  }
+
+  pub framed-sound : (f : Frame) → f ≡ frameOf p → FrameSound f (p .coef)
+  framed-sound f e = rw e own-sound
+
+  -- the same by a plant's own words, for the search until it is stated over frames
+
+  pub rooms : p .n ≤ 4
+  rooms = own-sound .rooms
+
+  pub longest : p .k ≤ 6
+  longest = own-sound .longest
 
   pub divisor : 1 ≤ p .q
-  divisor = g .q-low
+  divisor = own-sound .least
 
   pub divisor-small : p .q ≤ 10_000
-  divisor-small = g .q-high
+  divisor-small = own-sound .most
 
-  pub band-wide : (i : ℕ) → i < p .n → (pos (p .q) -ℤ pos 1) ≤ℤ (at (p .whi) i -ℤ at (p .wlo) i)
-  band-wide = g .wide
+  pub root-small : Small edgeLimit (rootOf p)
+  root-small = own-sound .root
+
+  pub safe-small : Small edgeLimit (safeOf p)
+  safe-small = own-sound .safe
+
+  pub band-small : Small bandLimit (sidesOf (p .n) (p .wlo) (p .whi))
+  band-small = own-sound .band
+
+  pub step-sound : (u : ℕ) → u < p .modes → StepSound (p .n) (p .q) (p .wlo) (p .whi) (p .coef) u
+  step-sound = step-in (frameOf p) (p .coef) own-sound

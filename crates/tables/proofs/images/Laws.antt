@@ -15,14 +15,13 @@ use Rattle.laws.specs.DivisionLaws.{ceil-floor}
 use Rattle.laws.specs.Lists.{at, tab, all}
 use Rattle.laws.specs.Tabs.{length-tab, tab-snoc, map-tab}
 use Rattle.laws.specs.Tests.{orders, all-tab}
-use Rattle.meaning.specs.declared.Plant.{Plant}
 use Rattle.meaning.specs.Boxes.{Side, side, sideAt, covers, within}
 use Rattle.meaning.specs.Images.{Row, leastOf, greatestOf, extreme, imageSide, image}
-use Rattle.meaning.specs.Plants.{edgeLimit, entryLimit, safeOf, stepOf}
-use Rattle.tables.specs.Boxes.{Bounded, Small}
+use Rattle.meaning.specs.Plants.{edgeLimit, entryLimit}
+use Rattle.tables.specs.declared.frames.Frame.{Frame}
+use Rattle.tables.specs.Boxes.{boxOf, Bounded, Small}
 use Rattle.tables.specs.Images.{termLimit, rowFrom, stepFrom, Extremes}
-use Rattle.promises.specs.Sound.{Sound}
-use Rattle.tables.proofs.frames.Laws.{safe-small, divisor, band-wide}
+use Rattle.tables.specs.Frames.{FrameSound}
 use Rattle.tables.proofs.boxes.Laws.{small-tab, small-side, between, sides-stored, lies-tab}
 
 -- ---- one term: by the sign of a; and the greatest is the least of the turned side
@@ -155,20 +154,24 @@ inside-small a s b e o =
       order = o;
     }
 
-pub small-image : (p : Plant) → Sound p → (u : ℕ) (b : List Side) → Small edgeLimit b → within (image (stepOf p u) b) (safeOf p) ≡ true → Small edgeLimit (image (stepOf p u) b)
-small-image p g u b s e = rw (image-tab n (p .q) (p .wlo) (p .whi) (p .coef) u b) (small-tab f n 0 (λ j l h. at-side j (omega arith)))
-  where
-    n : ℕ
-    n = p .n
+module _ (f : Frame) (coef : List ℤ) (g : FrameSound f coef) (u : ℕ) (b : List Side) (s : Small edgeLimit b) where
+  abbrev next : List Side
+  next = image (stepFrom (f .n) (f .q) (f .band .lo) (f .band .hi) coef u) b
 
-    f : ℕ → Side
-    f = imageSideAt n (p .q) (p .wlo) (p .whi) (p .coef) u b
+  pub small-image : within next (boxOf (f .n) (f .safe)) ≡ true → Small edgeLimit next
+  small-image e = rw (image-tab (f .n) (f .q) (f .band .lo) (f .band .hi) coef u b) (small-tab sides (f .n) 0 (λ j l h. at-side j (omega arith)))
+    where
+      sides : ℕ → Side
+      sides = imageSideAt (f .n) (f .q) (f .band .lo) (f .band .hi) coef u b
 
-    inside : all (tab (λ j. covers (sideAt (p .slo) (p .shi) j) (f j)) n 0) ≡ true
-    inside = sym (ap all (lies-tab f (sideAt (p .slo) (p .shi)) n 0)) ∙ (rw (image-tab n (p .q) (p .wlo) (p .whi) (p .coef) u b) at e)
+      safe : ℕ → Side
+      safe = sideAt (f .safe .lo) (f .safe .hi)
 
-    at-side : (j : ℕ) → j < p .n → Bounded edgeLimit (f j)
-    at-side j h =
-        inside-small (f j) (sideAt (p .slo) (p .shi) j) (small-side (p .slo) (p .shi) n j (safe-small p g) h)
-        (rw zero-add at (all-tab (λ j. covers (sideAt (p .slo) (p .shi) j) (f j)) n 0 j h inside))
-        (side-order edgeLimit (p .q) b (rowFrom n (p .wlo) (p .whi) (p .coef) u j) s (divisor p g) (band-wide p g j h))
+      inside : all (tab (λ j. covers (safe j) (sides j)) (f .n) 0) ≡ true
+      inside = sym (ap all (lies-tab sides safe (f .n) 0)) ∙ (rw (image-tab (f .n) (f .q) (f .band .lo) (f .band .hi) coef u b) at e)
+
+      at-side : (j : ℕ) → j < f .n → Bounded edgeLimit (sides j)
+      at-side j h =
+          inside-small (sides j) (safe j) (small-side (f .safe .lo) (f .safe .hi) (f .n) j (g .safe) h)
+          (rw zero-add at (all-tab (λ j. covers (safe j) (sides j)) (f .n) 0 j h inside))
+          (side-order edgeLimit (f .q) b (rowFrom (f .n) (f .band .lo) (f .band .hi) coef u j) s (g .least) (g .wide j h))

@@ -8,13 +8,10 @@ use lib.ListN.{length, getD, set, length-set}
 use lib.Seq.{getD-set-same, getD-set-other}
 use Rattle.laws.specs.Tabs.{tab-snoc, tab-same, getD-tab}
 use Rattle.laws.specs.Lists.{tab}
-use Rattle.meaning.specs.declared.Plant.{Plant}
 use Rattle.meaning.specs.declared.Number.{Number}
 use Rattle.meaning.specs.Refusals.{broken, badTable}
 use Rattle.meaning.specs.Numbers.{numberAt}
 use Rattle.meaning.specs.Files.{read, refused}
-use Rattle.meaning.specs.Rules.{Rules}
-use Rattle.meaning.specs.Tables.{rulesOf}
 use Rattle.meaning.specs.Trees.{below}
 use Rattle.meaning.specs.Verdicts.{modesAt}
 use Rattle.promises.specs.Walking.{behind, modes-broken, modes-over, modes-more}
@@ -32,38 +29,38 @@ stored us i u h =
     tab-snoc (modeAt (set us i u)) i 0
     ∙ rw (tab-same (modeAt (set us i u)) (modeAt us) i 0 (λ k a b. getD-set-other us i k u 0 (λ e. absurd (omega arith))), new) refl
 
--- i of the k modes at `at` are read, for every plant with that many modes; those left stand at w
+-- i of the k modes at `at` are read; those left stand at w
 pub record ModesUpTo (modes k : ℕ) (s : List ℕ) (at i w : ℕ) (us : List ℕ) : Type 0 where
   pub few : i ≤ k
   pub size : length us ≡ 6
-  pub left : (p : Plant) → p .modes ≡ modes → behind (patternOf i us) (modesAt (rulesOf p) (k - i) s w) ≡ modesAt (rulesOf p) k s at
+  pub left : behind (patternOf i us) (modesAt modes (k - i) s w) ≡ modesAt modes k s at
 
 module _ (modes k : ℕ) (s : List ℕ) (at : ℕ) where
   pub modes-none : (us : List ℕ) → length us ≡ 6 → ModesUpTo modes k s at 0 at us
   unfolding tab
-  modes-none us h = record { few = omega arith; size = h; left = λ p e. rw sub-zero refl }
+  modes-none us h = record { few = omega arith; size = h; left = rw sub-zero refl }
 
   module _ (i w : ℕ) (us : List ℕ) (m : ModesUpTo modes k s at i w us) where
-    pub modes-all : k ≤ i → (p : Plant) → p .modes ≡ modes → read (patternOf k us) w ≡ modesAt (rulesOf p) k s at
+    pub modes-all : k ≤ i → read (patternOf k us) w ≡ modesAt modes k s at
     unfolding modesAt
-    modes-all h p e =
+    modes-all h =
         let q : i ≡ k = omega (arith, m .few) in
         let z : k - k ≡ 0 = omega arith in
-        sym (behind-read (patternOf k us) w) ∙ (rw (q, z) at (m .left p e))
+        sym (behind-read (patternOf k us) w) ∙ (rw (q, z) at (m .left))
 
     module _ (h : i < k) where
-      pub modes-end : numberAt s w ≡ Number.Broken → (p : Plant) → p .modes ≡ modes → refused (broken w) ≡ modesAt (rulesOf p) k s at
-      modes-end b p e = sym (modes-broken (rulesOf p) s (patternOf i us) w k i h b) ∙ m .left p e
+      pub modes-end : numberAt s w ≡ Number.Broken → refused (broken w) ≡ modesAt modes k s at
+      modes-end b = sym (modes-broken modes s (patternOf i us) w k i h b) ∙ m .left
 
       module _ (u next : ℕ) (v : numberAt s w ≡ Number.Value u next) where
-        pub modes-past : modes ≤ u → (p : Plant) → p .modes ≡ modes → refused (badTable w) ≡ modesAt (rulesOf p) k s at
-        modes-past l p e = sym (modes-over (rulesOf p) s (patternOf i us) w k i h u next v (rw e l)) ∙ m .left p e
+        pub modes-past : modes ≤ u → refused (badTable w) ≡ modesAt modes k s at
+        modes-past l = sym (modes-over modes s (patternOf i us) w k i h u next v l) ∙ m .left
 
         pub modes-next : u < modes → k ≤ 6 → ModesUpTo modes k s at (i + 1) next (set us i u)
         modes-next l few = record {
           few = omega arith;
           size = length-set us i u ∙ m .size;
-          left = λ p e. rw (stored us i u (omega (arith, m .size))) (sym (modes-more (rulesOf p) s (patternOf i us) w k i h u next v (rw e l)) ∙ m .left p e);
+          left = rw (stored us i u (omega (arith, m .size))) (sym (modes-more modes s (patternOf i us) w k i h u next v l) ∙ m .left);
         }
 
 -- ---- modes that were read are a pattern
@@ -74,10 +71,10 @@ below-at N [] b i h = absurd (omega arith)
 below-at N (u ∷ us) b zero h = b .0
 below-at N (u ∷ us) b (suc i) h = below-at N us (b .1) i (omega arith)
 
-pub modes-pattern : (r : Rules) (k : ℕ) (s : List ℕ) (at : ℕ) (us : List ℕ) (m : ℕ) → k ≤ 6 → modesAt r k s at ≡ read (patternOf k us) m → Pattern (Rules.N r) k us
-modes-pattern r k s at us m few e =
-    let t = modes-stand r k s at (patternOf k us) m e in
+pub modes-pattern : (N k : ℕ) (s : List ℕ) (at : ℕ) (us : List ℕ) (m : ℕ) → k ≤ 6 → modesAt N k s at ≡ read (patternOf k us) m → Pattern N k us
+modes-pattern N k s at us m few e =
+    let t = modes-stand N k s at (patternOf k us) m e in
     record {
       longest = few;
-      each = λ i h. rw (getD-tab (modeAt us) 0 k 0 i h, zero-add) at (below-at (Rules.N r) (patternOf k us) (t .modes) i (omega (arith, t .count)));
+      each = λ i h. rw (getD-tab (modeAt us) 0 k 0 i h, zero-add) at (below-at N (patternOf k us) (t .modes) i (omega (arith, t .count)));
     }

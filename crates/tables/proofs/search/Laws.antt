@@ -28,7 +28,8 @@ use Rattle.promises.specs.Boxes.{within-trans}
 use Rattle.tables.specs.Boxes.{Small}
 use Rattle.tables.specs.Limits.{lentSide, landing, RowsSound, Ready}
 use Rattle.tables.specs.Search.{digits, soughtOf, picked, oneOf, behindMode}
-use Rattle.tables.proofs.frames.Laws.{step-sound, band-small}
+use Rattle.tables.specs.Frames.{frameOf}
+use Rattle.tables.proofs.frames.Laws.{own-sound, step-sound, band-small}
 use Rattle.tables.proofs.images.Laws.{small-image}
 use Rattle.tables.proofs.steps.Laws.{covered-root}
 
@@ -157,7 +158,7 @@ module _ (p : Plant) (m u : ℕ) (b c : List Side) (q : c ≡ image (stepOf p u)
     behind-stays = ap (λ (k : List Side). exactly (rulesOf p) m k) q ∙ sym (rw (rw q at e) refl)
 
     pub behind-small : Sound p → Small edgeLimit b → Small edgeLimit c
-    behind-small g s = subst (λ (k : List Side). Small edgeLimit k) (sym q) (small-image p g u b s (rw q at e))
+    behind-small g s = subst (λ (k : List Side). Small edgeLimit k) (sym q) (small-image (frameOf p) (p .coef) (own-sound p g) u b s (rw q at e))
 
 -- with m modes to come from c on, none in front is tried yet
 pub modes-all : (p : Plant) (m : ℕ) (c : List Side) → 1 ≤ m → firstMode (behindMode (rulesOf p) (m - 1) c) (p .modes - 0) 0 ≡ exactly (rulesOf p) m c

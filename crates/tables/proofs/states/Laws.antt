@@ -1,48 +1,57 @@
--- Laws of a state for the proofs of module states and of its callers: each test that fails alone, and all of them together; the mode at a place with
--- one left, and with more. Assumes nothing.
+-- Laws of a state for the proofs of module states: each test that fails alone, and all of them together; the mode at a place with none left, one, and
+-- more. Assumes nothing.
 use Prim.Native.Nat.{ℕ, zero, suc, _+_, _-_, _≤_, _<_}
 use mathlib.Core.Path.{_≡_, refl}
 use mathlib.Core.Bool.{Bool, true, false, _&&_}
 use mathlib.Core.List.{List}
 use native.Mathlib.Omega.{arith}
 use lib.Dec.{ltb, leb}
-use lib.ListN.{length, getD}
-use borrow.Author.Tests.{le-leb, lt-leb, leb-true}
-use Rattle.laws.specs.Tests.{first, second}
+use lib.ListN.{length}
+use borrow.Author.Tests.{le-leb, lt-leb}
 use Rattle.meaning.specs.declared.Answer.{Answer}
-use Rattle.meaning.specs.declared.Plant.{Plant}
-use Rattle.meaning.specs.Control.{idle, canRun, modeAt}
-use Rattle.meaning.specs.Tables.{rulesOf}
+use Rattle.meaning.specs.declared.Number.{Number}
+use Rattle.meaning.specs.Control.{idle, isMode, canRun, modeAt}
+use Rattle.meaning.specs.Numbers.{numberAt}
+use Rattle.meaning.specs.Refusals.{badState}
 
 no-left : (t : Bool) → (t && false) ≡ false
 no-left true = refl
 no-left false = refl
 
-module _ (p : Plant) (s : List ℕ) (place left : ℕ) where
-  pub too-many : p .k < left → false ≡ canRun (rulesOf p) s place left
-  too-many h = simp (lt-leb left (p .k) h)
+module _ (K N : ℕ) (s : List ℕ) (place left : ℕ) where
+  pub too-many : K < left → false ≡ canRun K N s place left
+  too-many h = simp (lt-leb left K h)
 
-  pub too-low : place < 2 → false ≡ canRun (rulesOf p) s place left
-  too-low h = simp (lt-leb 2 place h, no-left (leb left (p .k)))
+  pub too-low : place < 2 → false ≡ canRun K N s place left
+  too-low h = simp (lt-leb 2 place h, no-left (leb left K))
 
-  pub too-far : length s < place + left → false ≡ canRun (rulesOf p) s place left
-  too-far h = simp (lt-leb (place + left) (length s) h, no-left (leb left (p .k) && leb 2 place))
+  pub too-far : length s < place + left → false ≡ canRun K N s place left
+  too-far h = simp (lt-leb (place + left) (length s) h, no-left (leb left K && leb 2 place))
 
-  pub runs-by-mode : left ≤ p .k → 2 ≤ place → place + left ≤ length s → ltb (getD s place 0) (p .modes) ≡ canRun (rulesOf p) s place left
-  runs-by-mode a b c = simp (le-leb left (p .k) a, le-leb 2 place b, le-leb (place + left) (length s) c)
+  -- the number there decides
+  module _ (a : left ≤ K) (b : 2 ≤ place) (c : place + left ≤ length s) where
+    by-number : (v : Number) → numberAt s place ≡ v → isMode N v ≡ canRun K N s place left
+    by-number v e = simp (le-leb left K a, le-leb 2 place b, le-leb (place + left) (length s) c, e)
 
-  -- a state that can be has its modes in the table
-  pub runs-inside : canRun (rulesOf p) s place left ≡ true → place + left ≤ length s
-  runs-inside e =
-      let a = leb left (p .k) && leb 2 place in
-      let c = leb (place + left) (length s) in
-      leb-true (place + left) (length s) (second a c (first (a && c) (ltb (getD s place 0) (p .modes)) e))
+    pub runs-broken : numberAt s place ≡ Number.Broken → false ≡ canRun K N s place left
+    runs-broken e = by-number Number.Broken e
+
+    pub runs-by-mode : (u next : ℕ) → numberAt s place ≡ Number.Value u next → ltb u N ≡ canRun K N s place left
+    runs-by-mode u next e = by-number (Number.Value u next) e
 
 module _ (s : List ℕ) (place : ℕ) where
-  pub last-mode : (left : ℕ) → left ≡ 1 → Answer.Mode (getD s place 0) idle ≡ modeAt s place left
-  last-mode left e = rw e refl
+  pub none-left : (left : ℕ) → left ≡ 0 → Answer.Refused badState ≡ modeAt s place left
+  none-left left e = rw e refl
 
-  pub more-modes : (left : ℕ) → 1 ≤ left → (left ≡ 1 → ⊥) → Answer.Mode (getD s place 0) (record { place = place + 1; left = left - 1 }) ≡ modeAt s place left
-  more-modes zero h z = absurd (omega arith)
-  more-modes (suc zero) h z = absurd (z refl)
-  more-modes (suc (suc m)) h z = let q : suc (suc m) - 1 ≡ suc m = omega arith in rw q refl
+  pub no-mode : numberAt s place ≡ Number.Broken → (left : ℕ) → Answer.Refused badState ≡ modeAt s place left
+  no-mode e zero = refl
+  no-mode e (suc m) = rw e refl
+
+  module _ (u next : ℕ) (e : numberAt s place ≡ Number.Value u next) where
+    pub last-mode : (left : ℕ) → left ≡ 1 → Answer.Mode u idle ≡ modeAt s place left
+    last-mode left q = rw (q, e) refl
+
+    pub more-modes : (left : ℕ) → (left ≡ 0 → ⊥) → (left ≡ 1 → ⊥) → Answer.Mode u (record { place = next; left = left - 1 }) ≡ modeAt s place left
+    more-modes zero h z = absurd (h refl)
+    more-modes (suc zero) h z = absurd (z refl)
+    more-modes (suc (suc m)) h z = let q : suc (suc m) - 1 ≡ suc m = omega arith in rw (q, e) refl

@@ -1,20 +1,19 @@
--- Laws of the tile rule for the proof of module tiles: one step of it at any rules, and at a plant's. Assumes nothing.
+-- Laws of the tile rule for the proof of module tiles: one step of it at any rules, and at those of a frame. Assumes nothing.
 use Prim.Native.Nat.{ℕ, _+_, _-_, _≤_, _<_}
 use mathlib.Core.Path.{_≡_, refl, sym, ap, _∙_, subst}
 use mathlib.Core.Bool.{true, false}
 use mathlib.Core.List.{List}
 use native.Mathlib.Numerals.{add-one}
+use lib.IntN.{ℤ}
 use Rattle.laws.specs.Lists.{tab}
 use Rattle.laws.specs.Tabs.{tab-step, tab-done}
-use Rattle.meaning.specs.declared.Plant.{Plant}
 use Rattle.meaning.specs.declared.Rule.the-variants.{Works, Leaves, Misses}
 use Rattle.meaning.specs.Boxes.{Side, within}
-use Rattle.meaning.specs.Images.{image}
-use Rattle.meaning.specs.Plants.{edgeLimit, safeOf, stepOf}
+use Rattle.meaning.specs.Plants.{edgeLimit}
 use Rattle.meaning.specs.Rules.{Rules, ruleFrom}
-use Rattle.meaning.specs.Tables.{rulesOf}
-use Rattle.tables.specs.Boxes.{Small}
-use Rattle.promises.specs.Sound.{Sound}
+use Rattle.tables.specs.declared.frames.Frame.{Frame}
+use Rattle.tables.specs.Boxes.{boxOf, Small}
+use Rattle.tables.specs.Frames.{rulesIn, FrameSound}
 use Rattle.tables.proofs.images.Laws.{small-image}
 
 -- ---- at any rules: i of k modes are done, and c is what is kept
@@ -38,14 +37,15 @@ module _ (r : Rules) (us : ℕ → ℕ) (k i : ℕ) (c : Rules.Kept r) where
   unfolding ruleFrom
   rule-more h e = rw (tab-step us k i h, e, add-one) refl
 
--- ---- at a plant's rules: c is the box that the code holds, d the one that it holds as the image
+-- ---- at the rules of a frame: c is the box that the code holds, d the one that it holds as the image
 
-module _ (p : Plant) (us : ℕ → ℕ) (k i : ℕ) (c d : List Side) (h : i < k) (q : d ≡ image (stepOf p (us i)) c) where
-  pub tile-leaves : within d (safeOf p) ≡ false → ruleFrom (rulesOf p) i c (tab us (k - i) i) ≡ Leaves (i + 1)
-  tile-leaves e = rule-leaves (rulesOf p) us k i c h (rw q at e)
+module _ (f : Frame) (coef : List ℤ) (us : ℕ → ℕ) (k i : ℕ) (c d : List Side) (h : i < k) (q : d ≡ Rules.image (rulesIn f coef) (us i) c) where
+  pub tile-leaves : within d (boxOf (f .n) (f .safe)) ≡ false → ruleFrom (rulesIn f coef) i c (tab us (k - i) i) ≡ Leaves (i + 1)
+  tile-leaves e = rule-leaves (rulesIn f coef) us k i c h (rw q at e)
 
-  pub tile-more : within d (safeOf p) ≡ true → ruleFrom (rulesOf p) i c (tab us (k - i) i) ≡ ruleFrom (rulesOf p) (i + 1) d (tab us (k - (i + 1)) (i + 1))
-  tile-more e = rule-more (rulesOf p) us k i c h (rw q at e) ∙ ap (λ (b : List Side). ruleFrom (rulesOf p) (i + 1) b (tab us (k - (i + 1)) (i + 1))) (sym q)
+  module _ (e : within d (boxOf (f .n) (f .safe)) ≡ true) where
+    pub tile-more : ruleFrom (rulesIn f coef) i c (tab us (k - i) i) ≡ ruleFrom (rulesIn f coef) (i + 1) d (tab us (k - (i + 1)) (i + 1))
+    tile-more = rule-more (rulesIn f coef) us k i c h (rw q at e) ∙ ap (λ (b : List Side). ruleFrom (rulesIn f coef) (i + 1) b (tab us (k - (i + 1)) (i + 1))) (sym q)
 
-  pub tile-small : Sound p → Small edgeLimit c → within d (safeOf p) ≡ true → Small edgeLimit d
-  tile-small g s e = subst (λ (b : List Side). Small edgeLimit b) (sym q) (small-image p g (us i) c s (rw q at e))
+    pub tile-small : FrameSound f coef → Small edgeLimit c → Small edgeLimit d
+    tile-small g s = subst (λ (b : List Side). Small edgeLimit b) (sym q) (small-image f coef g (us i) c s (rw q at e))

@@ -1,12 +1,23 @@
--- `checks::check`: the plant's file, which is sound where it was judged good, then the table. Assumes nothing.
-use mathlib.Core.Path.{sym, _∙_}
+-- `checks::check`: the plant's file, whose frame is sound where it was judged good, then the table. Assumes nothing.
+use mathlib.Core.Path.{_≡_, sym, ap, _∙_}
 use denote.Ref.{now}
+use borrow.Author.Needs.{needs}
+use Rattle.meaning.specs.Files.{good}
 use Rattle.meaning.specs.Plants.{plantJudged}
+use Rattle.meaning.specs.Verdicts.{verdict}
 use Rattle.promises.specs.Judged.{judged-sound}
 use Rattle.promises.specs.PlantRules.{read-good, read-bad, checked-bad, checked-as}
-use borrow.Author.Needs.{needs}
+use Rattle.tables.specs.declared.frames.Frame.{Frame}
+use Rattle.tables.specs.Frames.{rulesIn}
+use Rattle.tables.proofs.frames.Laws.{framed-sound}
 use Rattle.tables.proofs.checks.check.Statement.{statement}
 use Rattle.tables.proofs.checks.check.Tie as tie
+
+-- a plant that was accepted is the one that its file was judged to be
+taken : (c : tie.After-enum-told) → plantJudged (now (c .before .before .before .before .before .args .plant)) ≡ good (c .before .before .read-plant .result .plant)
+taken c =
+    let r = c .before .before .read-plant in
+    read-good (plantJudged (now (c .before .before .before .before .before .args .plant))) (r .result) (r .ensures) (c .enum-told .given .1)
 
 read-plant-requires : tie.Need-read-plant-requires
 read-plant-requires c κs = search needs
@@ -17,29 +28,31 @@ enum-known-verdict c = search needs
 enum-told : tie.Need-enum-told
 enum-told c = search needs
 
+framed-requires : tie.Need-framed-requires
+framed-requires c κs = search needs
+
 judge-requires : tie.Need-judge-requires
 judge-requires c κs =
-    let a = c .before .before .before .before .before .before .args in
-    let s = now (a .plant) in
-    let x = c .before .before .before .read-plant in
-    judged-sound s (x .result .plant) (read-good (plantJudged s) (x .result) (x .ensures) (c .before .enum-told .given .1))
+    let t = c .before .before .before .before in
+    let p = t .before .before .read-plant .result .plant in
+    framed-sound p (judged-sound (now (t .before .before .before .before .before .args .plant)) p (taken t)) (c .before .framed .result) (c .before .framed .ensures)
 
 returns : tie.Need-returns
 returns c =
     let a = c .before .before .before .before .before .before .args in
-    let s = now (a .plant) in
-    let x = c .before .before .before .read-plant in
-    let g = c .before .verdict .given in
-    sym (checked-bad s (g .0 .0) (read-bad (plantJudged s) (x .result) (x .ensures) (g .0 .0) (g .1)) (now (a .table)))
+    let e = c .before .verdict .given in
+    let r = c .before .before .before .read-plant in
+    sym (checked-bad (now (a .plant)) (e .0 .0) (read-bad (plantJudged (now (a .plant))) (r .result) (r .ensures) (e .0 .0) (e .1)) (now (a .table)))
 
 returns-2 : tie.Need-returns-2
 returns-2 c =
-    let a = c .before .before .before .before .before .before .before .args in
-    let s = now (a .plant) in
-    let x = c .before .before .before .before .read-plant in
-    c .judge .ensures ∙ sym (checked-as s (x .result .plant) (read-good (plantJudged s) (x .result) (x .ensures) (c .before .before .enum-told .given .1)) (now (a .table)))
+    let t = c .before .before .before .before .before in
+    let a = t .before .before .before .before .before .args in
+    let p = t .before .before .read-plant .result .plant in
+    c .judge .ensures ∙ ap (λ (f : Frame). verdict (rulesIn f (p .coef)) (now (a .table))) (c .before .before .framed .ensures)
+    ∙ sym (checked-as (now (a .plant)) p (taken t) (now (a .table)))
 
 pub check-spec : {M : Type 1} → statement M
 check-spec =
     tie.close
-    (tie.spec read-plant-requires enum-known-verdict enum-told judge-requires returns returns-2)
+    (tie.spec read-plant-requires enum-known-verdict enum-told framed-requires judge-requires returns returns-2)

@@ -1,43 +1,54 @@
--- `checks::judge`: header, tree, leftover bytes, at the frame that the plant was taken apart into. Assumes nothing.
+-- `checks::judge`: header, tree, leftover bytes. Assumes nothing.
 use Prim.Native.Nat.{ℕ}
-use mathlib.Core.Path.{_≡_, refl, sym, ap, _∙_, subst}
+use mathlib.Core.Path.{_≡_, ap, _∙_}
 use mathlib.Core.List.{List}
 use denote.Ref.{now}
+use lib.ListN.{length}
 use borrow.Author.Needs.{needs}
-use Rattle.meaning.specs.declared.Plant.{Plant}
+use Rattle.meaning.specs.declared.Refusal.{Refusal}
 use Rattle.meaning.specs.declared.Verdict.{Verdict}
+use Rattle.meaning.specs.declared.Walk.{Walk}
+use Rattle.meaning.specs.Refusals.{badTable}
 use Rattle.meaning.specs.Rules.{Rules}
-use Rattle.meaning.specs.Tables.{rulesOf}
-use Rattle.meaning.specs.Verdicts.{verdict}
-use Rattle.promises.specs.Sound.{Sound}
-use Rattle.tables.specs.Frames.{plantFrom}
-use Rattle.tables.proofs.frames.Laws.{root-small}
-use Rattle.tables.proofs.checks.Laws.{verdict-same, header-stopped, tree-stopped, left-over, accepted}
+use Rattle.meaning.specs.Verdicts.{header, verdict}
+use Rattle.tables.specs.Frames.{rulesIn}
+use Rattle.tables.proofs.checks.Laws.{header-stopped, tree-stopped, left-over, accepted}
 use Rattle.tables.proofs.checks.judge.Statement.{statement}
 use Rattle.tables.proofs.checks.judge.Tie as tie
 
--- the frame was made: the plant by it, its rules, the table; and what is said of this plant is said of the one that was handed in
-module _ (c : tie.After-framed) where
-  abbrev from : tie.Start
-  from = c .before .before
-
-  abbrev plant : Plant
-  plant = plantFrom (c .framed .result) (from .args .p .coef)
-
+module _ (s : tie.Start) where
   abbrev rules : Rules
-  rules = rulesOf plant
+  rules = rulesIn (s .args .f) (now (s .args .coef))
 
   abbrev table : List ℕ
-  table = now (from .args .table)
+  table = now (s .args .table)
 
-  sound : Sound plant
-  sound = subst Sound (sym (c .framed .ensures)) (from .pre)
+-- the tree was walked over: the header before it, and the laws of the whole at both answers
+module _ (c : tie.After-walk) where
+  abbrev start : tie.Start
+  start = c .before .before .before .before .before .before .before
 
-  same : (v : Verdict) → v ≡ verdict rules table → v ≡ verdict (rulesOf (from .args .p)) table
-  same v e = verdict-same plant (from .args .p) table v (c .framed .ensures) e
+  abbrev head : Walk
+  head = c .before .before .before .before .before .header .result
 
-framed-requires : tie.Need-framed-requires
-framed-requires c κs = search needs
+  abbrev at : ℕ
+  at = c .before .before .before .at .given .0 .0
+
+  headed : head ≡ header (start .args .f .n) (table start)
+  headed = c .before .before .before .before .before .header .ensures
+
+  behind : head ≡ Walk.Next at
+  behind = c .before .before .before .at .given .1
+
+  stopped : (e : Refusal) → c .walk .result ≡ Walk.Refused e → Verdict.Refused e ≡ verdict (rules start) (table start)
+  stopped = tree-stopped (rules start) (table start) head headed at behind (c .walk .result) (c .walk .ensures)
+
+  module _ (next : ℕ) (g : c .walk .result ≡ Walk.Next next) where
+    rest : (next ≡ length (table start) → ⊥) → Verdict.Refused (badTable next) ≡ verdict (rules start) (table start)
+    rest = left-over (rules start) (table start) head headed at behind (c .walk .result) (c .walk .ensures) next g
+
+    whole : next ≡ length (table start) → Verdict.Accepted ≡ verdict (rules start) (table start)
+    whole = accepted (rules start) (table start) head headed at behind (c .walk .result) (c .walk .ensures) next g
 
 header-requires : tie.Need-header-requires
 header-requires c κs = search needs
@@ -49,7 +60,7 @@ enum-known-at : tie.Need-enum-known-at
 enum-known-at c = search needs
 
 walk-requires : tie.Need-walk-requires
-walk-requires c κs = let f = c .before .before .before .before .before .before .before in (sound f, root-small (plant f) (sound f))
+walk-requires c κs = let s = c .before .before .before .before .before .before in (s .pre, s .pre .root)
 
 enum-known-e-2 : tie.Need-enum-known-e-2
 enum-known-e-2 c = search needs
@@ -62,43 +73,26 @@ bad-table-requires c κs = search needs
 
 returns : tie.Need-returns
 returns c =
-    let f = c .before .before .before .before .before in
+    let s = c .before .before .before .before .before in
     let h = c .before .before .before .header in
     let g = c .before .e .given in
-    same f _ (header-stopped (rules f) (table f) (h .result) (h .ensures (plant f) refl) (g .0 .0) (g .1))
+    header-stopped (rules s) (table s) (h .result) (h .ensures) (g .0 .0) (g .1)
 
 returns-2 : tie.Need-returns-2
-returns-2 c =
-    let f = c .before .before .before .before .before .before .before .before .before .before .before in
-    let h = c .before .before .before .before .before .before .before .before .before .header in
-    let g = c .before .before .before .before .before .before .before .at .given in
-    let t = c .before .before .before .walk in
-    let v = c .before .e2 .given in
-    same f _ (tree-stopped (rules f) (table f) (h .result) (h .ensures (plant f) refl) (g .0 .0) (g .1) (t .result) (t .ensures) (v .0 .0) (v .1))
+returns-2 c = let g = c .before .e2 .given in stopped (c .before .before .before) (g .0 .0) (g .1)
 
 returns-3 : tie.Need-returns-3
-returns-3 c =
-    let f = c .before .before .before .before .before .before .before .before .before .before .before .before in
-    let h = c .before .before .before .before .before .before .before .before .before .before .header in
-    let g = c .before .before .before .before .before .before .before .before .at .given in
-    let t = c .before .before .before .before .walk in
-    let v = c .before .before .next .given in
-    same f _ (accepted (rules f) (table f) (h .result) (h .ensures (plant f) refl) (g .0 .0) (g .1) (t .result) (t .ensures) (v .0 .0) (v .1) (c .if1 .taken))
+returns-3 c = let g = c .before .before .next .given in whole (c .before .before .before .before) (g .0 .0) (g .1) (c .if1 .taken)
 
 returns-4 : tie.Need-returns-4
 returns-4 c =
-    let f = c .before .before .before .before .before .before .before .before .before .before .before .before .before in
-    let h = c .before .before .before .before .before .before .before .before .before .before .before .header in
-    let g = c .before .before .before .before .before .before .before .before .before .at .given in
-    let t = c .before .before .before .before .before .walk in
-    let v = c .before .before .before .next .given in
-    ap Verdict.Refused (c .bad-table .ensures) ∙ same f _ (left-over (rules f) (table f) (h .result) (h .ensures (plant f) refl) (g .0 .0) (g .1) (t .result) (t .ensures) (v .0 .0) (v .1) (c .before .if1 .left))
+    let g = c .before .before .before .next .given in
+    ap Verdict.Refused (c .bad-table .ensures) ∙ rest (c .before .before .before .before .before) (g .0 .0) (g .1) (c .before .if1 .left)
 
 pub judge-spec : {M : Type 1} → statement M
 judge-spec =
     tie.close
     (tie.spec
-    framed-requires
     header-requires
     enum-known-e
     enum-known-at

@@ -1,19 +1,18 @@
 -- `control::call`: the header, then the state. Assumes nothing.
 use Prim.Native.Nat.{ℕ}
-use mathlib.Core.Path.{refl, _∙_}
+use mathlib.Core.Path.{_∙_}
 use mathlib.Core.List.{List}
 use denote.Ref.{now}
-use lib.IntN.{ℤ}
-use Rattle.meaning.specs.declared.Plant.{Plant}
-use Rattle.tables.specs.Frames.{plantFrom}
+use Rattle.meaning.specs.Rules.{Rules}
+use Rattle.tables.specs.Frames.{rulesIn}
 use Rattle.tables.proofs.control.Laws.{call-refused, call-idle, call-running}
 use borrow.Author.Needs.{needs}
 use Rattle.tables.proofs.control.call.Statement.{statement}
 use Rattle.tables.proofs.control.call.Tie as tie
 
 module _ (s : tie.Start) where
-  abbrev plant : List ℤ → Plant
-  plant coef = plantFrom (s .args .f) coef
+  abbrev rules : Rules
+  rules = rulesIn (s .args .f) (now (s .args .coef))
 
   abbrev bytes : List ℕ
   bytes = now (s .args .table)
@@ -38,23 +37,23 @@ returns c =
     let s = c .before .before .before .before .before in
     let h = c .before .before .before .header in
     let e = c .before .e .given in
-    λ coef. call-refused (plant s coef) (bytes s) (s .args .x) (s .args .st) (h .result) (h .ensures (plant s coef) refl) (e .0 .0) (e .1)
+    call-refused (rules s) (bytes s) (s .args .x) (s .args .st) (h .result) (h .ensures) (e .0 .0) (e .1)
 
 returns-2 : tie.Need-returns-2
 returns-2 c =
     let s = c .before .before .before .before .before .before .before .before in
     let h = c .before .before .before .before .before .before .header in
     let at = c .before .before .before .before .at .given in
-    λ coef. c .idle-call .ensures coef
-    ∙ call-idle (plant s coef) (bytes s) (s .args .x) (s .args .st) (h .result) (h .ensures (plant s coef) refl) (at .0 .0) (at .1) (c .before .if1 .taken)
+    c .idle-call .ensures
+    ∙ call-idle (rules s) (bytes s) (s .args .x) (s .args .st) (h .result) (h .ensures) (at .0 .0) (at .1) (c .before .if1 .taken)
 
 returns-3 : tie.Need-returns-3
 returns-3 c =
     let s = c .before .before .before .before .before .before .before .before in
     let h = c .before .before .before .before .before .before .header in
     let at = c .before .before .before .before .at .given in
-    λ coef. c .running-call .ensures coef
-    ∙ call-running (plant s coef) (bytes s) (s .args .x) (s .args .st) (h .result) (h .ensures (plant s coef) refl) (at .0 .0) (at .1) (c .before .if1 .left)
+    c .running-call .ensures
+    ∙ call-running (rules s) (bytes s) (s .args .x) (s .args .st) (h .result) (h .ensures) (at .0 .0) (at .1) (c .before .if1 .left)
 
 pub call-spec : {M : Type 1} → statement M
 call-spec =

@@ -2,13 +2,14 @@
 use mathlib.Core.Path.{_≡_, sym, ap, _∙_}
 use denote.Ref.{now}
 use borrow.Author.Needs.{needs}
-use Rattle.meaning.specs.declared.Plant.{Plant}
 use Rattle.meaning.specs.Control.{call}
 use Rattle.meaning.specs.Files.{good}
 use Rattle.meaning.specs.Plants.{plantJudged}
-use Rattle.meaning.specs.Tables.{rulesOf}
+use Rattle.promises.specs.Judged.{judged-sound}
 use Rattle.promises.specs.PlantRules.{read-good, read-bad, controlled-bad, controlled-as}
-use Rattle.tables.proofs.control.Laws.{frame-ready}
+use Rattle.tables.specs.declared.frames.Frame.{Frame}
+use Rattle.tables.specs.Frames.{rulesIn}
+use Rattle.tables.proofs.frames.Laws.{framed-sound}
 use Rattle.tables.proofs.control.control.Statement.{statement}
 use Rattle.tables.proofs.control.control.Tie as tie
 
@@ -32,8 +33,9 @@ framed-requires c κs = search needs
 
 call-requires : tie.Need-call-requires
 call-requires c κs =
-    let t = c .before .before in
-    frame-ready (now (t .before .before .before .before .before .args .plant)) (t .before .before .read-plant .result .plant) (c .framed .result) (taken t) (c .framed .ensures)
+    let t = c .before .before .before .before in
+    let p = t .before .before .read-plant .result .plant in
+    framed-sound p (judged-sound (now (t .before .before .before .before .before .args .plant)) p (taken t)) (c .before .framed .result) (c .before .framed .ensures)
 
 returns : tie.Need-returns
 returns c =
@@ -44,10 +46,10 @@ returns c =
 
 returns-2 : tie.Need-returns-2
 returns-2 c =
-    let t = c .before .before .before in
+    let t = c .before .before .before .before .before in
     let a = t .before .before .before .before .before .args in
     let p = t .before .before .read-plant .result .plant in
-    c .call .ensures (p .coef) ∙ ap (λ (q : Plant). call (rulesOf q) (now (a .table)) (a .st) (a .x)) (c .before .framed .ensures)
+    c .call .ensures ∙ ap (λ (f : Frame). call (rulesIn f (p .coef)) (now (a .table)) (a .st) (a .x)) (c .before .before .framed .ensures)
     ∙ sym (controlled-as (now (a .plant)) p (taken t) (now (a .table)) (a .st) (a .x))
 
 pub control-spec : {M : Type 1} → statement M

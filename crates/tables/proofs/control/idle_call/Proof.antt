@@ -1,23 +1,19 @@
 -- `control::idle_call`: each answer cites its law. Assumes nothing.
 use Prim.Native.Nat.{ℕ}
-use mathlib.Core.Path.{sym, ap, _∙_, subst}
-use mathlib.Core.List.{List, []}
+use mathlib.Core.Path.{sym, ap, _∙_}
+use mathlib.Core.List.{List}
 use denote.Ref.{now}
-use lib.IntN.{ℤ}
 use borrow.Author.Needs.{needs}
-use Rattle.meaning.specs.declared.Plant.{Plant}
 use Rattle.meaning.specs.Control.{onFound}
-use Rattle.meaning.specs.Tables.{rulesOf}
-use Rattle.tables.specs.Boxes.{boxOf}
-use Rattle.tables.specs.Frames.{plantFrom}
+use Rattle.meaning.specs.Rules.{Rules}
+use Rattle.tables.specs.Frames.{rulesIn}
 use Rattle.tables.proofs.control.Laws.{idle-refused, idle-finds}
-use Rattle.tables.proofs.finds.Laws.{HasFirst, find-first}
 use Rattle.tables.proofs.control.idle_call.Statement.{statement}
 use Rattle.tables.proofs.control.idle_call.Tie as tie
 
 module _ (s : tie.Start) where
-  abbrev plant : List ℤ → Plant
-  plant coef = plantFrom (s .args .f) coef
+  abbrev rules : Rules
+  rules = rulesIn (s .args .f) (now (s .args .coef))
 
   abbrev bytes : List ℕ
   bytes = now (s .args .table)
@@ -32,7 +28,7 @@ enum-told : tie.Need-enum-told
 enum-told c = search needs
 
 find-requires : tie.Need-find-requires
-find-requires c κs = c .before .before .before .before .pre
+find-requires c κs = let g = c .before .before .before .before .pre in (g, g .root)
 
 enum-known-e-2 : tie.Need-enum-known-e-2
 enum-known-e-2 c = search needs
@@ -41,32 +37,28 @@ enum-known-from : tie.Need-enum-known-from
 enum-known-from c = search needs
 
 answer-requires : tie.Need-answer-requires
-answer-requires c κs =
-    let s = c .before .before .before .before .before .before .before .before in
-    let f = s .args .f in
-    subst (HasFirst (bytes s)) (sym (c .before .before .before .find .ensures []) ∙ c .before .from .given .1)
-    (find-first (rulesOf (plant s [])) (bytes s) (s .args .x) (f .d) (s .args .at) (boxOf (f .n) (f .root)))
+answer-requires c κs = search needs
 
 returns : tie.Need-returns
 returns c =
     let s = c .before .before .before .before .before in
     let v = c .before .before .before .admit in
     let e = c .before .e .given in
-    λ coef. idle-refused (plant s coef) (bytes s) (s .args .x) (s .args .at) (s .args .place) (v .result) (v .ensures) (e .0 .0) (e .1)
+    idle-refused (rules s) (bytes s) (s .args .x) (s .args .at) (s .args .place) (v .result) (v .ensures) (e .0 .0) (e .1)
 
 returns-2 : tie.Need-returns-2
 returns-2 c =
     let s = c .before .before .before .before .before .before .before .before in
     let v = c .before .before .before .before .before .before .admit in
-    λ coef. ap (onFound (bytes s)) (sym (c .before .e2 .given .1) ∙ c .before .before .before .find .ensures coef)
-    ∙ idle-finds (plant s coef) (bytes s) (s .args .x) (s .args .at) (s .args .place) (v .result) (v .ensures) (c .before .before .before .before .enum-told .given .1)
+    ap (onFound (bytes s)) (sym (c .before .e2 .given .1) ∙ c .before .before .before .find .ensures)
+    ∙ idle-finds (rules s) (bytes s) (s .args .x) (s .args .at) (s .args .place) (v .result) (v .ensures) (c .before .before .before .before .enum-told .given .1)
 
 returns-3 : tie.Need-returns-3
 returns-3 c =
     let s = c .before .before .before .before .before .before .before .before .before in
     let v = c .before .before .before .before .before .before .before .admit in
-    λ coef. c .answer .ensures ∙ ap (onFound (bytes s)) (sym (c .before .before .from .given .1) ∙ c .before .before .before .before .find .ensures coef)
-    ∙ idle-finds (plant s coef) (bytes s) (s .args .x) (s .args .at) (s .args .place) (v .result) (v .ensures) (c .before .before .before .before .before .enum-told .given .1)
+    c .answer .ensures ∙ ap (onFound (bytes s)) (sym (c .before .before .from .given .1) ∙ c .before .before .before .before .find .ensures)
+    ∙ idle-finds (rules s) (bytes s) (s .args .x) (s .args .at) (s .args .place) (v .result) (v .ensures) (c .before .before .before .before .before .enum-told .given .1)
 
 pub idle-call-spec : {M : Type 1} → statement M
 idle-call-spec =

@@ -11,16 +11,15 @@ use borrow.Author.Needs.{needs}
 use Rattle.laws.specs.Lists.{all}
 use Rattle.meaning.specs.declared.Found.{Found}
 use Rattle.meaning.specs.declared.Number.{Number}
-use Rattle.meaning.specs.declared.Plant.{Plant}
 use Rattle.meaning.specs.Boxes.{Side, fits, children}
 use Rattle.meaning.specs.Control.{find}
 use Rattle.meaning.specs.Numbers.{numberAt}
 use Rattle.meaning.specs.Plants.{edgeLimit}
-use Rattle.meaning.specs.Tables.{readingOf, rulesOf}
+use Rattle.meaning.specs.Tables.{readingOf}
 use Rattle.tables.specs.declared.boxes.Bx.{Bx}
-use Rattle.tables.specs.Boxes.{boxOf}
-use Rattle.tables.specs.Frames.{plantFrom}
-use Rattle.tables.specs.Trees.{Ready}
+use Rattle.tables.specs.declared.frames.Frame.{Frame}
+use Rattle.tables.specs.Boxes.{boxOf, Small}
+use Rattle.tables.specs.Frames.{rulesIn}
 use Rattle.tables.proofs.boxes.Laws.{small-children}
 use Rattle.tables.proofs.finds.Laws.{held, not-held, lookFrom, node-broken, node-over, node-tile, node-deep, node-split, look-none, look-here, look-more, look-refused}
 use borrow.Fn.Kinds.{In}
@@ -34,29 +33,29 @@ use Rattle.tables.proofs.boxes.child.Reads as child-reads
 use Rattle.tables.proofs.boxes.count.Reads as count-reads
 use Rattle.tables.proofs.boxes.missed.Reads as missed-reads
 use Rattle.tables.proofs.finds.tile.Reads as tile-reads
-use Rattle.tables.proofs.passes.pass.Reads as pass-reads
 use Rattle.tables.proofs.refusals.bad_table.Reads as bad-table-reads
+use Rattle.tables.proofs.walks.walk.Reads as walk-reads
 use Rattle.tables.proofs.finds.+find.{statement}
 use Rattle.tables.proofs.finds.+find.Tie.{close}
 
-abbrev μ-find : Measures 1 find-kinds.ps ℕ
-μ-find κs a = a .1 .1 .1 .1 .0
+abbrev μ-find : Measures 2 find-kinds.ps ℕ
+μ-find κs a = a .1 .1 .1 .0
 
-abbrev find-at : ℕ → In 1 find-kinds.ps
-find-at t = and 1 find-kinds.ps (is 1 find-kinds.ps μ-find t) reads.Pre
+abbrev find-at : ℕ → In 2 find-kinds.ps
+find-at t = and 2 find-kinds.ps (is 2 find-kinds.ps μ-find t) reads.Pre
 
-abbrev find-below : ℕ → In 1 find-kinds.ps
-find-below t = and 1 find-kinds.ps (falls 1 find-kinds.ps _<_ μ-find t) reads.Pre
+abbrev find-below : ℕ → In 2 find-kinds.ps
+find-below t = and 2 find-kinds.ps (falls 2 find-kinds.ps _<_ μ-find t) reads.Pre
 
 abbrev claims : ℕ → find-lts.Claims
-claims t = (number-reads.Asked, number-reads.Learnt, broken-reads.Asked, broken-reads.Learnt, bad-table-reads.Asked, bad-table-reads.Learnt, tile-reads.Asked, tile-reads.Learnt, count-reads.Asked, count-reads.Learnt, child-reads.Asked, child-reads.Learnt, missed-reads.Asked, missed-reads.Learnt, find-below t, reads.Post, pass-reads.Asked, pass-reads.Learnt)
+claims t = (number-reads.Asked, number-reads.Learnt, broken-reads.Asked, broken-reads.Learnt, bad-table-reads.Asked, bad-table-reads.Learnt, tile-reads.Asked, tile-reads.Learnt, count-reads.Asked, count-reads.Learnt, child-reads.Asked, child-reads.Learnt, missed-reads.Asked, missed-reads.Learnt, find-below t, reads.Post, walk-reads.Asked, walk-reads.Learnt)
 
 abbrev find-Inv-loop : find-lts.InvT-loop
-find-Inv-loop f table at b depth x k next n count place₀ c₀ place c =
-    (c ≤ count) × ((coef : List ℤ) → lookFrom (plantFrom f coef) x (depth - 1) table at (boxOf (f .n) b) c place ≡ find (rulesOf (plantFrom f coef)) depth table at (boxOf (f .n) b) x)
+find-Inv-loop f coef table d at b x k next n count place₀ c₀ place c =
+    (c ≤ count) × (lookFrom f coef x (d - 1) table at (boxOf (f .n) b) c place ≡ find (rulesIn f coef) d table at (boxOf (f .n) b) x)
 
 abbrev find-μ-loop : find-lts.MeasureT-loop
-find-μ-loop f table at b depth x k next n count place₀ c₀ place c = count - c
+find-μ-loop f coef table d at b x k next n count place₀ c₀ place c = count - c
 
 abbrev Begin : ℕ → Type 0
 Begin t = find-lts.Start (claims t) (find-at t) reads.Post find-Inv-loop find-μ-loop
@@ -70,8 +69,11 @@ abbrev Tried : ℕ → Type 0
 Tried t = find-lts.After-missed (claims t) (find-at t) reads.Post find-Inv-loop find-μ-loop
 
 module _ {t : ℕ} (s : Begin t) where
-  abbrev plant : List ℤ → Plant
-  plant coef = plantFrom (s .args .f) coef
+  abbrev frame : Frame
+  frame = s .args .f
+
+  abbrev coef : List ℤ
+  coef = now (s .args .coef)
 
   abbrev bytes : List ℕ
   bytes = now (s .args .table)
@@ -105,10 +107,8 @@ module _ {t : ℕ} (y : Tried t) where
   below : turn < length (children (box outset (outset .args .b)))
   below = omega (arith, y .before .before .loop-test .taken, y .before .before .before .before .count .ensures)
 
-  ready : Ready (outset .args .f) kid
-  ready =
-      let g = outset .pre .1 in
-      record { rooms = g .rooms; longest = g .longest; small = rw (y .before .child .ensures) (small-children edgeLimit (box outset (outset .args .b)) turn below (g .small)) }
+  small : Small edgeLimit (box outset kid)
+  small = rw (y .before .child .ensures) (small-children edgeLimit (box outset (outset .args .b)) turn below (outset .pre .1 .1))
 
   holds-it : outset .args .f .n ≤ y .missed .result → all (fits (box outset kid) (readingOf (outset .args .f .n) (outset .args .x))) ≡ true
   holds-it h = held (outset .args .f .n) (kid .lo) (kid .hi) (outset .args .x) (omega (arith, h, y .missed .ensures))
@@ -131,7 +131,7 @@ find-broken-requires t c κs = search needs
 find-returns : (t : ℕ) → find-lts.Need-returns (claims t) (find-at t) reads.Post find-Inv-loop find-μ-loop
 find-returns t c =
     let s = c .before .before .before .before .before in
-    λ coef. ap Found.Refused (c .broken .ensures) ∙ node-broken (plant s coef) (s .args .x) (s .args .depth) (bytes s) (s .args .at) (box s (s .args .b)) (sym (c .before .before .before .number .ensures) ∙ c .before .enum-told .given .1)
+    ap Found.Refused (c .broken .ensures) ∙ node-broken (frame s) (coef s) (s .args .x) (s .args .d) (bytes s) (s .args .at) (box s (s .args .b)) (sym (c .before .before .before .number .ensures) ∙ c .before .enum-told .given .1)
 
 find-bad-table-requires : (t : ℕ) → find-lts.Need-bad-table-requires (claims t) (find-at t) reads.Post find-Inv-loop find-μ-loop
 find-bad-table-requires t c κs = search needs
@@ -140,18 +140,18 @@ find-returns-2 : (t : ℕ) → find-lts.Need-returns-2 (claims t) (find-at t) re
 find-returns-2 t c =
     let z = c .before .before .before in
     let s = start z in
-    λ coef. ap Found.Refused (c .bad-table .ensures) ∙ node-over (plant s coef) (s .args .x) (s .args .depth) (bytes s) (s .args .at) (box s (s .args .b)) (size z) (behind z) (number z) (c .before .if1 .taken)
+    ap Found.Refused (c .bad-table .ensures) ∙ node-over (frame s) (coef s) (s .args .x) (s .args .d) (bytes s) (s .args .at) (box s (s .args .b)) (size z) (behind z) (number z) (c .before .if1 .taken)
 
 find-tile-requires : (t : ℕ) → find-lts.Need-tile-requires (claims t) (find-at t) reads.Post find-Inv-loop find-μ-loop
 find-tile-requires t c κs =
     let s = c .before .before .before .before .before .before .before .before in
-    omega (arith, c .before .if1 .left, s .pre .1 .longest)
+    omega (arith, c .before .if1 .left, s .pre .1 .0 .longest)
 
 find-returns-3 : (t : ℕ) → find-lts.Need-returns-3 (claims t) (find-at t) reads.Post find-Inv-loop find-μ-loop
 find-returns-3 t c =
     let z = c .before .before .before .before in
     let s = start z in
-    λ coef. c .tile .ensures (plant s coef) refl ∙ node-tile (plant s coef) (s .args .x) (s .args .depth) (bytes s) (s .args .at) (box s (s .args .b)) (size z) (behind z) (number z) (c .before .if2 .taken) (c .before .before .if1 .left)
+    c .tile .ensures ∙ node-tile (frame s) (coef s) (s .args .x) (s .args .d) (bytes s) (s .args .at) (box s (s .args .b)) (size z) (behind z) (number z) (c .before .if2 .taken) (c .before .before .if1 .left)
 
 find-bad-table-requires-2 : (t : ℕ) → find-lts.Need-bad-table-requires-2 (claims t) (find-at t) reads.Post find-Inv-loop find-μ-loop
 find-bad-table-requires-2 t c κs = search needs
@@ -160,24 +160,24 @@ find-returns-4 : (t : ℕ) → find-lts.Need-returns-4 (claims t) (find-at t) re
 find-returns-4 t c =
     let z = c .before .before .before .before .before in
     let s = start z in
-    λ coef. ap Found.Refused (c .bad-table2 .ensures) ∙ node-deep (plant s coef) (s .args .x) (s .args .depth) (bytes s) (s .args .at) (box s (s .args .b)) (size z) (behind z) (number z) (c .before .before .if2 .left) (c .before .if3 .taken)
+    ap Found.Refused (c .bad-table2 .ensures) ∙ node-deep (frame s) (coef s) (s .args .x) (s .args .d) (bytes s) (s .args .at) (box s (s .args .b)) (size z) (behind z) (number z) (c .before .before .if2 .left) (c .before .if3 .taken)
 
 find-count-requires : (t : ℕ) → find-lts.Need-count-requires (claims t) (find-at t) reads.Post find-Inv-loop find-μ-loop
-find-count-requires t c κs = c .before .before .before .before .before .before .before .before .before .pre .1 .rooms
+find-count-requires t c κs = c .before .before .before .before .before .before .before .before .before .pre .1 .0 .rooms
 
 find-loop-holds : (t : ℕ) → find-lts.Need-loop-holds (claims t) (find-at t) reads.Post find-Inv-loop find-μ-loop
 find-loop-holds t c =
     let z = c .before .before .before .before .before in
     let s = start z in
-    (omega arith, λ coef. node-split (plant s coef) (s .args .x) (s .args .depth) (bytes s) (s .args .at) (box s (s .args .b)) (size z) (behind z) (number z) (c .before .before .if2 .left) (c .before .if3 .left))
+    (omega arith, node-split (frame s) (coef s) (s .args .x) (s .args .d) (bytes s) (s .args .at) (box s (s .args .b)) (size z) (behind z) (number z) (c .before .before .if2 .left) (c .before .if3 .left))
 
 find-child-requires : (t : ℕ) → find-lts.Need-child-requires (claims t) (find-at t) reads.Post find-Inv-loop find-μ-loop
 find-child-requires t c κs =
     let s = c .before .before .before .before .before .before .before .before .before .before .before .before in
-    (s .pre .1 .rooms, s .pre .1 .small, omega (arith, c .loop-test .taken, c .before .before .count .ensures))
+    (s .pre .1 .0 .rooms, s .pre .1 .1, omega (arith, c .loop-test .taken, c .before .before .count .ensures))
 
 find-missed-requires : (t : ℕ) → find-lts.Need-missed-requires (claims t) (find-at t) reads.Post find-Inv-loop find-μ-loop
-find-missed-requires t c κs = c .before .before .before .before .before .before .before .before .before .before .before .before .before .pre .1 .rooms
+find-missed-requires t c κs = c .before .before .before .before .before .before .before .before .before .before .before .before .before .pre .1 .0 .rooms
 
 find-sub-find : (t : ℕ) → find-lts.Need-sub-find (claims t) (find-at t) reads.Post find-Inv-loop find-μ-loop
 find-sub-find t c = omega arith
@@ -185,20 +185,20 @@ find-sub-find t c = omega arith
 find-find-requires : (t : ℕ) → find-lts.Need-find-requires (claims t) (find-at t) reads.Post find-Inv-loop find-μ-loop
 find-find-requires t c κs =
     let y = c .before in
-    (omega (arith, outset y .pre .0, y .before .before .before .before .before .if3 .left), ready y)
+    (omega (arith, outset y .pre .0, y .before .before .before .before .before .if3 .left), (outset y .pre .1 .0, small y))
 
 find-returns-5 : (t : ℕ) → find-lts.Need-returns-5 (claims t) (find-at t) reads.Post find-Inv-loop find-μ-loop
 find-returns-5 t c =
     let y = c .before .before in
     let s = outset y in
     let l = y .before .before .before .loop in
-    λ coef. c .find .ensures coef ∙ look-here (plant s coef) (s .args .x) (s .args .depth - 1) (bytes s) (s .args .at) (box s (s .args .b)) (l .c) (l .place) (below y) (box s (kid y)) (y .before .child .ensures) (holds-it y (c .before .if4 .taken)) ∙ l .inv .1 coef
+    c .find .ensures ∙ look-here (frame s) (coef s) (s .args .x) (s .args .d - 1) (bytes s) (s .args .at) (box s (s .args .b)) (l .c) (l .place) (below y) (box s (kid y)) (y .before .child .ensures) (holds-it y (c .before .if4 .taken)) ∙ l .inv .1
 
-find-sub-pass : (t : ℕ) → find-lts.Need-sub-pass (claims t) (find-at t) reads.Post find-Inv-loop find-μ-loop
-find-sub-pass t c = omega arith
+find-sub-walk : (t : ℕ) → find-lts.Need-sub-walk (claims t) (find-at t) reads.Post find-Inv-loop find-μ-loop
+find-sub-walk t c = omega arith
 
-find-pass-requires : (t : ℕ) → find-lts.Need-pass-requires (claims t) (find-at t) reads.Post find-Inv-loop find-μ-loop
-find-pass-requires t c κs = ready (c .before)
+find-walk-requires : (t : ℕ) → find-lts.Need-walk-requires (claims t) (find-at t) reads.Post find-Inv-loop find-μ-loop
+find-walk-requires t c κs = (outset (c .before) .pre .1 .0, small (c .before))
 
 find-enum-known-e : (t : ℕ) → find-lts.Need-enum-known-e (claims t) (find-at t) reads.Post find-Inv-loop find-μ-loop
 find-enum-known-e t c = search needs
@@ -208,9 +208,9 @@ find-returns-6 t c =
     let y = c .before .before .before .before .before in
     let s = outset y in
     let l = y .before .before .before .loop in
-    let r = c .before .before .before .pass in
+    let r = c .before .before .before .walk in
     let e = c .before .e .given in
-    λ coef. look-refused (plant s coef) (s .args .x) (s .args .depth - 1) (bytes s) (s .args .at) (box s (s .args .b)) (l .c) (l .place) (below y) (box s (kid y)) (y .before .child .ensures) (misses-it y (c .before .before .before .before .if4 .left)) (r .result) (r .ensures coef) (e .0 .0) (e .1) ∙ l .inv .1 coef
+    look-refused (frame s) (coef s) (s .args .x) (s .args .d - 1) (bytes s) (s .args .at) (box s (s .args .b)) (l .c) (l .place) (below y) (box s (kid y)) (y .before .child .ensures) (misses-it y (c .before .before .before .before .if4 .left)) (r .result) (r .ensures) (e .0 .0) (e .1) ∙ l .inv .1
 
 find-enum-known-m : (t : ℕ) → find-lts.Need-enum-known-m (claims t) (find-at t) reads.Post find-Inv-loop find-μ-loop
 find-enum-known-m t c = search needs
@@ -226,9 +226,9 @@ find-loop-again t c =
     let y = c .before .before .before .before .before in
     let s = outset y in
     let l = y .before .before .before .loop in
-    let r = c .before .before .before .pass in
+    let r = c .before .before .before .walk in
     let m = c .before .m .given in
-    (omega (arith, y .before .before .loop-test .taken), λ coef. look-more (plant s coef) (s .args .x) (s .args .depth - 1) (bytes s) (s .args .at) (box s (s .args .b)) (l .c) (l .place) (below y) (box s (kid y)) (y .before .child .ensures) (misses-it y (c .before .before .before .before .if4 .left)) (r .result) (r .ensures coef) (m .0 .0) (m .1) ∙ l .inv .1 coef)
+    (omega (arith, y .before .before .loop-test .taken), look-more (frame s) (coef s) (s .args .x) (s .args .d - 1) (bytes s) (s .args .at) (box s (s .args .b)) (l .c) (l .place) (below y) (box s (kid y)) (y .before .child .ensures) (misses-it y (c .before .before .before .before .if4 .left)) (r .result) (r .ensures) (m .0 .0) (m .1) ∙ l .inv .1)
 
 find-bad-table-requires-3 : (t : ℕ) → find-lts.Need-bad-table-requires-3 (claims t) (find-at t) reads.Post find-Inv-loop find-μ-loop
 find-bad-table-requires-3 t c κs = search needs
@@ -237,7 +237,7 @@ find-returns-7 : (t : ℕ) → find-lts.Need-returns-7 (claims t) (find-at t) re
 find-returns-7 t c =
     let s = c .before .before .before .before .before .before .before .before .before .before .before .before .before in
     let l = c .before .before .loop in
-    λ coef. ap Found.Refused (c .bad-table3 .ensures) ∙ look-none (plant s coef) (s .args .x) (s .args .depth - 1) (bytes s) (s .args .at) (box s (s .args .b)) (l .c) (l .place) (omega (arith, c .before .loop-test .left, c .before .before .before .count .ensures)) ∙ l .inv .1 coef
+    ap Found.Refused (c .bad-table3 .ensures) ∙ look-none (frame s) (coef s) (s .args .x) (s .args .d - 1) (bytes s) (s .args .at) (box s (s .args .b)) (l .c) (l .place) (omega (arith, c .before .loop-test .left, c .before .before .before .count .ensures)) ∙ l .inv .1
 
 pub +find-spec : {M : Type 1} → statement M
 +find-spec = close μ-find λ t. find-lts.spec (claims t)
@@ -263,8 +263,8 @@ pub +find-spec : {M : Type 1} → statement M
     (find-sub-find t)
     (find-find-requires t)
     (find-returns-5 t)
-    (find-sub-pass t)
-    (find-pass-requires t)
+    (find-sub-walk t)
+    (find-walk-requires t)
     (find-enum-known-e t)
     (find-returns-6 t)
     (find-enum-known-m t)

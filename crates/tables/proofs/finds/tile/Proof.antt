@@ -1,7 +1,6 @@
 -- `finds::tile`: what was answered for its modes. Assumes nothing.
 use denote.Ref.{now}
 use borrow.Author.Needs.{needs}
-use Rattle.meaning.specs.Tables.{rulesOf}
 use Rattle.meaning.specs.Verdicts.{modesAt}
 use Rattle.tables.specs.Tiles.{patternOf}
 use Rattle.tables.proofs.finds.Laws.{tile-refused, tile-found}
@@ -22,14 +21,14 @@ returns c =
     let a = c .before .before .before .before .before .args in
     let r = c .before .before .before .read-modes in
     let w = c .before .answer .given in
-    λ p e. tile-refused (patternOf (a .k) (r .result .us)) (modesAt (rulesOf p) (a .k) (now (a .table)) (a .from)) (a .from) (a .k) (r .result .answer) (w .0 .0) (r .ensures p e) (w .1)
+    tile-refused (patternOf (a .k) (r .result .us)) (modesAt (a .modes) (a .k) (now (a .table)) (a .from)) (a .from) (a .k) (r .result .answer) (w .0 .0) (r .ensures) (w .1)
 
 returns-2 : tie.Need-returns-2
 returns-2 c =
     let a = c .before .before .before .before .args in
     let r = c .before .before .read-modes in
     let w = c .enum-told .given in
-    λ p e. tile-found (patternOf (a .k) (r .result .us)) (modesAt (rulesOf p) (a .k) (now (a .table)) (a .from)) (a .from) (a .k) (r .result .answer) (w .0 .0) (r .ensures p e) (w .1)
+    tile-found (patternOf (a .k) (r .result .us)) (modesAt (a .modes) (a .k) (now (a .table)) (a .from)) (a .from) (a .k) (r .result .answer) (w .0 .0) (r .ensures) (w .1)
 
 pub tile-spec : {M : Type 1} → statement M
 tile-spec = tie.close (tie.spec read-modes-requires enum-known-answer enum-told returns returns-2)

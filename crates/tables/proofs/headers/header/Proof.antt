@@ -2,7 +2,6 @@
 use mathlib.Core.Path.{sym, ap, _∙_}
 use denote.Ref.{now}
 use Rattle.meaning.specs.declared.Walk.{Walk}
-use Rattle.meaning.specs.Tables.{rulesOf}
 use Rattle.tables.proofs.headers.Laws.{form-broken, form-wrong, n-broken, n-differs, n-same}
 use borrow.Author.Needs.{needs}
 use Rattle.tables.proofs.headers.header.Statement.{statement}
@@ -22,18 +21,18 @@ broken-requires c κs = search needs
 
 returns : tie.Need-returns
 returns c =
-    let s = now (c .before .before .before .before .before .args .table) in
-    λ p q. ap Walk.Refused (c .broken .ensures) ∙ form-broken (rulesOf p) s (sym (c .before .before .before .number .ensures) ∙ c .before .enum-told .given .1)
+    let a = c .before .before .before .before .before .args in
+    ap Walk.Refused (c .broken .ensures) ∙ form-broken (a .n) (now (a .table)) (sym (c .before .before .before .number .ensures) ∙ c .before .enum-told .given .1)
 
 wrong-form-requires : tie.Need-wrong-form-requires
 wrong-form-requires c κs = search needs
 
 returns-2 : tie.Need-returns-2
 returns-2 c =
-    let s = now (c .before .before .before .before .before .before .before .args .table) in
+    let a = c .before .before .before .before .before .before .before .args in
     let g = c .before .before .before .form .given in
     let e = sym (c .before .before .before .before .before .number .ensures) ∙ g .1 in
-    λ p q. ap Walk.Refused (c .wrong-form .ensures) ∙ form-wrong (rulesOf p) s (g .0 .0) (g .0 .1 .0) e (c .before .if1 .taken)
+    ap Walk.Refused (c .wrong-form .ensures) ∙ form-wrong (a .n) (now (a .table)) (g .0 .0) (g .0 .1 .0) e (c .before .if1 .taken)
 
 number-requires-2 : tie.Need-number-requires-2
 number-requires-2 c κs = search needs
@@ -49,32 +48,32 @@ broken-requires-2 c κs = search needs
 
 returns-3 : tie.Need-returns-3
 returns-3 c =
-    let s = now (c .before .before .before .before .before .before .before .before .before .before .args .table) in
+    let a = c .before .before .before .before .before .before .before .before .before .before .args in
     let g = c .before .before .before .before .before .before .form .given in
     let e = sym (c .before .before .before .before .before .before .before .before .number .ensures) ∙ g .1 in
     let f = sym (c .before .before .before .number2 .ensures) ∙ c .before .enum-told2 .given .1 in
-    λ p q. ap Walk.Refused (c .broken2 .ensures) ∙ n-broken (rulesOf p) s (g .0 .0) (g .0 .1 .0) e (c .before .before .before .before .if1 .left) f
+    ap Walk.Refused (c .broken2 .ensures) ∙ n-broken (a .n) (now (a .table)) (g .0 .0) (g .0 .1 .0) e (c .before .before .before .before .if1 .left) f
 
 bad-table-requires : tie.Need-bad-table-requires
 bad-table-requires c κs = search needs
 
 returns-4 : tie.Need-returns-4
 returns-4 c =
-    let s = now (c .before .before .before .before .before .before .before .before .before .before .before .before .args .table) in
+    let a = c .before .before .before .before .before .before .before .before .before .before .before .before .args in
     let g = c .before .before .before .before .before .before .before .before .form .given in
     let e = sym (c .before .before .before .before .before .before .before .before .before .before .number .ensures) ∙ g .1 in
     let v = c .before .before .before .m .given in
     let f = sym (c .before .before .before .before .before .number2 .ensures) ∙ v .1 in
-    λ p q. ap Walk.Refused (c .bad-table .ensures) ∙ n-differs (rulesOf p) s (g .0 .0) (g .0 .1 .0) e (c .before .before .before .before .before .before .if1 .left) (v .0 .0) (v .0 .1 .0) f (λ m. c .before .if2 .taken (m ∙ q))
+    ap Walk.Refused (c .bad-table .ensures) ∙ n-differs (a .n) (now (a .table)) (g .0 .0) (g .0 .1 .0) e (c .before .before .before .before .before .before .if1 .left) (v .0 .0) (v .0 .1 .0) f (c .before .if2 .taken)
 
 returns-5 : tie.Need-returns-5
 returns-5 c =
-    let s = now (c .before .before .before .before .before .before .before .before .before .before .before .args .table) in
+    let a = c .before .before .before .before .before .before .before .before .before .before .before .args in
     let g = c .before .before .before .before .before .before .before .form .given in
     let e = sym (c .before .before .before .before .before .before .before .before .before .number .ensures) ∙ g .1 in
     let v = c .before .before .m .given in
     let f = sym (c .before .before .before .before .number2 .ensures) ∙ v .1 in
-    λ p q. n-same (rulesOf p) s (g .0 .0) (g .0 .1 .0) e (c .before .before .before .before .before .if1 .left) (v .0 .0) (v .0 .1 .0) f (c .if2 .left ∙ sym q)
+    n-same (a .n) (now (a .table)) (g .0 .0) (g .0 .1 .0) e (c .before .before .before .before .before .if1 .left) (v .0 .0) (v .0 .1 .0) f (c .if2 .left)
 
 pub header-spec : {M : Type 1} → statement M
 header-spec =

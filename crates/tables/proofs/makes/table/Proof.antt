@@ -1,7 +1,8 @@
 -- `makes::table`: header, then the tree of R, at the frame that the plant was taken apart into. Assumes nothing.
-use mathlib.Core.Path.{refl, sym, subst}
+use mathlib.Core.Path.{_≡_, refl, sym, ap, subst}
 use Rattle.meaning.specs.declared.Plant.{Plant}
 use Rattle.promises.specs.Sound.{Sound}
+use Rattle.tables.specs.declared.frames.Frame.{Frame}
 use Rattle.tables.specs.Frames.{plantFrom}
 use Rattle.tables.specs.Limits.{Ready}
 use Rattle.tables.proofs.frames.Laws.{rooms, divisor-small, root-small, safe-small, band-small, step-sound}
@@ -15,8 +16,11 @@ module _ (c : tie.After-framed) where
   abbrev plant : Plant
   plant = plantFrom (c .framed .result) (c .before .before .args .p .coef)
 
+  same : plant ≡ c .before .before .args .p
+  same = ap (λ (f : Frame). plantFrom f (c .before .before .args .p .coef)) (c .framed .ensures)
+
   sound : Sound plant
-  sound = subst Sound (sym (c .framed .ensures)) (c .before .before .pre)
+  sound = subst Sound (sym same) (c .before .before .pre)
 
 -- and its limits
 ready : (c : tie.After-lay) → Ready (plant (c .before .before .before)) (c .lay .result .of)
@@ -53,7 +57,7 @@ returns c =
     let w = t .before .before .before .before .before .before .before .before .before in
     let v = w .before .before .before .before in
     let f = v .before .before .before .before .before .before .before in
-    table-wrote (plant f) (f .before .before .args .p) (f .framed .ensures) (v .put-number .ensures) (w .put-number2 .ensures) (t .tree .result) (t .tree .last .1 .1 .1 .1 .1 .1 .1 .1 .0) (t .tree .ensures .0)
+    table-wrote (plant f) (f .before .before .args .p) (same f) (v .put-number .ensures) (w .put-number2 .ensures) (t .tree .result) (t .tree .last .1 .1 .1 .1 .1 .1 .1 .1 .0) (t .tree .ensures .0)
 
 pub table-spec : {M : Type 1} → statement M
 table-spec =

@@ -38,7 +38,7 @@ returns c =
     let l = c .before .before .before .before .before .loop in
     let h = c .before .before .before .before .loop-test .taken in
     let v = sym (c .before .before .before .number .ensures) ∙ c .before .enum-told .given .1 in
-    λ p e. ap refused (c .broken .ensures) ∙ modes-end (a .modes) (a .k) (now (a .table)) (a .at) (l .i) (l .w) (l .us) (l .inv) h v p e
+    ap refused (c .broken .ensures) ∙ modes-end (a .modes) (a .k) (now (a .table)) (a .at) (l .i) (l .w) (l .us) (l .inv) h v
 
 bad-table-requires : tie.Need-bad-table-requires Inv-loop μ-loop
 bad-table-requires c κs = search needs
@@ -50,7 +50,7 @@ returns-2 c =
     let h = c .before .before .before .before .before .before .loop-test .taken in
     let g = c .before .before .before .u .given in
     let v = sym (c .before .before .before .before .before .number .ensures) ∙ g .1 in
-    λ p e. ap refused (c .bad-table .ensures) ∙ modes-past (a .modes) (a .k) (now (a .table)) (a .at) (l .i) (l .w) (l .us) (l .inv) h (g .0 .0) (g .0 .1 .0) v (c .before .if1 .taken) p e
+    ap refused (c .bad-table .ensures) ∙ modes-past (a .modes) (a .k) (now (a .table)) (a .at) (l .i) (l .w) (l .us) (l .inv) h (g .0 .0) (g .0 .1 .0) v (c .before .if1 .taken)
 
 mul-us : tie.Need-mul-us Inv-loop μ-loop
 mul-us c = omega (arith, c .before .before .before .before .before .before .before .before .pre)
@@ -77,7 +77,7 @@ returns-3 : tie.Need-returns-3 Inv-loop μ-loop
 returns-3 c =
     let a = c .before .before .before .args in
     let l = c .before .loop in
-    λ p e. modes-all (a .modes) (a .k) (now (a .table)) (a .at) (l .i) (l .w) (l .us) (l .inv) (c .loop-test .left) p e
+    modes-all (a .modes) (a .k) (now (a .table)) (a .at) (l .i) (l .w) (l .us) (l .inv) (c .loop-test .left)
 
 pub read-modes-spec : {M : Type 1} → statement M
 read-modes-spec =

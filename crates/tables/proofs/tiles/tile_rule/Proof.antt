@@ -4,20 +4,19 @@ use mathlib.Core.List.{List}
 use Prim.Native.Nat.{ℕ, _≤_, _<_, _-_}
 use native.Mathlib.Omega.{arith}
 use denote.Ref.{now}
+use lib.IntN.{ℤ}
 use Rattle.laws.specs.Lists.{tab}
 use Rattle.laws.specs.Tabs.{tab-all}
-use Rattle.meaning.specs.declared.Plant.{Plant}
 use Rattle.meaning.specs.declared.Rule.the-variants.{Misses}
 use Rattle.meaning.specs.Boxes.{Side}
 use Rattle.meaning.specs.Plants.{edgeLimit}
-use Rattle.meaning.specs.Rules.{rule, ruleFrom}
-use Rattle.meaning.specs.Tables.{rulesOf}
+use Rattle.meaning.specs.Rules.{Rules, rule, ruleFrom}
 use Rattle.tables.specs.declared.boxes.Bx.{Bx}
 use Rattle.tables.specs.Boxes.{boxOf, Small}
 use Rattle.tables.specs.Images.{StepSound}
-use Rattle.tables.specs.Frames.{plantFrom}
+use Rattle.tables.specs.Frames.{rulesIn}
 use Rattle.tables.specs.Tiles.{modeAt, patternOf}
-use Rattle.tables.proofs.frames.Laws.{rooms, step-sound}
+use Rattle.tables.proofs.frames.Laws.{step-in}
 use Rattle.tables.proofs.tiles.Laws.{rule-works, rule-misses, tile-leaves, tile-more, tile-small}
 use Rattle.tables.proofs.tiles.tile_rule.Statement.{statement}
 use Rattle.tables.proofs.tiles.tile_rule.Tie as tie
@@ -25,15 +24,18 @@ use Rattle.tables.proofs.tiles.tile_rule.Tie as tie
 abbrev Inv-loop : tie.InvT-loop
 Inv-loop f coef k us n q wlo whi safe c₀ i₀ c i =
     (i ≤ k) × Small edgeLimit (boxOf (f .n) c)
-    × (ruleFrom (rulesOf (plantFrom f coef)) i (boxOf (f .n) c) (tab (modeAt us) (k - i) i) ≡ rule (rulesOf (plantFrom f coef)) (boxOf (f .n) c₀) (patternOf k us))
+    × (ruleFrom (rulesIn f coef) i (boxOf (f .n) c) (tab (modeAt us) (k - i) i) ≡ rule (rulesIn f coef) (boxOf (f .n) c₀) (patternOf k us))
 
 abbrev μ-loop : tie.MeasureT-loop
 μ-loop f coef k us n q wlo whi safe c₀ i₀ c i = k - i
 
--- the plant, the pattern, a box, and the step of mode i
+-- the rules, the pattern, a box, and the step of mode i
 module _ (s : tie.Start Inv-loop μ-loop) where
-  abbrev plant : Plant
-  plant = plantFrom (s .args .f) (now (s .args .coef))
+  abbrev coef : List ℤ
+  coef = now (s .args .coef)
+
+  abbrev rules : Rules
+  rules = rulesIn (s .args .f) coef
 
   abbrev modes : ℕ → ℕ
   modes = modeAt (s .args .t4)
@@ -41,8 +43,8 @@ module _ (s : tie.Start Inv-loop μ-loop) where
   abbrev box : Bx → List Side
   box b = boxOf (s .args .f .n) b
 
-  sound : (i : ℕ) → i < s .args .k → StepSound (s .args .f .n) (s .args .f .q) (s .args .f .band .lo) (s .args .f .band .hi) (now (s .args .coef)) (modes i)
-  sound i h = step-sound plant (s .pre .0 .0) (modes i) (s .pre .1 .each i h)
+  sound : (i : ℕ) → i < s .args .k → StepSound (s .args .f .n) (s .args .f .q) (s .args .f .band .lo) (s .args .f .band .hi) coef (modes i)
+  sound i h = step-in (s .args .f) coef (s .pre .0 .0) (modes i) (s .pre .1 .each i h)
 
 -- where a round began: the call, and the loop's test
 abbrev start : tie.At-loop Inv-loop μ-loop → tie.Start Inv-loop μ-loop
@@ -69,7 +71,7 @@ image-requires c κs =
     (sound (start (t .before)) (l .i) (t .loop-test .taken), l .inv .1)
 
 within-requires : tie.Need-within-requires Inv-loop μ-loop
-within-requires c κs = let s = start (round c .before) in rooms (plant s) (s .pre .0 .0)
+within-requires c κs = let s = start (round c .before) in s .pre .0 .0 .rooms
 
 add-i : tie.Need-add-i Inv-loop μ-loop
 add-i c = let t = round (c .before .before) in let h = t .loop-test .taken in let k = start (t .before) .pre .1 .longest in omega arith
@@ -86,8 +88,8 @@ loop-again c =
     let h = t .loop-test .taken in
     let e = sym (c .before .within .ensures) ∙ c .if1 .taken in (
       omega arith,
-      tile-small (plant s) (modes s) (s .args .k) (l .i) (box s (l .c)) (box s (g .image .result)) h (g .image .ensures) (s .pre .0 .0) (l .inv .1) e,
-      sym (tile-more (plant s) (modes s) (s .args .k) (l .i) (box s (l .c)) (box s (g .image .result)) h (g .image .ensures) e) ∙ l .inv .2,
+      tile-small (s .args .f) (coef s) (modes s) (s .args .k) (l .i) (box s (l .c)) (box s (g .image .result)) h (g .image .ensures) e (s .pre .0 .0) (l .inv .1),
+      sym (tile-more (s .args .f) (coef s) (modes s) (s .args .k) (l .i) (box s (l .c)) (box s (g .image .result)) h (g .image .ensures) e) ∙ l .inv .2,
     )
 
 add-t29 : tie.Need-add-t29 Inv-loop μ-loop
@@ -100,17 +102,17 @@ returns c =
     let l = t .before .loop in
     let s = start (t .before) in
     let e = sym (c .before .within .ensures) ∙ c .if1 .left in
-    sym (tile-leaves (plant s) (modes s) (s .args .k) (l .i) (box s (l .c)) (box s (g .image .result)) (t .loop-test .taken) (g .image .ensures) e) ∙ l .inv .2
+    sym (tile-leaves (s .args .f) (coef s) (modes s) (s .args .k) (l .i) (box s (l .c)) (box s (g .image .result)) (t .loop-test .taken) (g .image .ensures) e) ∙ l .inv .2
 
 within-requires-2 : tie.Need-within-requires-2 Inv-loop μ-loop
-within-requires-2 c κs = let s = start (c .before .before) in rooms (plant s) (s .pre .0 .0)
+within-requires-2 c κs = let s = start (c .before .before) in s .pre .0 .0 .rooms
 
 returns-2 : tie.Need-returns-2 Inv-loop μ-loop
 returns-2 c =
     let t = c .before .before .before in
     let l = t .before .loop in
     let s = start (t .before) in
-    sym (rule-works (rulesOf (plant s)) (modes s) (s .args .k) (l .i) (box s (l .c)) (t .loop-test .left) (sym (c .before .within2 .ensures) ∙ c .if2 .taken)) ∙ l .inv .2
+    sym (rule-works (rules s) (modes s) (s .args .k) (l .i) (box s (l .c)) (t .loop-test .left) (sym (c .before .within2 .ensures) ∙ c .if2 .taken)) ∙ l .inv .2
 
 returns-3 : tie.Need-returns-3 Inv-loop μ-loop
 returns-3 c =
@@ -118,7 +120,7 @@ returns-3 c =
     let l = t .before .loop in
     let s = start (t .before) in
     let q : s .args .k ≡ l .i = omega arith in
-    ap Misses q ∙ sym (rule-misses (rulesOf (plant s)) (modes s) (s .args .k) (l .i) (box s (l .c)) (t .loop-test .left) (sym (c .before .within2 .ensures) ∙ c .if2 .left)) ∙ l .inv .2
+    ap Misses q ∙ sym (rule-misses (rules s) (modes s) (s .args .k) (l .i) (box s (l .c)) (t .loop-test .left) (sym (c .before .within2 .ensures) ∙ c .if2 .left)) ∙ l .inv .2
 
 pub tile-rule-spec : {M : Type 1} → statement M
 tile-rule-spec =

@@ -1,46 +1,42 @@
--- `checks::walk`, which calls itself with less depth: each return cites the law of the node that it stops at; in the loop over the children,
+-- `walks::walk`, which calls itself with less depth: each return cites the law of the node that it stops at; in the loop over the children,
 -- those that are left say what the whole says. Assumes nothing.
 use Prim.Native.Nat.{ℕ, _+_, _-_, _≤_, _<_}
 use mathlib.Core.Path.{_≡_, sym, ap, _∙_}
+use mathlib.Core.Bool.{Bool}
 use mathlib.Core.List.{List}
 use native.Mathlib.Omega.{arith}
 use denote.Ref.{now}
+use lib.IntN.{ℤ}
 use lib.ListN.{length, drop}
 use borrow.Author.Needs.{needs}
-use Rattle.meaning.specs.declared.Plant.{Plant}
 use Rattle.meaning.specs.declared.Number.{Number}
 use Rattle.meaning.specs.declared.Refusal.{Refusal}
-use Rattle.meaning.specs.declared.Rule.{Rule}
 use Rattle.meaning.specs.declared.Walk.{Walk}
 use Rattle.meaning.specs.Refusals.{badTable}
 use Rattle.meaning.specs.Numbers.{numberAt}
 use Rattle.meaning.specs.Boxes.{Side, children}
 use Rattle.meaning.specs.Plants.{edgeLimit}
-use Rattle.meaning.specs.Rules.{rule}
-use Rattle.meaning.specs.Tables.{rulesOf}
 use Rattle.meaning.specs.Verdicts.{each}
 use Rattle.tables.specs.Boxes.{boxOf}
-use Rattle.tables.specs.Frames.{plantFrom}
-use Rattle.tables.specs.Trees.{judged}
+use Rattle.tables.specs.declared.frames.Frame.{Frame}
 use Rattle.tables.proofs.boxes.Laws.{small-children}
-use Rattle.tables.proofs.frames.Laws.{rooms}
-use Rattle.tables.proofs.Walks.{tree-broken, tree-over, tree-tile, tree-deep, tree-stuck, tree-split, children-done, children-more, children-stopped}
+use Rattle.tables.proofs.walks.Laws.{tree, tree-broken, tree-over, tree-tile, tree-deep, tree-stuck, tree-split, children-done, children-more, children-stopped}
 use borrow.Fn.Kinds.{In}
 use borrow.Fn.PlainCycle.{Measures, is, falls, and}
-use Rattle.tables.proofs.checks.walk.Reads as walk
-use Rattle.tables.proofs.checks.walk.Kinds as walk-kinds
-use Rattle.tables.proofs.checks.+walk.Lts-walk as walk-lts
+use Rattle.tables.proofs.walks.walk.Reads as walk
+use Rattle.tables.proofs.walks.walk.Kinds as walk-kinds
+use Rattle.tables.proofs.walks.+walk.Lts-walk as walk-lts
 use Rattle.files.proofs.numbers.number.Reads as number-reads
 use Rattle.files.proofs.refusals.broken.Reads as broken-reads
 use Rattle.tables.proofs.boxes.child.Reads as child-reads
 use Rattle.tables.proofs.boxes.count.Reads as count-reads
-use Rattle.tables.proofs.checks.tile.Reads as tile-reads
+use Rattle.tables.proofs.walks.tile.Reads as tile-reads
 use Rattle.tables.proofs.refusals.bad_table.Reads as bad-table-reads
-use Rattle.tables.proofs.checks.+walk.{statement}
-use Rattle.tables.proofs.checks.+walk.Tie.{close}
+use Rattle.tables.proofs.walks.+walk.{statement}
+use Rattle.tables.proofs.walks.+walk.Tie.{close}
 
 abbrev μ-walk : Measures 2 walk-kinds.ps ℕ
-μ-walk κs a = a .1 .1 .1 .0
+μ-walk κs a = a .1 .1 .1 .1 .0
 
 abbrev walk-at : ℕ → In 2 walk-kinds.ps
 walk-at t = and 2 walk-kinds.ps (is 2 walk-kinds.ps μ-walk t) walk.Pre
@@ -52,11 +48,11 @@ abbrev claims : ℕ → walk-lts.Claims
 claims t = (number-reads.Asked, number-reads.Learnt, broken-reads.Asked, broken-reads.Learnt, bad-table-reads.Asked, bad-table-reads.Learnt, tile-reads.Asked, tile-reads.Learnt, count-reads.Asked, count-reads.Learnt, child-reads.Asked, child-reads.Learnt, walk-below t, walk.Post)
 
 abbrev walk-Inv-loop : walk-lts.InvT-loop
-walk-Inv-loop f coef table d at b k next n count place₀ c₀ place c =
-    (c ≤ count) × (each (judged (plantFrom f coef) (d - 1) table) (drop c (children (boxOf (f .n) b))) place ≡ judged (plantFrom f coef) d table at (boxOf (f .n) b))
+walk-Inv-loop f coef judged table d at b k next n count place₀ c₀ place c =
+    (c ≤ count) × (each (tree f coef judged (d - 1) table) (drop c (children (boxOf (f .n) b))) place ≡ tree f coef judged d table at (boxOf (f .n) b))
 
 abbrev walk-μ-loop : walk-lts.MeasureT-loop
-walk-μ-loop f coef table d at b k next n count place₀ c₀ place c = count - c
+walk-μ-loop f coef judged table d at b k next n count place₀ c₀ place c = count - c
 
 -- a call with that measure: at its start, with its node's number read, with a child walked over
 abbrev Call : ℕ → Type 0
@@ -68,13 +64,16 @@ Node t = walk-lts.After-k (claims t) (walk-at t) walk.Post walk-Inv-loop walk-μ
 abbrev Child : ℕ → Type 0
 Child t = walk-lts.After-walk (claims t) (walk-at t) walk.Post walk-Inv-loop walk-μ-loop
 
--- the plant, its tile rule, the table, the box, and the answer that is asked for
+-- the frame, the coefficients, the flag, the table, the box, and the answer that is asked for
 module _ (t : ℕ) (s : Call t) where
-  abbrev plant : Plant
-  plant = plantFrom (s .args .f) (now (s .args .coef))
+  abbrev frame : Frame
+  frame = s .args .f
 
-  abbrev judge : List Side → List ℕ → Rule
-  judge = rule (rulesOf plant)
+  abbrev coef : List ℤ
+  coef = now (s .args .coef)
+
+  abbrev flag : Bool
+  flag = s .args .judged
 
   abbrev table : List ℕ
   table = now (s .args .table)
@@ -83,7 +82,7 @@ module _ (t : ℕ) (s : Call t) where
   box = boxOf (s .args .f .n) (s .args .b)
 
   abbrev whole : Walk
-  whole = judged plant (s .args .d) table (s .args .at) box
+  whole = tree frame coef flag (s .args .d) table (s .args .at) box
 
 -- the node's number, and the laws of the node at it
 module _ (t : ℕ) (n : Node t) where
@@ -99,14 +98,14 @@ module _ (t : ℕ) (n : Node t) where
   value : numberAt (table t from) (from .args .at) ≡ Number.Value size next
   value = sym (n .before .before .number .ensures) ∙ n .k .given .1
 
-  over : plant t from .k < size → Walk.Refused (badTable (from .args .at)) ≡ whole t from
-  over h = tree-over (plant t from) (judge t from) (from .args .d) (table t from) (from .args .at) (box t from) size next value h
+  over : frame t from .k < size → Walk.Refused (badTable (from .args .at)) ≡ whole t from
+  over h = tree-over (frame t from) (coef t from) (flag t from) (from .args .d) (table t from) (from .args .at) (box t from) size next value h
 
   deep : size ≤ 0 → from .args .d ≡ 0 → Walk.Refused (badTable (from .args .at)) ≡ whole t from
-  deep z h = tree-deep (plant t from) (judge t from) (from .args .d) (table t from) (from .args .at) (box t from) size next value z h
+  deep z h = tree-deep (frame t from) (coef t from) (flag t from) (from .args .d) (table t from) (from .args .at) (box t from) size next value z h
 
   stuck : size ≤ 0 → length (children (box t from)) ≡ 0 → Walk.Refused (badTable (from .args .at)) ≡ whole t from
-  stuck z h = tree-stuck (plant t from) (judge t from) (from .args .d) (table t from) (from .args .at) (box t from) size next value z h
+  stuck z h = tree-stuck (frame t from) (coef t from) (flag t from) (from .args .d) (table t from) (from .args .at) (box t from) size next value z h
 
 -- a child walked over: the loop it is in, and the laws of the children at it
 module _ (t : ℕ) (w : Child t) where
@@ -124,11 +123,11 @@ module _ (t : ℕ) (w : Child t) where
   in-count = let k = w .before .before .before .before .before .count .ensures in let h = w .before .before .loop-test .taken in rw (← k) h
 
   stopped : (e : Refusal) → w .walk .result ≡ Walk.Refused e → w .walk .result ≡ whole t parent
-  stopped e h = children-stopped (plant t parent) (judge t parent) (parent .args .d - 1) (table t parent) (box t parent) done at-kid in-count (boxOf (parent .args .f .n) (w .before .child .result)) (w .before .child .ensures) (w .walk .result)
+  stopped e h = children-stopped (frame t parent) (coef t parent) (flag t parent) (parent .args .d - 1) (table t parent) (box t parent) done at-kid in-count (boxOf (parent .args .f .n) (w .before .child .result)) (w .before .child .ensures) (w .walk .result)
       (w .walk .ensures) e h ∙ w .before .before .before .loop .inv .1
 
-  more : (m : ℕ) → w .walk .result ≡ Walk.Next m → each (judged (plant t parent) (parent .args .d - 1) (table t parent)) (drop (done + 1) (children (box t parent))) m ≡ whole t parent
-  more m h = children-more (plant t parent) (judge t parent) (parent .args .d - 1) (table t parent) (box t parent) done at-kid in-count (boxOf (parent .args .f .n) (w .before .child .result)) (w .before .child .ensures) (w .walk .result)
+  more : (m : ℕ) → w .walk .result ≡ Walk.Next m → each (tree (frame t parent) (coef t parent) (flag t parent) (parent .args .d - 1) (table t parent)) (drop (done + 1) (children (box t parent))) m ≡ whole t parent
+  more m h = children-more (frame t parent) (coef t parent) (flag t parent) (parent .args .d - 1) (table t parent) (box t parent) done at-kid in-count (boxOf (parent .args .f .n) (w .before .child .result)) (w .before .child .ensures) (w .walk .result)
       (w .walk .ensures) m h ∙ w .before .before .before .loop .inv .1
 
 walk-number-requires : (t : ℕ) → walk-lts.Need-number-requires (claims t) (walk-at t) walk.Post walk-Inv-loop walk-μ-loop
@@ -147,7 +146,7 @@ walk-returns : (t : ℕ) → walk-lts.Need-returns (claims t) (walk-at t) walk.P
 walk-returns t c =
     let s = c .before .before .before .before .before in
     ap Walk.Refused (c .broken .ensures)
-    ∙ tree-broken (plant t s) (judge t s) (s .args .d) (table t s) (s .args .at) (box t s) (sym (c .before .before .before .number .ensures) ∙ c .before .enum-told .given .1)
+    ∙ tree-broken (frame t s) (coef t s) (flag t s) (s .args .d) (table t s) (s .args .at) (box t s) (sym (c .before .before .before .number .ensures) ∙ c .before .enum-told .given .1)
 
 walk-bad-table-requires : (t : ℕ) → walk-lts.Need-bad-table-requires (claims t) (walk-at t) walk.Post walk-Inv-loop walk-μ-loop
 walk-bad-table-requires t c κs = search needs
@@ -162,7 +161,7 @@ walk-returns-3 : (t : ℕ) → walk-lts.Need-returns-3 (claims t) (walk-at t) wa
 walk-returns-3 t c =
     let n = c .before .before .before .before .before in
     let s = from t n in
-    c .tile .ensures ∙ tree-tile (plant t s) (judge t s) (s .args .d) (table t s) (s .args .at) (box t s) (size t n) (next t n) (value t n) (c .before .if2 .taken) (c .before .before .if1 .left)
+    c .tile .ensures ∙ tree-tile (frame t s) (coef t s) (flag t s) (s .args .d) (table t s) (s .args .at) (box t s) (size t n) (next t n) (value t n) (c .before .if2 .taken) (c .before .before .if1 .left)
 
 walk-bad-table-requires-2 : (t : ℕ) → walk-lts.Need-bad-table-requires-2 (claims t) (walk-at t) walk.Post walk-Inv-loop walk-μ-loop
 walk-bad-table-requires-2 t c κs = search needs
@@ -171,7 +170,7 @@ walk-returns-4 : (t : ℕ) → walk-lts.Need-returns-4 (claims t) (walk-at t) wa
 walk-returns-4 t c = ap Walk.Refused (c .bad-table2 .ensures) ∙ deep t (c .before .before .before .before .before .before) (c .before .before .if2 .left) (c .before .if3 .taken)
 
 walk-count-requires : (t : ℕ) → walk-lts.Need-count-requires (claims t) (walk-at t) walk.Post walk-Inv-loop walk-μ-loop
-walk-count-requires t c κs = let s = c .before .before .before .before .before .before .before .before .before in rooms (plant t s) (s .pre .1 .0)
+walk-count-requires t c κs = let s = c .before .before .before .before .before .before .before .before .before in s .pre .1 .0 .rooms
 
 walk-bad-table-requires-3 : (t : ℕ) → walk-lts.Need-bad-table-requires-3 (claims t) (walk-at t) walk.Post walk-Inv-loop walk-μ-loop
 walk-bad-table-requires-3 t c κs = search needs
@@ -185,14 +184,14 @@ walk-loop-holds t c =
     let n = c .before .before .before .before .before .before .before in
     let s = from t n in
     let some : length (children (box t s)) ≡ 0 → ⊥ = λ z. c .if4 .left (c .before .count .ensures ∙ z) in
-    (omega arith, tree-split (plant t s) (judge t s) (s .args .d) (table t s) (s .args .at) (box t s) (size t n) (next t n) (value t n) (c .before .before .before .if2 .left) (c .before .before .if3 .left) some)
+    (omega arith, tree-split (frame t s) (coef t s) (flag t s) (s .args .d) (table t s) (s .args .at) (box t s) (size t n) (next t n) (value t n) (c .before .before .before .if2 .left) (c .before .before .if3 .left) some)
 
 walk-child-requires : (t : ℕ) → walk-lts.Need-child-requires (claims t) (walk-at t) walk.Post walk-Inv-loop walk-μ-loop
 walk-child-requires t c κs =
     let s = c .before .before .before .before .before .before .before .before .before .before .before .before .before in
     let k = c .before .before .before .count .ensures in
     let h = c .loop-test .taken in
-    (rooms (plant t s) (s .pre .1 .0), s .pre .1 .1, rw (← k) h)
+    (s .pre .1 .0 .rooms, s .pre .1 .1, rw (← k) h)
 
 walk-sub-walk : (t : ℕ) → walk-lts.Need-sub-walk (claims t) (walk-at t) walk.Post walk-Inv-loop walk-μ-loop
 walk-sub-walk t c = let z = c .before .before .before .before .before .if3 .left in omega arith
@@ -230,7 +229,7 @@ walk-returns-7 t c =
     let l = c .before .loop in
     let k = c .before .before .before .count .ensures in
     let h = c .loop-test .left in
-    children-done (plant t s) (judge t s) (s .args .d - 1) (table t s) (box t s) (l .c) (l .place) (rw (← k) h) ∙ l .inv .1
+    children-done (frame t s) (coef t s) (flag t s) (s .args .d - 1) (table t s) (box t s) (l .c) (l .place) (rw (← k) h) ∙ l .inv .1
 
 pub +walk-spec : {M : Type 1} → statement M
 +walk-spec = close μ-walk λ t. walk-lts.spec (claims t)

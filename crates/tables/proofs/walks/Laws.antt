@@ -1,56 +1,73 @@
--- The walk over a table's tree, over any judge of a tile, at a plant's rules in the terms of the code: a node, and a loop over a split's children. The
--- checker's walk judges a tile by the tile rule, the passing of a subtree lets every tile be. Relies on promises' page Walking.
+-- The walk over a table's tree at the rules of a frame, in the terms of the code: a tile by its modes and the judge of them, a node, and a loop over a
+-- split's children. Stated once over the flag, for checker and passing alike. Relies on promises' page Walking.
 use Prim.Native.Nat.{ℕ, _+_, _-_, _≤_, _<_}
 use mathlib.Core.Path.{_≡_, refl, sym, ap, _∙_}
+use mathlib.Core.Bool.{Bool}
 use mathlib.Core.List.{List, [], _∷_}
 use native.Mathlib.Omega.{arith}
+use lib.IntN.{ℤ}
 use lib.ListN.{length, getD, drop}
 use Rattle.meaning.specs.declared.Number.{Number}
-use Rattle.meaning.specs.declared.Plant.{Plant}
 use Rattle.meaning.specs.declared.Refusal.{Refusal}
 use Rattle.meaning.specs.declared.Rule.{Rule}
 use Rattle.meaning.specs.declared.Walk.{Walk}
 use Rattle.meaning.specs.Boxes.{Side, children}
+use Rattle.meaning.specs.Files.{Read}
 use Rattle.meaning.specs.Numbers.{numberAt}
 use Rattle.meaning.specs.Refusals.{broken, badTable}
-use Rattle.meaning.specs.Tables.{rulesOf}
-use Rattle.meaning.specs.Verdicts.{onModes, each, modesAt, walk}
+use Rattle.meaning.specs.Verdicts.{onRule, onModes, each, modesAt}
 use Rattle.promises.specs.Walking.{each-done, each-more, each-refused, walk-broken, walk-deep, walk-stuck, walk-split, walk-over, walk-tile}
+use Rattle.tables.specs.declared.frames.Frame.{Frame}
+use Rattle.tables.specs.Frames.{rulesIn}
+use Rattle.tables.specs.Modes.{told}
+use Rattle.tables.specs.Walks.{judgeBy, walkBy}
+
+-- ---- a tile: what its modes were told as, and what its judge says of them
+
+module _ (modes : Read (List ℕ)) (at : ℕ) (judge : List ℕ → Rule) (a : Walk) (us : List ℕ) (q : told a us ≡ modes) where
+  pub tile-stopped : (e : Refusal) → a ≡ Walk.Refused e → a ≡ onModes modes at judge
+  tile-stopped e h = rw (← q, h) refl
+
+  pub tile-judged : (m : ℕ) → a ≡ Walk.Next m → (v : Rule) → v ≡ judge us → onRule v at m ≡ onModes modes at judge
+  tile-judged m h v e = rw (← q, h, e) refl
 
 none : (bs : List (List Side)) → length bs ≡ 0 → bs ≡ []
 none [] h = refl
 none (b ∷ bs) h = absurd (omega arith)
 
-module _ (p : Plant) (judge : List Side → List ℕ → Rule) where
+module _ (f : Frame) (coef : List ℤ) (judged : Bool) where
+  abbrev judge : List Side → List ℕ → Rule
+  judge = judgeBy judged (rulesIn f coef)
+
   -- the walk over the tree at `at`, over box b with depth d left
   abbrev pub tree : ℕ → List ℕ → ℕ → List Side → Walk
-  tree d s at b = walk (rulesOf p) judge d s at b
+  tree d s at b = walkBy judged (rulesIn f coef) d s at b
 
   -- ---- a node
 
   module _ (d : ℕ) (s : List ℕ) (at : ℕ) (b : List Side) where
     pub tree-broken : numberAt s at ≡ Number.Broken → Walk.Refused (broken at) ≡ tree d s at b
-    tree-broken e = sym (walk-broken (rulesOf p) judge d s at b e)
+    tree-broken e = sym (walk-broken (rulesIn f coef) judge d s at b e)
 
     module _ (k m : ℕ) (e : numberAt s at ≡ Number.Value k m) where
-      pub tree-over : p .k < k → Walk.Refused (badTable at) ≡ tree d s at b
-      tree-over h = sym (walk-over (rulesOf p) judge d s at b k m e h)
+      pub tree-over : f .k < k → Walk.Refused (badTable at) ≡ tree d s at b
+      tree-over h = sym (walk-over (rulesIn f coef) judge d s at b k m e h)
 
-      pub tree-tile : 0 < k → k ≤ p .k → onModes (modesAt (rulesOf p) k s m) at (judge b) ≡ tree d s at b
-      tree-tile h l = sym (walk-tile (rulesOf p) judge d s at b k m e (omega arith) l)
+      pub tree-tile : 0 < k → k ≤ f .k → onModes (modesAt (f .modes) k s m) at (judge b) ≡ tree d s at b
+      tree-tile h l = sym (walk-tile (rulesIn f coef) judge d s at b k m e (omega arith) l)
 
       module _ (z : k ≤ 0) where
         split : numberAt s at ≡ Number.Value 0 m
         split = let q : k ≡ 0 = omega arith in rw q at e
 
         pub tree-deep : d ≡ 0 → Walk.Refused (badTable at) ≡ tree d s at b
-        tree-deep h = sym (walk-deep (rulesOf p) judge d s at b m split h)
+        tree-deep h = sym (walk-deep (rulesIn f coef) judge d s at b m split h)
 
         pub tree-stuck : length (children b) ≡ 0 → Walk.Refused (badTable at) ≡ tree d s at b
-        tree-stuck h = sym (walk-stuck (rulesOf p) judge d s at b m split (none (children b) h))
+        tree-stuck h = sym (walk-stuck (rulesIn f coef) judge d s at b m split (none (children b) h))
 
         pub tree-split : (d ≡ 0 → ⊥) → (length (children b) ≡ 0 → ⊥) → each (tree (d - 1) s) (drop 0 (children b)) m ≡ tree d s at b
-        tree-split h l = sym (walk-split (rulesOf p) judge d s at b m (d - 1) split (omega arith) (λ q. l (ap length q)))
+        tree-split h l = sym (walk-split (rulesIn f coef) judge d s at b m (d - 1) split (omega arith) (λ q. l (ap length q)))
 
   -- ---- children in a loop: c of them are done, w is the place behind them
 

@@ -1,0 +1,97 @@
+// The walk over a table's tree (document 01, "Table file" and the order of judgement): one pass, in file order; the checker's, which judges each tile by
+// the tile rule, and the passing of a subtree, which reads its numbers as the checker does and tests no image.
+// Relies on crate files for numbers, on modes and tiles for a tile, on boxes for a split's children. Leaves out the header before the tree and what
+// stands behind it.
+use crate::boxes;
+use crate::boxes::Bx;
+use crate::frames::Frame;
+use crate::modes;
+use crate::refusals;
+use crate::tiles;
+use files::numbers;
+use meaning::Number;
+use meaning::Rule;
+use meaning::Walk;
+ghost use mathlib.Core.Path.{_≡_};
+ghost use Prim.Native.Nat.{_≤_};
+ghost use Rattle.meaning.specs.Plants.{edgeLimit};
+ghost use Rattle.meaning.specs.Verdicts.{onModes, modesAt};
+ghost use Rattle.tables.specs.Boxes.{boxOf, Small};
+ghost use Rattle.tables.specs.Frames.{rulesIn, FrameSound};
+ghost use Rattle.tables.specs.Walks.{judgeBy, walkBy};
+
+// The tile at `at`, whose k modes begin at `from`: all of them are read before an image is tested. A fault of the pattern is told at the tile.
+fn tile(
+    f: Frame,
+    coef: &[i64; 320],
+    judged: bool,
+    table: &[u8],
+    at: usize,
+    k: usize,
+    from: usize,
+    b: Bx,
+) -> Walk
+    requires frame { ⌜ FrameSound f (now coef) × Small edgeLimit (boxOf (f .n) b) ⌝ }
+    requires size { ⌜ k ≤ f .k ⌝ }
+    ensures { λ r. ⌜ r ≡ onModes (modesAt (f .modes) k (now (table .entry)) from) at (judgeBy judged (rulesIn f (now (coef .entry))) (boxOf (f .n) b)) ⌝ }
+{
+    let read = modes::read_modes(f.modes, k, table, from);
+    let past = read.answer;
+    let Walk::Next(next) = past else {
+        return past;
+    };
+    if judged {
+        let us = read.us;
+        match tiles::tile_rule(f, coef, k, us, b) {
+            Rule::Works => Walk::Next(next),
+            Rule::Leaves(i) => Walk::Refused(refusals::leaves(at, i)),
+            Rule::Misses(i) => Walk::Refused(refusals::misses(at, i)),
+        }
+    } else {
+        Walk::Next(next)
+    }
+}
+
+// The tree at `at`, over box b with depth d left: the place behind it, or the first fault in file order.
+pub fn walk(
+    f: Frame,
+    coef: &[i64; 320],
+    judged: bool,
+    table: &[u8],
+    d: usize,
+    at: usize,
+    b: Bx,
+) -> Walk
+    requires { ⌜ FrameSound f (now coef) × Small edgeLimit (boxOf (f .n) b) ⌝ }
+    ensures { λ r. ⌜ r ≡ walkBy judged (rulesIn f (now (coef .entry))) d (now (table .entry)) at (boxOf (f .n) b) ⌝ }
+{
+    let Number::Value(k, next) = numbers::number(table, at) else {
+        return Walk::Refused(files::refusals::broken(at));
+    };
+    if f.k < k {
+        return Walk::Refused(refusals::bad_table(at));
+    }
+    if 0 < k {
+        return tile(f, coef, judged, table, at, k, next, b);
+    }
+    if d == 0 {
+        return Walk::Refused(refusals::bad_table(at));
+    }
+    let n = f.n;
+    let count = boxes::count(n, b);
+    if count == 0 {
+        return Walk::Refused(refusals::bad_table(at));
+    }
+    let mut place = next;
+    let mut c: usize = 0;
+    while c < count {
+        let child = boxes::child(n, b, c);
+        let past = walk(f, coef, judged, table, d - 1, place, child);
+        let Walk::Next(m) = past else {
+            return past;
+        };
+        place = m;
+        c += 1;
+    }
+    Walk::Next(place)
+}
