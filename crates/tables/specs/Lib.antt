@@ -4,8 +4,8 @@ pub mod Frames
 pub mod Tiles
 pub mod Modes
 pub mod Control
-pub mod Search
+pub mod Levels
 pub mod Limits
-pub mod Beginnings
+pub mod Search
 pub mod Makes
 pub mod Walks

@@ -1,40 +1,118 @@
--- A pattern that is sought, as the code holds it: one number with a digit of 16 for each mode, the first mode lowest; and one more than it where
--- there may be none. And one mode in front of the search of the rest. Definitions alone.
-use Prim.Native.Nat.{ℕ, zero, suc, _/_, _%_}
+-- The search of a box's first pattern as loops do it, over what it is lent: whether an image stays in S and whether it lands in the goal, mode by
+-- mode, and the image. What is left to find is said of the levels of a beginning, each a box and the mode that is tried on it; and how many turns
+-- are left at most. Then the same at limits and rows. Definitions alone.
+use Prim.Native.Nat.{ℕ, zero, suc, _+_, _-_, _*_, _≤_, _<_}
+use mathlib.Core.Path.{_≡_}
 use mathlib.Core.Bool.{Bool, true, false}
 use mathlib.Core.List.{List, [], _∷_}
 use mathlib.Core.Option.{Option, none, some}
 use lib.Dec.{ltb}
+use lib.ListN.{length}
+use lib.IntN.{ℤ}
 use Rattle.laws.specs.Guards.{guard}
-use Rattle.meaning.specs.Rules.{Rules}
-use Rattle.meaning.specs.Defined.{exactly}
+use Rattle.meaning.specs.Boxes.{Side}
+use Rattle.meaning.specs.Defined.{orElse, mapSome, firstMode}
+use Rattle.meaning.specs.Plants.{edgeLimit}
+use Rattle.tables.specs.Boxes.{Small}
+use Rattle.tables.specs.Levels.{room, levelIn}
+use Rattle.tables.specs.Tiles.{modeAt, patternOf}
+use Rattle.tables.specs.Limits.{staysLent, landsLent, imageLent}
 
--- the m modes of a number
-unfoldable pub digits : ℕ → ℕ → List ℕ
-digits zero code = []
-digits (suc m) code = code % 16 ∷ digits m (code / 16)
+pub record Level : Type 0 where
+  pub box : List Side
+  pub mode : ℕ
 
--- 0 where there is no pattern
-abbrev pub soughtOf : ℕ → ℕ → Option (List ℕ)
-soughtOf m zero = none
-soughtOf m (suc code) = some (digits m code)
+abbrev pub level : List Side → ℕ → Level
+level b u = record { box = b; mode = u }
+
+-- a pattern that begins with the modes of these levels, the deepest in front
+unfoldable pub begun : List Level → List ℕ → List ℕ
+begun [] us = us
+begun (v ∷ below) us = begun below (v .mode ∷ us)
+
+module _ (stays lands : ℕ → List Side → Bool) (image : ℕ → List Side → List Side) (N : ℕ) where
+  -- behind mode u on box b, the first j modes that work
+  unfoldable pub behind : ℕ → List Side → ℕ → Option (List ℕ)
+  behind zero b u = guard (lands u b) none λ _. some []
+  behind (suc j) b u = guard (stays u b) none λ _. firstMode (behind j (image u b)) N 0
+
+  -- a mode and j behind it
+  abbrev pub sought : ℕ → List Side → Option (List ℕ)
+  sought j b = firstMode (behind j b) N 0
+
+  -- so many lengths, from one mode and j behind it on
+  unfoldable pub soughtFrom : ℕ → ℕ → List Side → Option (List ℕ)
+  soughtFrom zero j b = none
+  soughtFrom (suc more) j b = orElse (sought j b) λ _. soughtFrom more (suc j) b
+
+  -- what is left below a level that has j modes behind its own: the levels below it, each moved one mode on
+  unfoldable pub leftBelow : ℕ → List Level → Option (List ℕ)
+  leftBelow j [] = none
+  leftBelow j (v ∷ below) =
+      orElse (mapSome (begun below) (firstMode (behind (suc j) (v .box)) (N - suc (v .mode)) (suc (v .mode)))) λ _. leftBelow (suc j) below
+
+  -- and with the level itself, box b, from mode u on
+  abbrev pub rest : ℕ → List Side → ℕ → List Level → Option (List ℕ)
+  rest j b u below = orElse (mapSome (begun below) (firstMode (behind j b) (N - u) u)) λ _. leftBelow j below
+
+-- ---- how many turns of the loop are left at most: of one mode with j behind it, below a level, and with it
+
+module _ (N : ℕ) where
+  unfoldable pub turns : ℕ → ℕ
+  turns zero = 1
+  turns (suc j) = N * turns j + 2
+
+  unfoldable pub turnsBelow : ℕ → List Level → ℕ
+  turnsBelow j [] = 0
+  turnsBelow j (v ∷ below) = (N - suc (v .mode)) * turns (suc j) + 1 + turnsBelow (suc j) below
+
+  abbrev pub turnsLeft : ℕ → ℕ → List Level → ℕ
+  turnsLeft j u below = (N - u) * turns j + 1 + turnsBelow j below
+
+-- ---- the levels below level l, as two arrays hold them
+
+unfoldable pub levelsBelow : ℕ → List ℤ → List ℕ → ℕ → List Level
+levelsBelow n boxes us zero = []
+levelsBelow n boxes us (suc l) = level (levelIn n boxes l) (modeAt us l) ∷ levelsBelow n boxes us l
+
+-- their boxes small, their modes below N
+unfoldable pub Open : ℕ → List Level → Type 0
+Open modes [] = Unit {0}
+Open modes (v ∷ below) = Small edgeLimit (v .box) × (v .mode < modes) × Open modes below
+
+-- level l and what is below it as they were
+pub record SameTo (n l : ℕ) (boxes₀ : List ℤ) (us₀ : List ℕ) (boxes : List ℤ) (us : List ℕ) : Type 0 where
+  pub boxes-same : (j : ℕ) → j ≤ l → levelIn n boxes j ≡ levelIn n boxes₀ j
+  pub modes-same : (j : ℕ) → j < l → modeAt us j ≡ modeAt us₀ j
 
 -- a pattern by its length, 0 where there is none
-abbrev pub patternBy : ℕ → ℕ → Option (List ℕ)
-patternBy zero code = none
-patternBy (suc m) code = some (digits (suc m) code)
+abbrev pub patternBy : ℕ → List ℕ → Option (List ℕ)
+patternBy zero us = none
+patternBy (suc m) us = some (patternOf (suc m) us)
 
+-- a mode below N, as a pattern of one
 abbrev pub picked : Bool → ℕ → Option (List ℕ)
 picked true u = some (u ∷ [])
 picked false u = none
 
--- a mode below N, as a pattern of one
 abbrev pub oneOf : ℕ → ℕ → Option (List ℕ)
 oneOf modes u = picked (ltb u modes) u
 
-module _ (r : Rules) where
-  open Rules r using (Kept, within, image, kept, safe)
+-- ---- at limits and rows
 
-  -- mode u, and behind it the first m modes that work from the image: none where the image leaves S
-  abbrev pub behindMode : ℕ → Kept → ℕ → Option (List ℕ)
-  behindMode m b u = let c = image u b in guard (within (kept c) safe) none λ _. exactly r m c
+module _ (n modes q : ℕ) (coef limits : List ℤ) where
+  abbrev pub soughtLent : ℕ → List Side → Option (List ℕ)
+  soughtLent = sought (staysLent n coef limits) (landsLent n coef limits) (imageLent n q coef limits) modes
+
+  abbrev pub shortestLent : ℕ → List Side → Option (List ℕ)
+  shortestLent k b = soughtFrom (staysLent n coef limits) (landsLent n coef limits) (imageLent n q coef limits) modes k 0 b
+
+  abbrev pub restLent : ℕ → List Side → ℕ → List Level → Option (List ℕ)
+  restLent = rest (staysLent n coef limits) (landsLent n coef limits) (imageLent n q coef limits) modes
+
+  -- a level behind a mode below N is the image of the one before it, and lies in S
+  pub record Standing (boxes : List ℤ) (us : List ℕ) : Type 0 where
+    pub roomy : length boxes ≡ room
+    pub long : length us ≡ 6
+    pub stands : (j : ℕ) → j < 5 → modeAt us j < modes
+        → (staysLent n coef limits (modeAt us j) (levelIn n boxes j) ≡ true) × (levelIn n boxes (suc j) ≡ imageLent n q coef limits (modeAt us j) (levelIn n boxes j))

@@ -9,7 +9,7 @@ ghost use lib.IntN.{natAbs, _+ℤ_};
 ghost use Rattle.laws.specs.Lists.{at};
 ghost use Rattle.meaning.specs.Boxes.{side, sideAt, sidesOf};
 ghost use Rattle.meaning.specs.Images.{leastOf, greatestOf, imageSide, image};
-ghost use Rattle.meaning.specs.Plants.{edgeLimit, bandLimit, entryLimit};
+ghost use Rattle.meaning.specs.Plants.{edgeLimit, bandLimit, entryLimit, rowStart};
 ghost use Rattle.tables.specs.Boxes.{boxOf, Bounded, Small};
 ghost use Rattle.tables.specs.Images.{rowLimit, entriesOf, rowAt, stepFrom, RowSound, StepSound, Extremes};
 
@@ -20,7 +20,7 @@ pub struct Span {
 }
 
 // The least and the greatest of a·x over l..h: a takes the low or the high edge by its sign.
-fn term(a: i64, l: i64, h: i64) -> Span
+pub fn term(a: i64, l: i64, h: i64) -> Span
     requires { ⌜ (natAbs a ≤ entryLimit) × (natAbs l ≤ edgeLimit) × (natAbs h ≤ edgeLimit) ⌝ }
     ensures { λ r. ⌜ (r .lo ≡ leastOf a (side l h)) × (r .hi ≡ greatestOf a (side l h)) ⌝ }
 {
@@ -79,6 +79,14 @@ pub fn extremes(n: usize, coef: &[i64; 320], start: usize, lo: &[i64; 4], hi: &[
         return three;
     }
     more(coef, start, 3, lo, hi, three)
+}
+
+// Where row i of mode u starts.
+pub fn row(n: usize, u: usize, i: usize) -> usize
+    requires { ⌜ rowStart n u i + n < 320 ⌝ }
+    ensures { λ r. ⌜ r ≡ rowStart n u i ⌝ }
+{
+    (u * n + i) * (n + 1)
 }
 
 // One side of an image, by the row that starts at `start` and its band wl..wh.

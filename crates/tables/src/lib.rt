@@ -1,7 +1,6 @@
 // Tables of document 01: the maker (makes), the checker (checks) and the controller's call (control). The other modules are private to the
 // crate: their functions ask something of a plant that was judged (`requires`), which only callers inside the crate can be asked to prove; what
 // another crate may call has no `requires`.
-mod beginnings;
 mod boxes;
 pub mod checks;
 pub mod control;
@@ -10,6 +9,7 @@ mod finds;
 mod frames;
 mod headers;
 mod images;
+mod levels;
 mod limits;
 pub mod makes;
 mod modes;

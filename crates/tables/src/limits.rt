@@ -1,18 +1,32 @@
 // Limits: where the sums of a row have to lie for an image to lie in S or in R, with which the search tells both without dividing; and marks of
-// modes that have one matrix, as those of a sheet all have, with which it makes what it needs of that matrix once for all of them.
-// Relies on frames, and on images for a pair of numbers. Leaves out the sums themselves (images) and who tests them (steps).
+// modes whose last row is that of the mode before, as in every plant made of a sheet, with which it makes what it needs of that row once for all of
+// them.
+// Relies on frames, on levels for the array, and on images for a pair of numbers. Leaves out the sums themselves (levels) and who tests them (steps).
 use crate::frames::Frame;
+use crate::images;
 use crate::images::Span;
+use crate::levels;
+use crate::levels::ROOM;
 ghost use mathlib.Core.Path.{_≡_};
 ghost use mathlib.Core.Bool.{true};
-ghost use Prim.Native.Nat.{ℕ, _+_, _≤_, _<_};
+ghost use Prim.Native.Nat.{ℕ, _-_, _≤_, _<_};
 ghost use lib.ListN.{length};
 ghost use lib.IntN.{pos};
 ghost use Rattle.meaning.specs.Boxes.{side, sideAt};
 ghost use Rattle.meaning.specs.Plants.{edgeLimit, bandLimit};
 ghost use Rattle.tables.specs.Boxes.{boxOf, Bounded, Small};
 ghost use Rattle.tables.specs.Images.{entriesOf, RowSound};
-ghost use Rattle.tables.specs.Limits.{limitSide, stored, Laid, Alike, Marked, RowsSound};
+ghost use Rattle.tables.specs.Levels.{room};
+ghost use Rattle.tables.specs.Limits.{limitSide, Laid, lastEntries, Marked, RowsSound};
+
+// Where the limits of S stand in the array, those of R, the band, and the marks.
+pub const SAFE: usize = 0;
+
+pub const GOAL: usize = 8;
+
+pub const BAND: usize = 16;
+
+pub const MARKS: usize = 24;
 
 // The limits of side l..h with the band wl..wh: q·(l - 1) + 1 - wl, and q·(h + 1) - 1 - wh.
 fn around(q: usize, wl: i64, wh: i64, l: i64, h: i64) -> Span
@@ -25,18 +39,9 @@ fn around(q: usize, wl: i64, wh: i64, l: i64, h: i64) -> Span
     Span { lo: from, hi: to }
 }
 
-// Side i of the box at `base`.
-fn put_side(limits: &mut [i64; 40], base: usize, i: usize, from: i64, to: i64)
-    requires { ⌜ (base ≤ 16) × (i < 4) ⌝ }
-    ensures { λ _. ⌜ now (limits .exit) ≡ stored (now (limits .entry)) base i (side from to) ⌝ }
-{
-    limits[base + i] = from;
-    limits[base + 4 + i] = to;
-}
-
-// What the search is lent: the limits of S, those of R, and the band, of each box four lows, then four highs; then the marks of the modes.
+// What the search is lent: the limits of S, those of R, and the band; then the marks of the modes.
 pub struct Limits {
-    pub of: [i64; 40],
+    pub of: [i64; ROOM],
 }
 
 // The three boxes.
@@ -44,12 +49,12 @@ fn lay_boxes(f: Frame) -> Limits
     requires sizes { ⌜ (f .n ≤ 4) × (f .q ≤ 10_000) ⌝ }
     requires boxes { ⌜ Small bandLimit (boxOf (f .n) (f .band)) × Small edgeLimit (boxOf (f .n) (f .root)) × Small edgeLimit (boxOf (f .n) (f .safe)) ⌝ }
     ensures laid { λ r. ⌜ Laid (f .n) (f .q) (sideAt (f .root .lo) (f .root .hi)) (sideAt (f .safe .lo) (f .safe .hi)) (sideAt (f .band .lo) (f .band .hi)) (r .of) ⌝ }
-    ensures size { λ r. ⌜ length (r .of) ≡ 40 ⌝ }
+    ensures size { λ r. ⌜ length (r .of) ≡ room ⌝ }
 {
     let band = f.band;
     let safe = f.safe;
     let root = f.root;
-    let mut of = [0i64; 40];
+    let mut of = [0i64; ROOM];
     let mut i: usize = 0;
     while i < f.n {
         let wl = band.lo[i];
@@ -59,10 +64,10 @@ fn lay_boxes(f: Frame) -> Limits
         let rl = root.lo[i];
         let rh = root.hi[i];
         let s = around(f.q, wl, wh, sl, sh);
-        put_side(&mut of, 0, i, s.lo, s.hi);
+        levels::put_side(&mut of, SAFE, i, s.lo, s.hi);
         let r = around(f.q, wl, wh, rl, rh);
-        put_side(&mut of, 8, i, r.lo, r.hi);
-        put_side(&mut of, 16, i, wl, wh);
+        levels::put_side(&mut of, GOAL, i, r.lo, r.hi);
+        levels::put_side(&mut of, BAND, i, wl, wh);
         i += 1;
     }
     Limits { of }
@@ -86,25 +91,25 @@ fn same_row(n: usize, coef: &[i64; 320], a: usize, b: usize) -> bool
     true
 }
 
-// The mark of mode u: 1 where the mode behind it has the same matrix, else 0.
+// The mark of mode u: 1 where its last row has the entries of that of the mode before it, else 0.
 fn mark(n: usize, coef: &[i64; 320], u: usize) -> i64
-    requires { ⌜ (u < 16) × RowsSound n (now coef) u × RowsSound n (now coef) (u + 1) ⌝ }
-    ensures { λ r. ⌜ ((r ≡ pos 0 → ⊥) → Alike n (now (coef .entry)) u) ⌝ }
+    requires { ⌜ (1 ≤ n) × (u < 16) × RowsSound n (now coef) u × (1 ≤ u → RowsSound n (now coef) (u - 1)) ⌝ }
+    ensures { λ r. ⌜ ((r ≡ pos 0 → ⊥) → (1 ≤ u) × (lastEntries n (now (coef .entry)) (u - 1) ≡ lastEntries n (now (coef .entry)) u)) ⌝ }
 {
-    let mut i: usize = 0;
-    while i < n {
-        if same_row(n, coef, (u * n + i) * (n + 1), ((u + 1) * n + i) * (n + 1)) {
-            i += 1;
-        } else {
-            return 0;
-        }
+    if u == 0 {
+        return 0;
     }
-    1
+    let before = images::row(n, u - 1, n - 1);
+    let start = images::row(n, u, n - 1);
+    if same_row(n, coef, before, start) {
+        return 1;
+    }
+    0
 }
 
 // The boxes, and behind them the marks.
 pub fn lay(f: Frame, coef: &[i64; 320]) -> Limits
-    requires sizes { ⌜ (f .n ≤ 4) × (f .q ≤ 10_000) × (f .modes ≤ 16) ⌝ }
+    requires sizes { ⌜ (1 ≤ f .n) × (f .n ≤ 4) × (f .q ≤ 10_000) × (f .modes ≤ 16) ⌝ }
     requires boxes { ⌜ Small bandLimit (boxOf (f .n) (f .band)) × Small edgeLimit (boxOf (f .n) (f .root)) × Small edgeLimit (boxOf (f .n) (f .safe)) ⌝ }
     requires rows { ⌜ ((u : ℕ) → u < f .modes → RowsSound (f .n) (now coef) u) ⌝ }
     ensures laid { λ r. ⌜ Laid (f .n) (f .q) (sideAt (f .root .lo) (f .root .hi)) (sideAt (f .safe .lo) (f .safe .hi)) (sideAt (f .band .lo) (f .band .hi)) (r .of) ⌝ }
@@ -113,9 +118,9 @@ pub fn lay(f: Frame, coef: &[i64; 320]) -> Limits
     let laid = lay_boxes(f);
     let mut of = laid.of;
     let mut u: usize = 0;
-    while u + 1 < f.modes {
+    while u < f.modes {
         let m = mark(f.n, coef, u);
-        of[24 + u] = m;
+        of[MARKS + u] = m;
         u += 1;
     }
     Limits { of }

@@ -5,6 +5,7 @@ use crate::boxes;
 use crate::boxes::Bx;
 use crate::frames;
 use crate::frames::Frame;
+use crate::levels::ROOM;
 use crate::limits;
 use crate::refusals;
 use crate::search;
@@ -23,9 +24,8 @@ ghost use Rattle.meaning.specs.Trees.{tile, layout};
 ghost use Rattle.promises.specs.Sound.{Sound};
 ghost use Rattle.tables.specs.Boxes.{boxOf, Small};
 ghost use Rattle.tables.specs.Frames.{plantFrom};
-ghost use Rattle.tables.specs.Beginnings.{Roomy};
 ghost use Rattle.tables.specs.Limits.{Ready};
-ghost use Rattle.tables.specs.Search.{digits};
+ghost use Rattle.tables.specs.Tiles.{patternOf};
 ghost use Rattle.tables.specs.Makes.{Wrote, treeBytes, definedBytes};
 
 // A tree that was written: the place behind it, one past the buffer's end where there was not room for all; or that there is no such tree.
@@ -34,18 +34,17 @@ enum Grown {
     Nothing,
 }
 
-// A tile of k modes: its number, then its modes, which are the digits of a number.
-fn put_tile(buf: &mut [u8], at: usize, k: usize, code: usize) -> usize
+// A tile of k modes: its number, then its modes, the first k of us.
+fn put_tile(buf: &mut [u8], at: usize, k: usize, us: &[usize; 6]) -> usize
     requires { ⌜ k ≤ 6 ⌝ }
-    ensures { λ r. ⌜ Put (now (buf .entry)) at (layout (tile (digits k code))) r (now (buf .exit)) ⌝ }
+    ensures { λ r. ⌜ Put (now (buf .entry)) at (layout (tile (patternOf k (now (us .entry))))) r (now (buf .exit)) ⌝ }
 {
     let mut place = numbers::put_number(buf, at, k);
-    let mut rest = code;
-    let mut left = k;
-    while 0 < left {
-        place = numbers::put_number(buf, place, rest % 16);
-        rest /= 16;
-        left -= 1;
+    let mut j: usize = 0;
+    while j < k {
+        let u = us[j];
+        place = numbers::put_number(buf, place, u);
+        j += 1;
     }
     place
 }
@@ -54,25 +53,20 @@ fn put_tile(buf: &mut [u8], at: usize, k: usize, code: usize) -> usize
 fn tree(
     f: Frame,
     coef: &[i64; 320],
-    limits: &[i64; 40],
+    limits: &[i64; ROOM],
     d: usize,
     b: Bx,
-    codes: &mut [usize; 32],
-    los: &mut [[i64; 4]; 32],
-    his: &mut [[i64; 4]; 32],
     buf: &mut [u8],
     at: usize,
 ) -> Grown
-    requires plant { ⌜ Ready (plantFrom f (now coef)) (now limits) × Small edgeLimit (boxOf (f .n) b) ⌝ }
-    requires room { ⌜ Roomy (now codes) (now los) (now his) ⌝ }
-    ensures bytes { λ r. ⌜ Wrote (treeBytes (rulesOf (plantFrom f (now (coef .entry)))) d (boxOf (f .n) b)) (now (buf .entry)) at r (now (buf .exit)) ⌝ }
-    ensures room { λ r. ⌜ Roomy (now (codes .exit)) (now (los .exit)) (now (his .exit)) ⌝ }
+    requires { ⌜ Ready (plantFrom f (now coef)) (now limits) × Small edgeLimit (boxOf (f .n) b) ⌝ }
+    ensures { λ r. ⌜ Wrote (treeBytes (rulesOf (plantFrom f (now (coef .entry)))) d (boxOf (f .n) b)) (now (buf .entry)) at r (now (buf .exit)) ⌝ }
 {
     let n = f.n;
-    let sought = search::first(n, f.modes, f.q, f.k, coef, limits, b, codes, los, his);
-    let size = sought.size;
+    let mut us = [0usize; 6];
+    let size = search::first(n, f.modes, f.q, f.k, coef, limits, b, &mut us);
     if size != 0 {
-        return Grown::Next(put_tile(buf, at, size, sought.code));
+        return Grown::Next(put_tile(buf, at, size, &us));
     }
     if d == 0 {
         return Grown::Nothing;
@@ -85,7 +79,7 @@ fn tree(
     let mut c: usize = 0;
     while c < count {
         let child = boxes::child(n, b, c);
-        let grown = tree(f, coef, limits, d - 1, child, codes, los, his, buf, place);
+        let grown = tree(f, coef, limits, d - 1, child, buf, place);
         let Grown::Next(next) = grown else {
             return Grown::Nothing;
         };
@@ -96,7 +90,7 @@ fn tree(
 }
 
 // The table of a plant that was judged good: header, then the tree of R. The coefficients are copied out of the plant
-// once and the limits made once; both are lent from then on, and so is the room in which the search keeps beginnings.
+// once and the limits made once; both are lent from then on.
 fn table(p: Plant, buf: &mut [u8]) -> Grown
     requires { ⌜ Sound p ⌝ }
     ensures { λ r. ⌜ Wrote (definedBytes (rulesOf p)) (now (buf .entry)) 0 r (now (buf .exit)) ⌝ }
@@ -108,21 +102,7 @@ fn table(p: Plant, buf: &mut [u8]) -> Grown
     let root = f.root;
     let past_form = numbers::put_number(buf, 0, 1);
     let past_rooms = numbers::put_number(buf, past_form, f.n);
-    let mut codes = [0usize; 32];
-    let mut los = [[0i64; 4]; 32];
-    let mut his = [[0i64; 4]; 32];
-    tree(
-        f,
-        &coef,
-        &limits,
-        f.d,
-        root,
-        &mut codes,
-        &mut los,
-        &mut his,
-        buf,
-        past_rooms,
-    )
+    tree(f, &coef, &limits, f.d, root, buf, past_rooms)
 }
 
 // The table's file for a plant's file. Finished, only the file's bytes are changed; refused, the buffer is all zeros: plant, 9, 10.

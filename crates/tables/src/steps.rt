@@ -1,32 +1,40 @@
 // One mode on a box, as the search needs it: whether the image lies in R, the first mode whose image does, and the image where it lies in S.
-// Relies on images for the extremes of a row, on limits for where the sums have to lie. Leaves out which modes are tried in which order (search).
+// Relies on levels for the boxes and the extremes of a row, on limits for where the sums have to lie. Leaves out which modes are tried in which
+// order (search).
 // Neither test divides. Everything is lent, so that a call copies only small numbers.
 use crate::boxes;
 use crate::division;
 use crate::images;
 use crate::images::Span;
+use crate::levels;
+use crate::levels::ROOM;
+use crate::levels::WIDE;
+use crate::limits::BAND;
+use crate::limits::GOAL;
+use crate::limits::MARKS;
+use crate::limits::SAFE;
 ghost use mathlib.Core.Path.{_≡_};
 ghost use mathlib.Core.Bool.{true, false};
-ghost use mathlib.Core.Logic.{_⊎_};
-ghost use Prim.Native.Nat.{ℕ, _+_, _≤_, _<_};
+ghost use Prim.Native.Nat.{ℕ, _+_, _-_, _≤_, _<_};
 ghost use lib.ListN.{length};
 ghost use lib.IntN.{natAbs, pos};
 ghost use Rattle.laws.specs.Lists.{at, tab};
 ghost use Rattle.meaning.specs.Boxes.{side, sidesOf, covers};
 ghost use Rattle.meaning.specs.Defined.{firstMode};
-ghost use Rattle.meaning.specs.Plants.{edgeLimit, bandLimit, rowStart};
+ghost use Rattle.meaning.specs.Plants.{edgeLimit, bandLimit};
 ghost use Rattle.tables.specs.Boxes.{Small};
-ghost use Rattle.tables.specs.Images.{RowSound};
-ghost use Rattle.tables.specs.Limits.{addLimit, sumSide, sumsAt, lentSide, covered, landing, dividedIn, dividedAt, Within, RowsSound, Marked, Kept};
+ghost use Rattle.tables.specs.Images.{RowSound, Extremes};
+ghost use Rattle.tables.specs.Levels.{wide, room, sideIn, boxIn, Beside};
+ghost use Rattle.tables.specs.Limits.{addLimit, bandAt, marksAt, sumSide, sumsAt, covered, staysLent, landsLent, imageLent, landing, dividedIn, Within, RowsSound, lastEntries, Marked};
 ghost use Rattle.tables.specs.Search.{oneOf};
 
-// The least and the greatest of A·x + b over a box, by the row that starts at `start`.
-fn sums(n: usize, coef: &[i64; 320], start: usize, lo: &[i64; 4], hi: &[i64; 4]) -> Span
-    requires { ⌜ RowSound n (now coef) start × Small edgeLimit (sidesOf n (now lo) (now hi)) ⌝ }
-    ensures sides { λ r. ⌜ side (r .lo) (r .hi) ≡ sumSide n (now (coef .entry)) start (sidesOf n (now (lo .entry)) (now (hi .entry))) ⌝ }
+// The least and the greatest of A·x + b over the box at `place`, by the row that starts at `start`.
+fn sums(n: usize, coef: &[i64; 320], start: usize, boxes: &[i64; ROOM], place: usize) -> Span
+    requires { ⌜ RowSound n (now coef) start × (place + wide ≤ room) × Small edgeLimit (boxIn n (now boxes) place) ⌝ }
+    ensures sides { λ r. ⌜ side (r .lo) (r .hi) ≡ sumSide n (now (coef .entry)) start (boxIn n (now (boxes .entry)) place) ⌝ }
     ensures sizes { λ r. ⌜ (natAbs (r .lo) ≤ addLimit) × (natAbs (r .hi) ≤ addLimit) ⌝ }
 {
-    let e = images::extremes(n, coef, start, lo, hi);
+    let e = levels::extremes(n, coef, start, boxes, place);
     let offset = coef[start + n];
     let least = e.lo + offset;
     let greatest = e.hi + offset;
@@ -37,145 +45,40 @@ fn sums(n: usize, coef: &[i64; 320], start: usize, lo: &[i64; 4], hi: &[i64; 4])
 }
 
 // Whether sums lie in side i of the limits at `base`.
-fn inside(limits: &[i64; 40], base: usize, i: usize, least: i64, greatest: i64) -> bool
-    requires { ⌜ (base ≤ 16) × (i < 4) ⌝ }
-    ensures { λ r. ⌜ r ≡ covers (lentSide (now (limits .entry)) base i) (side least greatest) ⌝ }
+fn inside(limits: &[i64; ROOM], base: usize, i: usize, least: i64, greatest: i64) -> bool
+    requires { ⌜ (base + wide ≤ room) × (i < 4) ⌝ }
+    ensures { λ r. ⌜ r ≡ covers (sideIn (now (limits .entry)) base i) (side least greatest) ⌝ }
 {
     let from = limits[base + i];
     let to = limits[base + 4 + i];
     boxes::ordered(from, least, greatest, to)
 }
 
-// The extremes of row i under mode u, put into elo and ehi unless they are among the first `have`, which stand there.
-fn keep(
-    n: usize,
-    coef: &[i64; 320],
-    u: usize,
-    i: usize,
-    lo: &[i64; 4],
-    hi: &[i64; 4],
-    have: usize,
-    elo: &mut [i64; 4],
-    ehi: &mut [i64; 4],
-)
-    requires row { ⌜ (i < n) × RowSound n (now coef) (rowStart n u i) × Small edgeLimit (sidesOf n (now lo) (now hi)) × (length (now elo) ≡ 4) × (length (now ehi) ≡ 4) ⌝ }
-    requires kept { ⌜ Kept n (now coef) u (sidesOf n (now lo) (now hi)) have (now elo) (now ehi) × Kept n (now coef) u (sidesOf n (now lo) (now hi)) i (now elo) (now ehi) ⌝ }
-    ensures kept { λ _. ⌜ Kept n (now (coef .entry)) u (sidesOf n (now (lo .entry)) (now (hi .entry))) have (now (elo .exit)) (now (ehi .exit)) × Kept n (now (coef .entry)) u (sidesOf n (now (lo .entry)) (now (hi .entry))) (i + 1) (now (elo .exit)) (now (ehi .exit)) ⌝ }
-    ensures room { λ _. ⌜ (length (now (elo .exit)) ≡ 4) × (length (now (ehi .exit)) ≡ 4) ⌝ }
-{
-    if have <= i {
-        let e = images::extremes(n, coef, (u * n + i) * (n + 1), lo, hi);
-        let least = e.lo;
-        let greatest = e.hi;
-        elo[i] = least;
-        ehi[i] = greatest;
-    }
-}
-
-// The first row under mode u whose sums over a box leave the limits of R; n where none does, and the image lies in R. The extremes of the first
-// `have` rows stand in elo and ehi, and those of the rows up to the answer are left there.
-fn lands(
-    n: usize,
-    coef: &[i64; 320],
-    limits: &[i64; 40],
-    u: usize,
-    lo: &[i64; 4],
-    hi: &[i64; 4],
-    have: usize,
-    elo: &mut [i64; 4],
-    ehi: &mut [i64; 4],
-) -> usize
-    requires rows { ⌜ RowsSound n (now coef) u × Small edgeLimit (sidesOf n (now lo) (now hi)) ⌝ }
-    requires kept { ⌜ Kept n (now coef) u (sidesOf n (now lo) (now hi)) have (now elo) (now ehi) × (length (now elo) ≡ 4) × (length (now ehi) ≡ 4) ⌝ }
-    ensures leaves { λ r. ⌜ (r < n → false ≡ covered n (now (coef .entry)) (now (limits .entry)) 8 u (sidesOf n (now (lo .entry)) (now (hi .entry)))) ⌝ }
-    ensures lands { λ r. ⌜ (n ≤ r → true ≡ covered n (now (coef .entry)) (now (limits .entry)) 8 u (sidesOf n (now (lo .entry)) (now (hi .entry)))) ⌝ }
-    ensures kept { λ r. ⌜ Kept n (now (coef .entry)) u (sidesOf n (now (lo .entry)) (now (hi .entry))) have (now (elo .exit)) (now (ehi .exit)) × Kept n (now (coef .entry)) u (sidesOf n (now (lo .entry)) (now (hi .entry))) (r + 1) (now (elo .exit)) (now (ehi .exit)) ⌝ }
-    ensures room { λ r. ⌜ (length (now (elo .exit)) ≡ 4) × (length (now (ehi .exit)) ≡ 4) ⌝ }
-{
-    let mut i: usize = 0;
-    while i < n {
-        keep(n, coef, u, i, lo, hi, have, elo, ehi);
-        let offset = coef[(u * n + i) * (n + 1) + n];
-        let least = elo[i];
-        let greatest = ehi[i];
-        if inside(limits, 8, i, least + offset, greatest + offset) {
-            i += 1;
-        } else {
-            return i;
-        }
-    }
-    i
-}
-
-// How many rows stand in the arrays for the mode behind mode u, where mode u came to row r: none unless it shares the matrix of mode u.
-fn left(limits: &[i64; 40], u: usize, have: usize, r: usize) -> usize
-    requires { ⌜ (u < 16) × (r < 4) ⌝ }
-    ensures { λ k. ⌜ (k ≡ 0) ⊎ ((at (now (limits .entry)) (24 + u) ≡ pos 0 → ⊥) × ((k ≡ have) ⊎ (k ≡ r + 1))) ⌝ }
-{
-    let mark = limits[24 + u];
-    if mark == 0 {
-        return 0;
-    }
-    if have <= r {
-        return r + 1;
-    }
-    have
-}
-
-// The first mode under which the image of a box lies in R; `count` where there is none. Modes that share a matrix share the extremes of its
-// rows, each made where it is first needed.
-pub fn last(
-    n: usize,
-    count: usize,
-    coef: &[i64; 320],
-    limits: &[i64; 40],
-    lo: &[i64; 4],
-    hi: &[i64; 4],
-) -> usize
-    requires { ⌜ ((u : ℕ) → u < count → RowsSound n (now coef) u) × Small edgeLimit (sidesOf n (now lo) (now hi)) ⌝ }
-    requires marks { ⌜ (count ≤ 16) × Marked n count (now coef) (now limits) ⌝ }
-    ensures { λ r. ⌜ oneOf count r ≡ firstMode (landing n (now (coef .entry)) (now (limits .entry)) (sidesOf n (now (lo .entry)) (now (hi .entry)))) count 0 ⌝ }
-{
-    let mut elo = [0i64; 4];
-    let mut ehi = [0i64; 4];
-    let mut have: usize = 0;
-    let mut u: usize = 0;
-    while u < count {
-        let r = lands(n, coef, limits, u, lo, hi, have, &mut elo, &mut ehi);
-        if r < n {
-            have = left(limits, u, have, r);
-            u += 1;
-        } else {
-            return u;
-        }
-    }
-    u
-}
-
-// Whether the image of a box under mode u lies in S; where it does the sums are left in slo and shi, which otherwise say nothing.
+// Whether the sums under mode u over the box at `place` lie in the limits at `base`; where they do they are left in slo and shi, which otherwise
+// say nothing.
 fn stays(
     n: usize,
     coef: &[i64; 320],
-    limits: &[i64; 40],
+    limits: &[i64; ROOM],
+    base: usize,
     u: usize,
-    lo: &[i64; 4],
-    hi: &[i64; 4],
+    boxes: &[i64; ROOM],
+    place: usize,
     slo: &mut [i64; 4],
     shi: &mut [i64; 4],
 ) -> bool
-    requires rows { ⌜ RowsSound n (now coef) u ⌝ }
-    requires edges { ⌜ Small edgeLimit (sidesOf n (now lo) (now hi)) × (length (now slo) ≡ 4) × (length (now shi) ≡ 4) ⌝ }
-    ensures stays { λ r. ⌜ r ≡ covered n (now (coef .entry)) (now (limits .entry)) 0 u (sidesOf n (now (lo .entry)) (now (hi .entry))) ⌝ }
-    ensures sums { λ r. ⌜ (r ≡ true → sidesOf n (now (slo .exit)) (now (shi .exit)) ≡ tab (sumsAt n (now (coef .entry)) u (sidesOf n (now (lo .entry)) (now (hi .entry)))) n 0) ⌝ }
+    requires rows { ⌜ RowsSound n (now coef) u × (base + wide ≤ room) ⌝ }
+    requires edges { ⌜ (place + wide ≤ room) × Small edgeLimit (boxIn n (now boxes) place) × (length (now slo) ≡ 4) × (length (now shi) ≡ 4) ⌝ }
+    ensures stays { λ r. ⌜ r ≡ covered n (now (coef .entry)) (now (limits .entry)) base u (boxIn n (now (boxes .entry)) place) ⌝ }
+    ensures sums { λ r. ⌜ (r ≡ true → sidesOf n (now (slo .exit)) (now (shi .exit)) ≡ tab (sumsAt n (now (coef .entry)) u (boxIn n (now (boxes .entry)) place)) n 0) ⌝ }
     ensures sizes { λ r. ⌜ (r ≡ true → Within addLimit n (now (slo .exit)) (now (shi .exit))) ⌝ }
-    ensures room { λ r. ⌜ (length (now (slo .exit)) ≡ 4) × (length (now (shi .exit)) ≡ 4) ⌝ }
 {
     let mut i: usize = 0;
     while i < n {
-        let s = sums(n, coef, (u * n + i) * (n + 1), lo, hi);
+        let s = sums(n, coef, (u * n + i) * (n + 1), boxes, place);
         let least = s.lo;
         let greatest = s.hi;
-        if inside(limits, 0, i, least, greatest) {
+        if inside(limits, base, i, least, greatest) {
             slo[i] = least;
             shi[i] = greatest;
             i += 1;
@@ -186,49 +89,129 @@ fn stays(
     true
 }
 
-// The sides of an image in place of its sums: with the band added, divided by q.
-fn divide(n: usize, q: usize, limits: &[i64; 40], lo: &mut [i64; 4], hi: &mut [i64; 4])
-    requires step { ⌜ (n ≤ 4) × (1 ≤ q) × (q ≤ 10_000) × Small bandLimit (tab (lentSide (now limits) 16) n 0) ⌝ }
-    requires sums { ⌜ Within addLimit n (now lo) (now hi) × (length (now lo) ≡ 4) × (length (now hi) ≡ 4) ⌝ }
-    ensures sides { λ _. ⌜ sidesOf n (now (lo .exit)) (now (hi .exit)) ≡ tab (dividedIn q (now (limits .entry)) (now (lo .entry)) (now (hi .entry))) n 0 ⌝ }
-    ensures room { λ _. ⌜ (length (now (lo .exit)) ≡ 4) × (length (now (hi .exit)) ≡ 4) ⌝ }
+// The sides of an image from its sums, put at `place`: with the band added, divided by q.
+fn divide(
+    n: usize,
+    q: usize,
+    limits: &[i64; ROOM],
+    slo: &[i64; 4],
+    shi: &[i64; 4],
+    boxes: &mut [i64; ROOM],
+    place: usize,
+)
+    requires step { ⌜ (n ≤ 4) × (1 ≤ q) × (q ≤ 10_000) × Small bandLimit (boxIn n (now limits) bandAt) ⌝ }
+    requires sums { ⌜ Within addLimit n (now slo) (now shi) × (place + wide ≤ room) × (length (now boxes) ≡ room) ⌝ }
+    ensures sides { λ _. ⌜ boxIn n (now (boxes .exit)) place ≡ tab (dividedIn q (now (limits .entry)) (now (slo .entry)) (now (shi .entry))) n 0 ⌝ }
+    ensures beside { λ _. ⌜ Beside place (now (boxes .entry)) (now (boxes .exit)) ⌝ }
 {
     let mut i: usize = 0;
     while i < n {
-        let l = lo[i];
-        let h = hi[i];
-        let wl = limits[16 + i];
-        let wh = limits[20 + i];
+        let l = slo[i];
+        let h = shi[i];
+        let wl = limits[BAND + i];
+        let wh = limits[BAND + 4 + i];
         let low = division::ceiling(l + wl, q);
         let high = division::floor(h + wh, q);
-        lo[i] = low;
-        hi[i] = high;
+        levels::put_side(boxes, place, i, low, high);
         i += 1;
     }
 }
 
-// Whether the image of a box under mode u lies in S; where it does it is left in ilo and ihi, which otherwise say nothing. What leaves S is not
-// divided.
+// Whether the image of the box at `place` under mode u lies in S; where it does it is left behind that box, and otherwise nothing is written. What
+// leaves S is not divided.
 pub fn step(
     n: usize,
     q: usize,
     coef: &[i64; 320],
-    limits: &[i64; 40],
+    limits: &[i64; ROOM],
     u: usize,
-    lo: &[i64; 4],
-    hi: &[i64; 4],
-    ilo: &mut [i64; 4],
-    ihi: &mut [i64; 4],
+    boxes: &mut [i64; ROOM],
+    place: usize,
 ) -> bool
-    requires step { ⌜ RowsSound n (now coef) u × (n ≤ 4) × (1 ≤ q) × (q ≤ 10_000) × Small bandLimit (tab (lentSide (now limits) 16) n 0) ⌝ }
-    requires edges { ⌜ Small edgeLimit (sidesOf n (now lo) (now hi)) × (length (now ilo) ≡ 4) × (length (now ihi) ≡ 4) ⌝ }
-    ensures stays { λ r. ⌜ r ≡ covered n (now (coef .entry)) (now (limits .entry)) 0 u (sidesOf n (now (lo .entry)) (now (hi .entry))) ⌝ }
-    ensures image { λ r. ⌜ (r ≡ true → sidesOf n (now (ilo .exit)) (now (ihi .exit)) ≡ tab (dividedAt n q (now (coef .entry)) (now (limits .entry)) u (sidesOf n (now (lo .entry)) (now (hi .entry)))) n 0) ⌝ }
-    ensures room { λ r. ⌜ (length (now (ilo .exit)) ≡ 4) × (length (now (ihi .exit)) ≡ 4) ⌝ }
+    requires step { ⌜ RowsSound n (now coef) u × (n ≤ 4) × (1 ≤ q) × (q ≤ 10_000) × Small bandLimit (boxIn n (now limits) bandAt) ⌝ }
+    requires edges { ⌜ (place + wide + wide ≤ room) × Small edgeLimit (boxIn n (now boxes) place) × (length (now boxes) ≡ room) ⌝ }
+    ensures stays { λ r. ⌜ r ≡ staysLent n (now (coef .entry)) (now (limits .entry)) u (boxIn n (now (boxes .entry)) place) ⌝ }
+    ensures image { λ r. ⌜ (r ≡ true → boxIn n (now (boxes .exit)) (place + wide) ≡ imageLent n q (now (coef .entry)) (now (limits .entry)) u (boxIn n (now (boxes .entry)) place)) ⌝ }
+    ensures beside { λ r. ⌜ Beside (place + wide) (now (boxes .entry)) (now (boxes .exit)) ⌝ }
+    ensures left { λ r. ⌜ (r ≡ false → now (boxes .exit) ≡ now (boxes .entry)) ⌝ }
 {
-    if stays(n, coef, limits, u, lo, hi, ilo, ihi) {
-        divide(n, q, limits, ilo, ihi);
+    let mut slo = [0i64; 4];
+    let mut shi = [0i64; 4];
+    if stays(n, coef, limits, SAFE, u, boxes, place, &mut slo, &mut shi) {
+        divide(n, q, limits, &slo, &shi, boxes, place + WIDE);
         return true;
     }
     false
+}
+
+// The extremes of the last row under mode u: e where the mode is marked, which then are those of the mode before.
+fn shared(
+    n: usize,
+    coef: &[i64; 320],
+    limits: &[i64; ROOM],
+    u: usize,
+    e: Span,
+    boxes: &[i64; ROOM],
+    place: usize,
+) -> Span
+    requires row { ⌜ (u < 16) × (1 ≤ n) × RowsSound n (now coef) u × (place + wide ≤ room) × Small edgeLimit (boxIn n (now boxes) place) ⌝ }
+    requires kept { ⌜ ((at (now limits) (marksAt + u) ≡ pos 0 → ⊥) → Extremes (lastEntries n (now coef) u) (boxIn n (now boxes) place) (e .lo) (e .hi)) ⌝ }
+    ensures { λ r. ⌜ Extremes (lastEntries n (now (coef .entry)) u) (boxIn n (now (boxes .entry)) place) (r .lo) (r .hi) ⌝ }
+{
+    let mark = limits[MARKS + u];
+    if mark == 0 {
+        let start = images::row(n, u, n - 1);
+        return levels::extremes(n, coef, start, boxes, place);
+    }
+    e
+}
+
+// Whether the image under mode u lies in R. The last row is tried first, by its extremes e; most modes fail there, and need no other sum.
+fn lands(
+    n: usize,
+    coef: &[i64; 320],
+    limits: &[i64; ROOM],
+    u: usize,
+    e: Span,
+    boxes: &[i64; ROOM],
+    place: usize,
+) -> bool
+    requires row { ⌜ (1 ≤ n) × RowsSound n (now coef) u × (place + wide ≤ room) × Small edgeLimit (boxIn n (now boxes) place) ⌝ }
+    requires last { ⌜ Extremes (lastEntries n (now coef) u) (boxIn n (now boxes) place) (e .lo) (e .hi) ⌝ }
+    ensures { λ r. ⌜ r ≡ landsLent n (now (coef .entry)) (now (limits .entry)) u (boxIn n (now (boxes .entry)) place) ⌝ }
+{
+    let start = images::row(n, u, n - 1);
+    let offset = coef[start + n];
+    if inside(limits, GOAL, n - 1, e.lo + offset, e.hi + offset) {
+        let mut slo = [0i64; 4];
+        let mut shi = [0i64; 4];
+        return stays(n, coef, limits, GOAL, u, boxes, place, &mut slo, &mut shi);
+    }
+    false
+}
+
+// The first mode under which the image of the box at `place` lies in R; `count` where there is none.
+pub fn last(
+    n: usize,
+    count: usize,
+    coef: &[i64; 320],
+    limits: &[i64; ROOM],
+    boxes: &[i64; ROOM],
+    place: usize,
+) -> usize
+    requires rows { ⌜ (1 ≤ n) × ((u : ℕ) → u < count → RowsSound n (now coef) u) × (count ≤ 16) × Marked n count (now coef) (now limits) ⌝ }
+    requires edges { ⌜ (place + wide ≤ room) × Small edgeLimit (boxIn n (now boxes) place) ⌝ }
+    ensures first { λ r. ⌜ oneOf count r ≡ firstMode (landing n (now (coef .entry)) (now (limits .entry)) (boxIn n (now (boxes .entry)) place)) count 0 ⌝ }
+    ensures size { λ r. ⌜ r ≤ count ⌝ }
+{
+    let mut e = Span { lo: 0, hi: 0 };
+    let mut u: usize = 0;
+    while u < count {
+        e = shared(n, coef, limits, u, e, boxes, place);
+        if lands(n, coef, limits, u, e, boxes, place) {
+            return u;
+        }
+        u += 1;
+    }
+    u
 }

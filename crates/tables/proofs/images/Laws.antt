@@ -20,9 +20,9 @@ use Rattle.meaning.specs.Images.{Row, leastOf, greatestOf, extreme, imageSide, 
 use Rattle.meaning.specs.Plants.{edgeLimit, entryLimit}
 use Rattle.tables.specs.declared.frames.Frame.{Frame}
 use Rattle.tables.specs.Boxes.{boxOf, Bounded, Small}
-use Rattle.tables.specs.Images.{termLimit, rowFrom, stepFrom, Extremes}
+use Rattle.tables.specs.Images.{termLimit, rowLimit, entryAt, entriesOf, rowFrom, stepFrom, RowSound, Extremes}
 use Rattle.tables.specs.Frames.{FrameSound}
-use Rattle.tables.proofs.boxes.Laws.{small-tab, small-side, between, sides-stored, lies-tab}
+use Rattle.tables.proofs.boxes.Laws.{small-at, small-tab, small-side, between, sides-stored, lies-tab}
 
 -- ---- one term: by the sign of a; and the greatest is the least of the turned side
 
@@ -74,11 +74,11 @@ extreme-behind of (e ∷ es) (t ∷ ss) a s q =
     ap (λ (z : ℤ). of e t +ℤ z) (extreme-behind of es ss a s (omega arith)) ∙ sym (+ℤ-assoc (of e t) (extreme of es ss) (of a s))
 
 module _ (of : ℤ → Side → ℤ) (es : ℕ → ℤ) (ss : ℕ → Side) where
-  pub summed-none : Summed of es ss 0 (pos 0)
+  summed-none : Summed of es ss 0 (pos 0)
   unfolding extreme tab
   summed-none = record { small = omega arith; sum = refl }
 
-  pub summed-more : (j : ℕ) (z y : ℤ) → Summed of es ss j z → natAbs (of (es j) (ss j)) ≤ termLimit → y ≡ z +ℤ of (es j) (ss j) → Summed of es ss (j + 1) y
+  summed-more : (j : ℕ) (z y : ℤ) → Summed of es ss j z → natAbs (of (es j) (ss j)) ≤ termLimit → y ≡ z +ℤ of (es j) (ss j) → Summed of es ss (j + 1) y
   summed-more j z y s k e =
       let q : 0 + j ≡ j = zero-add j in
       let l : length (tab es j 0) ≡ length (tab ss j 0) = length-tab es j 0 ∙ sym (length-tab ss j 0) in
@@ -87,6 +87,38 @@ module _ (of : ℤ → Side → ℤ) (es : ℕ → ℤ) (ss : ℕ → Side) wher
         sum = e ∙ ap (λ (x : ℤ). x +ℤ of (es j) (ss j)) (s .sum) ∙ sym (extreme-behind of (tab es j 0) (tab ss j 0) (es j) (ss j) l)
             ∙ sym (rw (tab-snoc es j 0, tab-snoc ss j 0, q) refl);
       }
+
+-- both sums over the first j rooms of the row that starts at `start`, and what is asked for one room more
+module _ (n : ℕ) (coef : List ℤ) (start : ℕ) (ss : ℕ → Side) where
+  abbrev pub Sums : ℕ → ℤ → ℤ → Type 0
+  Sums j lo hi = Summed leastOf (entryAt coef start) ss j lo × Summed greatestOf (entryAt coef start) ss j hi
+
+  pub sums-none : Sums 0 (pos 0) (pos 0)
+  sums-none = (summed-none leastOf (entryAt coef start) ss, summed-none greatestOf (entryAt coef start) ss)
+
+  pub sums-done : (j : ℕ) (lo hi : ℤ) → n ≡ j → j ≤ 4 → Sums j lo hi → Extremes (entriesOf n coef start) (tab ss n 0) lo hi
+  sums-done j lo hi q h w = record {
+    least = rw q (w .0 .sum);
+    greatest = rw q (w .1 .sum);
+    low = omega (arith, w .0 .small);
+    high = omega (arith, w .1 .small);
+  }
+
+  module _ (r : RowSound n coef start) (small : Small edgeLimit (tab ss n 0)) (j : ℕ) (h : j < n) where
+    bounded : Bounded edgeLimit (ss j)
+    bounded = small-at ss n 0 j small (omega arith) (omega arith)
+
+    pub sums-more : (x y lo hi : ℤ) → Sums j x y → (lo ≡ x +ℤ leastOf (entryAt coef start j) (ss j)) × (hi ≡ y +ℤ greatestOf (entryAt coef start j) (ss j)) → Sums (j + 1) lo hi
+    sums-more x y lo hi w e = (
+      summed-more leastOf (entryAt coef start) ss j x lo (w .0) (least-small (entryAt coef start j) (ss j) (r .entries j h) bounded) (e .0),
+      summed-more greatestOf (entryAt coef start) ss j y hi (w .1) (greatest-small (entryAt coef start j) (ss j) (r .entries j h) bounded) (e .1),
+    )
+
+    pub sums-place : (j < 4) × (start + j < 320)
+    sums-place = (omega (arith, r .rooms), omega (arith, r .inside))
+
+    pub sums-asked : (lo hi : ℤ) → Sums j lo hi → ((natAbs (entryAt coef start j) ≤ entryLimit) × Bounded edgeLimit (ss j)) × ((natAbs lo ≤ rowLimit) × (natAbs hi ≤ rowLimit))
+    sums-asked lo hi w = let f = r .rooms in ((r .entries j h, bounded), (omega (arith, w .0 .small), omega (arith, w .1 .small)))
 
 -- ---- the image, side by side
 

@@ -1,6 +1,6 @@
 -- The defined table, written: a tile's modes one after another; a box by its first pattern; the children of a split one after another; the whole
 -- by its parts. Assumes nothing.
-use Prim.Native.Nat.{ℕ, zero, suc, _+_, _-_, _/_, _%_, _≤_, _<_}
+use Prim.Native.Nat.{ℕ, zero, suc, _+_, _-_, _≤_, _<_}
 use mathlib.Core.Path.{_≡_, refl, sym, ap, _∙_}
 use mathlib.Core.List.{List, [], _∷_, _++_}
 use mathlib.Core.Option.{Option, none, some}
@@ -9,6 +9,8 @@ use native.Mathlib.Numerals.{add-one}
 use borrow.Author.Tests.{le-leb, lt-leb}
 use lib.ListN.{length, getD, drop, drop-of-length-le}
 use lib.Seq.{drop-cons}
+use Rattle.laws.specs.Lists.{tab}
+use Rattle.laws.specs.Tabs.{length-tab, tab-step, tab-done}
 use Rattle.laws.specs.Writing.{Put, put-append, put-length, put-none}
 use Rattle.meaning.specs.declared.Refusal.{Refusal}
 use Rattle.meaning.specs.declared.Plant.{Plant}
@@ -24,26 +26,28 @@ use Rattle.meaning.specs.Trees.{Tree, Forest, split, tile, more, modesBytes, la
 use Rattle.meaning.specs.Defined.{mapSome, andAlso, allOf, splitOf, firstPattern, treeOf, definedTree}
 use Rattle.meaning.specs.Tables.{rulesOf, tableBytes, made, makerLeft}
 use Rattle.tables.specs.declared.makes.Grown.{Grown}
-use Rattle.tables.specs.Search.{digits, patternBy}
+use Rattle.tables.specs.Search.{patternBy}
+use Rattle.tables.specs.Tiles.{modeAt, patternOf}
 use Rattle.tables.specs.Makes.{Wrote, treeBytes, treesBytes, definedBytes}
-use Rattle.tables.proofs.search.Laws.{digits-length}
 
--- ---- a tile: so many of its modes are left
+-- ---- a tile: its modes from the j-th on are left
 
-pub tile-whole : (k code : ℕ) {buf : List ℕ} {at next : ℕ} {mid : List ℕ} {last : ℕ} {out : List ℕ} → Put buf at (bytesOf k) next mid → Put mid next (modesBytes (digits k code)) last out
-    → Put buf at (layout (tile (digits k code))) last out
-unfolding layout
-tile-whole k code t v = rw (digits-length k code) (put-append t v)
+module _ (k : ℕ) (us : List ℕ) where
+  abbrev pub modesFrom : ℕ → List ℕ
+  modesFrom j = modesBytes (tab (modeAt us) (k - j) j)
 
-pub tile-mode : (left code : ℕ) → 0 < left → modesBytes (digits left code) ≡ bytesOf (code % 16) ++ modesBytes (digits (left - 1) (code / 16))
-unfolding modesBytes digits
-tile-mode zero code h = absurd (omega arith)
-tile-mode (suc left) code h = let e : suc left - 1 ≡ left = omega arith in rw e refl
+  pub tile-whole : {buf : List ℕ} {at next : ℕ} {mid : List ℕ} {last : ℕ} {out : List ℕ} → Put buf at (bytesOf k) next mid → Put mid next (modesBytes (patternOf k us)) last out
+      → Put buf at (layout (tile (patternOf k us))) last out
+  unfolding layout
+  tile-whole t v = rw (length-tab (modeAt us) k 0) (put-append t v)
 
-pub tile-end : (left code : ℕ) → left ≤ 0 → modesBytes (digits left code) ≡ []
-unfolding modesBytes digits
-tile-end zero code h = refl
-tile-end (suc left) code h = absurd (omega arith)
+  pub tile-mode : (j : ℕ) → j < k → modesFrom j ≡ bytesOf (modeAt us j) ++ modesFrom (j + 1)
+  unfolding modesBytes
+  tile-mode j h = rw (tab-step (modeAt us) k j h) refl
+
+  pub tile-end : (j : ℕ) → k ≤ j → modesFrom j ≡ []
+  unfolding modesBytes
+  tile-end j h = rw (tab-done (modeAt us) k j h) refl
 
 -- ---- some bytes, and behind them what may not exist
 
@@ -155,11 +159,11 @@ empty : {A : Type 0} (xs : List A) → length xs ≡ 0 → xs ≡ []
 empty [] e = refl
 empty (x ∷ xs) e = absurd (omega arith)
 
-module _ (p : Plant) (d : ℕ) (b : List Side) (size code : ℕ) (q : patternBy size code ≡ firstPattern (rulesOf p) b) (buf : List ℕ) (at : ℕ) where
-  pub node-tile : (size ≡ 0 → ⊥) → (next : ℕ) (out : List ℕ) → Put buf at (layout (tile (digits size code))) next out → Wrote (treeBytes (rulesOf p) d b) buf at (Grown.Next next) out
-  node-tile z next out t = rw (box-tile (rulesOf p) d b (digits size code) (sym q ∙ there size z)) t
+module _ (p : Plant) (d : ℕ) (b : List Side) (size : ℕ) (us : List ℕ) (q : patternBy size us ≡ firstPattern (rulesOf p) b) (buf : List ℕ) (at : ℕ) where
+  pub node-tile : (size ≡ 0 → ⊥) → (next : ℕ) (out : List ℕ) → Put buf at (layout (tile (patternOf size us))) next out → Wrote (treeBytes (rulesOf p) d b) buf at (Grown.Next next) out
+  node-tile z next out t = rw (box-tile (rulesOf p) d b (patternOf size us) (sym q ∙ there size z)) t
     where
-      there : (k : ℕ) → (k ≡ 0 → ⊥) → patternBy k code ≡ some (digits k code)
+      there : (k : ℕ) → (k ≡ 0 → ⊥) → patternBy k us ≡ some (patternOf k us)
       there zero z = absurd (z refl)
       there (suc k) z = refl
 

@@ -1,70 +1,25 @@
--- The search of a pattern, step by step, in the terms that the code has: the modes in front one after another, the lengths one after another, and
--- what stands behind one mode. What is left of a loop says what the whole says. Assumes nothing.
-use Prim.Native.Nat.{ℕ, zero, suc, _+_, _-_, _*_, _/_, _%_, _^_, _≤_, _<_}
-use mathlib.Core.Path.{_≡_, refl, sym, ap, _∙_, subst}
+-- The search in loops, turn by turn: what is left of the modes of a level, of the levels of a path and of the lengths says what the whole says, and
+-- the turns that are left grow fewer. Over what the search is lent, whatever it is; then over the two arrays that hold a path. Assumes nothing.
+use Prim.Native.Nat.{ℕ, zero, suc, _+_, _-_, _*_, _≤_, _<_}
+use mathlib.Core.Path.{_≡_, refl, sym, ap, _∙_}
 use mathlib.Core.Bool.{Bool, true, false}
-use mathlib.Core.List.{List, [], _∷_}
+use mathlib.Core.List.{List, [], _∷_, _++_, append-nil, append-assoc}
 use mathlib.Core.Option.{Option, none, some}
 use native.Mathlib.Omega.{arith}
-use native.Mathlib.Nat.{sub-zero, pow-le-pow-right}
+use native.Mathlib.Nat.{sub-zero, zero-add}
 use native.Mathlib.Numerals.{add-one}
-use lib.Dec.{ltb}
-use borrow.Author.Tests.{lt-ltb, le-ltb}
-use lib.ListN.{length}
 use lib.IntN.{ℤ}
-use Rattle.laws.specs.Guards.{guard}
+use lib.ListN.{length, set}
+use lib.Seq.{getD-set-same}
+use borrow.Author.Tests.{lt-ltb, le-ltb}
 use Rattle.laws.specs.Lists.{tab}
-use Rattle.laws.specs.Tabs.{tab-same}
-use Rattle.laws.specs.Tests.{never}
-use Rattle.meaning.specs.declared.Plant.{Plant}
-use Rattle.meaning.specs.Boxes.{Side, sideAt, within}
-use Rattle.meaning.specs.Images.{image}
-use Rattle.meaning.specs.Plants.{edgeLimit, bandLimit, rootOf, safeOf, stepOf}
-use Rattle.meaning.specs.Rules.{Rules}
-use Rattle.meaning.specs.Tables.{rulesOf}
-use Rattle.meaning.specs.Defined.{firstMode, exactly, shortest}
-use Rattle.promises.specs.Sound.{Sound}
-use Rattle.promises.specs.Boxes.{within-trans}
-use Rattle.tables.specs.Boxes.{Small}
-use Rattle.tables.specs.Limits.{lentSide, landing, RowsSound, Ready}
-use Rattle.tables.specs.Search.{digits, soughtOf, picked, oneOf, behindMode}
-use Rattle.tables.specs.Frames.{frameOf}
-use Rattle.tables.proofs.frames.Laws.{own-sound, step-sound, band-small}
-use Rattle.tables.proofs.images.Laws.{small-image}
-use Rattle.tables.proofs.steps.Laws.{covered-root}
+use Rattle.laws.specs.Tabs.{tab-snoc, tab-same, getD-below}
+use Rattle.meaning.specs.Boxes.{Side}
+use Rattle.meaning.specs.Defined.{orElse, mapSome, firstMode}
+use Rattle.tables.specs.Tiles.{modeAt, patternOf}
+use Rattle.tables.specs.Search.{Level, level, begun, behind, sought, soughtFrom, leftBelow, rest, turns, turnsBelow, turnsLeft, levelsBelow, SameTo, patternBy, oneOf}
 
--- ---- patterns as the code holds them
-
-pub digits-length : (m code : ℕ) → length (digits m code) ≡ m
-unfolding digits
-digits-length zero code = refl
-digits-length (suc m) code = ap suc (digits-length m (code / 16))
-
--- the mode in front is the lowest digit
-digits-front : (m u code : ℕ) → u < 16 → digits (suc m) (u + 16 * code) ≡ u ∷ digits m code
-unfolding digits
-digits-front m u code h =
-    let e : (u + 16 * code) % 16 ≡ u = omega arith in
-    let q : (u + 16 * code) / 16 ≡ code = omega arith in
-    rw (e, q) refl
-
--- a number of m digits
-pub digit-more : (m : ℕ) → (m ≡ 0 → ⊥) → 16 ^ m ≡ 16 * 16 ^ (m - 1)
-digit-more zero z = absurd (z refl)
-digit-more (suc m) z = let e : suc m - 1 ≡ m = omega arith in rw e (omega arith)
-
-pub digits-small : (m : ℕ) → m ≤ 6 → 16 ^ m ≤ 16 ^ 6
-digits-small m h = pow-le-pow-right {n = 16} (omega arith) h
-
--- a pattern that was sought: there is none, or it is by its number
-pub none-sought : (m r : ℕ) → r ≡ 0 → soughtOf m r ≡ none
-none-sought m r z = rw z refl
-
-pub some-sought : (m r : ℕ) → (r ≡ 0 → ⊥) → soughtOf m r ≡ some (digits m (r - 1))
-some-sought m zero z = absurd (z refl)
-some-sought m (suc r) z = let e : suc r - 1 ≡ r = omega arith in rw e refl
-
--- ---- the modes in front: v of N are tried, and a is the answer behind mode v
+-- ---- the modes of one level: v of N are tried
 
 module _ (try : ℕ → Option (List ℕ)) (N v : ℕ) where
   pub modes-over : N ≤ v → firstMode try (N - v) v ≡ none
@@ -75,25 +30,15 @@ module _ (try : ℕ → Option (List ℕ)) (N v : ℕ) where
     one-left : N - v ≡ suc (N - (v + 1))
     one-left = omega arith
 
-    pub modes-hit : (us : List ℕ) → try v ≡ some us → firstMode try (N - v) v ≡ some (v ∷ us)
+    pub modes-next : firstMode try (N - v) v ≡ orElse (mapSome (λ us. v ∷ us) (try v)) λ _. firstMode try (N - (v + 1)) (v + 1)
     unfolding firstMode
-    modes-hit us e = rw (one-left, e) refl
+    modes-next = rw (one-left, add-one) refl
+
+    pub modes-hit : (us : List ℕ) → try v ≡ some us → firstMode try (N - v) v ≡ some (v ∷ us)
+    modes-hit us e = modes-next ∙ rw e refl
 
     pub modes-miss : try v ≡ none → firstMode try (N - v) v ≡ firstMode try (N - (v + 1)) (v + 1)
-    unfolding firstMode
-    modes-miss e = rw (one-left, e, add-one) refl
-
-module _ (try : ℕ → Option (List ℕ)) (N v : ℕ) (whole : Option (List ℕ)) (q : firstMode try (N - v) v ≡ whole) where
-  pub modes-done : N ≤ v → none ≡ whole
-  modes-done h = sym (modes-over try N v h) ∙ q
-
-  pub modes-fail : v < N → try v ≡ none → firstMode try (N - (v + 1)) (v + 1) ≡ whole
-  modes-fail h e = sym (modes-miss try N v h e) ∙ q
-
-  module _ (h : v < N) (m r : ℕ) (e : soughtOf m r ≡ try v) where
-    pub modes-found : (r ≡ 0 → ⊥) → v < 16 → some (digits (suc m) (v + 16 * (r - 1))) ≡ whole
-    modes-found z l =
-        ap some (digits-front m v (r - 1) l) ∙ sym (modes-hit try N v h (digits m (r - 1)) (sym e ∙ some-sought m r z)) ∙ q
+    modes-miss e = modes-next ∙ rw e refl
 
 -- the same answers, the same first
 pub first-same : (f g : ℕ → Option (List ℕ)) → ((u : ℕ) → f u ≡ g u) → (m v : ℕ) → firstMode f m v ≡ firstMode g m v
@@ -101,90 +46,139 @@ unfolding firstMode
 first-same f g e zero v = refl
 first-same f g e (suc m) v = rw (e v, first-same f g e m (suc v)) refl
 
--- ---- a plant and its limits: what is asked of a mode, and what its sums tell
+-- ---- the levels of a path: one turn each
 
--- nothing is left behind a last mode
-abbrev ending : Bool → Option (List ℕ)
-ending t = guard t none λ _. some []
+module _ (stays lands : ℕ → List Side → Bool) (image : ℕ → List Side → List Side) (N : ℕ) where
+  abbrev tried : ℕ → List Side → ℕ → Option (List ℕ)
+  tried = behind stays lands image N
 
-module _ (p : Plant) (limits : List ℤ) (g : Ready p limits) where
-  pub rows-sound : (u : ℕ) → u < p .modes → RowsSound (p .n) (p .coef) u
-  rows-sound u h = step-sound p (g .sound) u h .rows
+  abbrev left : ℕ → List Side → ℕ → List Level → Option (List ℕ)
+  left = rest stays lands image N
 
-  pub lent-band : Small bandLimit (tab (lentSide limits 16) (p .n) 0)
-  lent-band =
-      rw (tab-same (lentSide limits 16) (sideAt (p .wlo) (p .whi)) (p .n) 0 (λ i a b. g .laid .in-band i (omega arith)))
-      (band-small p (g .sound))
+  -- nothing is tried yet
+  pub rest-all : (j : ℕ) (b : List Side) → left j b 0 [] ≡ sought stays lands image N j b
+  unfolding leftBelow begun
+  rest-all j b = rw sub-zero (go (firstMode (tried j b) N 0))
+    where
+      go : (o : Option (List ℕ)) → (orElse (mapSome (begun []) o) λ _. none) ≡ o
+      go (some us) = refl
+      go none = refl
 
-  -- an image in R lies in S, so that the last step asks for R alone
-  module _ (b : List Side) where
-    pub landing-is : (u : ℕ) → landing (p .n) (p .coef) limits b u ≡ behindMode (rulesOf p) 0 b u
-    unfolding exactly
-    landing-is u = ap ending (covered-root p limits g u b) ∙ go (within c (safeOf p)) (within c (rootOf p)) refl refl
-      where
-        c : List Side
-        c = image (stepOf p u) b
+  module _ (j : ℕ) (b : List Side) (u : ℕ) where
+    -- a level is done: the one below it moves on
+    module _ (h : N ≤ u) where
+      pub rest-done : left j b u [] ≡ none
+      unfolding leftBelow
+      rest-done = rw (modes-over (tried j b) N u h) refl
 
-        go : (s r : Bool) → within c (safeOf p) ≡ s → within c (rootOf p) ≡ r → ending r ≡ guard s none (λ _. ending r)
-        go true r e f = refl
-        go false false e f = refl
-        go false true e f = never (sym e ∙ within-trans c (rootOf p) (safeOf p) f (g .sound .root-safe))
+      pub rest-over : (v : Level) (below : List Level) → left j b u (v ∷ below) ≡ left (suc j) (v .box) (v .mode + 1) below
+      unfolding leftBelow
+      rest-over v below = rw (modes-over (tried j b) N u h, add-one) refl
 
-    -- one mode is left: v is the first that lands, or N
-    module _ (m v : ℕ) (z : m ≡ 1) (e : oneOf (p .modes) v ≡ firstMode (landing (p .n) (p .coef) limits b) (p .modes) 0) where
-      tried : picked (ltb v (p .modes)) v ≡ exactly (rulesOf p) m b
-      unfolding exactly
-      tried = rw z (e ∙ first-same (landing (p .n) (p .coef) limits b) (behindMode (rulesOf p) 0 b) landing-is (p .modes) 0)
+    module _ (h : u < N) (below : List Level) where
+      -- nothing is found behind mode u
+      pub rest-pass : tried j b u ≡ none → left j b u below ≡ left j b (u + 1) below
+      rest-pass e = rw (modes-miss (tried j b) N u h e) refl
 
-      pub last-is : v < p .modes → soughtOf m (v + 1) ≡ exactly (rulesOf p) m b
-      unfolding digits
-      last-is h =
-          let few = g .sound .modes-high in
-          let q : v % 16 ≡ v = omega arith in
-          let w : soughtOf m (v + 1) ≡ some (v ∷ []) = rw (z, add-one, q) refl in
-          w ∙ (rw (lt-ltb v (p .modes) h) at tried)
+      -- its image stays: a level on top
+      pub rest-enter : stays u b ≡ true → left (suc j) b u below ≡ left j (image u b) 0 (level b u ∷ below)
+      unfolding leftBelow begun behind
+      rest-enter e = rw (modes-next (tried (suc j) b) N u h, e, sub-zero, add-one) (go (firstMode (tried j (image u b)) N 0))
+        where
+          others : Option (List ℕ)
+          others = firstMode (tried (suc j) b) (N - suc u) (suc u)
 
-      pub last-none : p .modes ≤ v → none ≡ exactly (rulesOf p) m b
-      last-none h = rw (le-ltb v (p .modes) h) at tried
+          go : (o : Option (List ℕ)) → (orElse (mapSome (begun below) (orElse (mapSome (λ us. u ∷ us) o) λ _. others)) λ _. leftBelow stays lands image N (suc j) below)
+              ≡ orElse (mapSome (begun (level b u ∷ below)) o) λ _. orElse (mapSome (begun below) others) λ _. leftBelow stays lands image N (suc j) below
+          go (some us) = refl
+          go none = refl
 
--- ---- behind mode u on box b, whose image the code holds as c
+  -- the last level, whose modes are tried in one go: v is the first that lands, or N
+  module _ (b : List Side) (v : ℕ) (e : oneOf N v ≡ firstMode (tried 0 b) N 0) (below : List Level) where
+    pub rest-found : v < N → left 0 b 0 below ≡ some (begun below (v ∷ []))
+    rest-found h = rw (sub-zero, ← e, lt-ltb v N h) refl
 
-module _ (p : Plant) (m u : ℕ) (b c : List Side) (q : c ≡ image (stepOf p u) b) where
-  pub behind-leaves : within c (safeOf p) ≡ false → none ≡ behindMode (rulesOf p) m b u
-  behind-leaves e = rw (rw q at e) refl
+    pub rest-none : N ≤ v → left 0 b 0 below ≡ left 0 b v below
+    rest-none h = rw (modes-over (tried 0 b) N v h, sub-zero, ← e, le-ltb v N h) refl
 
-  module _ (e : within c (safeOf p) ≡ true) where
-    pub behind-stays : exactly (rulesOf p) m c ≡ behindMode (rulesOf p) m b u
-    behind-stays = ap (λ (k : List Side). exactly (rulesOf p) m k) q ∙ sym (rw (rw q at e) refl)
+  -- ---- the lengths up to k: those up to m modes are tried
 
-    pub behind-small : Sound p → Small edgeLimit b → Small edgeLimit c
-    behind-small g s = subst (λ (k : List Side). Small edgeLimit k) (sym q) (small-image (frameOf p) (p .coef) (own-sound p g) u b s (rw q at e))
+  module _ (k : ℕ) (b : List Side) where
+    pub lengths-all : soughtFrom stays lands image N (k - 0) 0 b ≡ soughtFrom stays lands image N k 0 b
+    lengths-all = rw sub-zero refl
 
--- with m modes to come from c on, none in front is tried yet
-pub modes-all : (p : Plant) (m : ℕ) (c : List Side) → 1 ≤ m → firstMode (behindMode (rulesOf p) (m - 1) c) (p .modes - 0) 0 ≡ exactly (rulesOf p) m c
-unfolding exactly
-modes-all p zero c h = absurd (omega arith)
-modes-all p (suc m) c h = let e : suc m - 1 ≡ m = omega arith in rw (e, sub-zero) refl
+    module _ (m : ℕ) (whole : Option (List ℕ)) (q : soughtFrom stays lands image N (k - m) m b ≡ whole) where
+      pub lengths-done : k ≤ m → none ≡ whole
+      unfolding soughtFrom
+      lengths-done h = let z : k - m ≡ 0 = omega arith in sym (rw z refl) ∙ q
 
--- ---- the lengths up to k: up to m all are tried
+      module _ (h : m < k) where
+        one-more : k - m ≡ suc (k - (m + 1))
+        one-more = omega arith
 
-module _ (r : Rules) (k : ℕ) (b : Rules.Box r) where
-  pub lengths-all : shortest r (k - 0) 1 b ≡ shortest r k 1 b
-  lengths-all = rw sub-zero refl
+        pub lengths-found : (us : List ℕ) → sought stays lands image N m b ≡ some us → some us ≡ whole
+        unfolding soughtFrom
+        lengths-found us e = sym (rw (one-more, e) refl) ∙ q
 
-  module _ (m : ℕ) (whole : Option (List ℕ)) (q : shortest r (k - m) (suc m) b ≡ whole) where
-    pub lengths-done : k ≤ m → none ≡ whole
-    unfolding shortest
-    lengths-done h = let z : k - m ≡ 0 = omega arith in sym (rw z refl) ∙ q
+        pub lengths-next : sought stays lands image N m b ≡ none → soughtFrom stays lands image N (k - (m + 1)) (m + 1) b ≡ whole
+        unfolding soughtFrom
+        lengths-next e = sym (rw (one-more, e, add-one) refl) ∙ q
 
-    module _ (h : m < k) where
-      one-more : k - m ≡ suc (k - (m + 1))
-      one-more = omega arith
+-- ---- the turns that are left
 
-      pub lengths-found : (us : List ℕ) → some us ≡ exactly r (suc m) (Rules.begin r b) → some us ≡ whole
-      unfolding shortest
-      lengths-found us e = sym (rw (one-more, ← e) refl) ∙ q
+module _ (N : ℕ) where
+  some-turn : (j : ℕ) → 1 ≤ turns N j
+  unfolding turns
+  some-turn zero = omega arith
+  some-turn (suc j) = omega arith
 
-      pub lengths-next : none ≡ exactly r (suc m) (Rules.begin r b) → shortest r (k - (m + 1)) (suc (m + 1)) b ≡ whole
-      unfolding shortest
-      lengths-next e = sym (rw (one-more, ← e, add-one) refl) ∙ q
+  -- of the modes from u on, mode u first
+  modes-turns : (j u : ℕ) → u < N → (N - u) * turns N j ≡ turns N j + (N - (u + 1)) * turns N j
+  modes-turns j u h = let e : N - u ≡ suc (N - (u + 1)) = omega arith in rw e (omega arith)
+
+  pub turns-over : (j u : ℕ) (v : Level) (below : List Level) → turnsLeft N (suc j) (v .mode + 1) below < turnsLeft N j u (v ∷ below)
+  unfolding turnsBelow
+  turns-over j u v below = rw (← add-one (v .mode)) (omega arith)
+
+  module _ (j u : ℕ) (below : List Level) (h : u < N) where
+    pub turns-pass : turnsLeft N j (u + 1) below < turnsLeft N j u below
+    turns-pass = omega (arith, some-turn j, modes-turns j u h)
+
+    pub turns-enter : (b : List Side) → turnsLeft N j 0 (level b u ∷ below) < turnsLeft N (suc j) u below
+    unfolding turnsBelow turns
+    turns-enter b = rw (← add-one u, sub-zero) (omega (arith, modes-turns (suc j) u h))
+
+  pub turns-last : (v : ℕ) (below : List Level) → 0 < N → N ≤ v → turnsLeft N 0 v below < turnsLeft N 0 0 below
+  unfolding turns
+  turns-last v below h k = let z : N - v ≡ 0 = omega arith in rw (z, sub-zero) (omega arith)
+
+-- ---- a path in two arrays
+
+module _ (n : ℕ) (boxes : List ℤ) (us : List ℕ) where
+  no-modes : patternOf 0 us ≡ []
+  unfolding tab
+  no-modes = refl
+
+  -- its modes, and those behind them
+  pub begun-below : (l : ℕ) (vs : List ℕ) → begun (levelsBelow n boxes us l) vs ≡ patternOf l us ++ vs
+  unfolding levelsBelow begun
+  begun-below zero vs = rw no-modes refl
+  begun-below (suc l) vs =
+      let z : 0 + l ≡ l = zero-add l in
+      rw (← add-one l, tab-snoc (modeAt us) l 0, z) (begun-below l (modeAt us l ∷ vs) ∙ sym (append-assoc (patternOf l us) (modeAt us l ∷ []) vs))
+
+  -- with mode u behind level l, which is put at its end
+  pub pattern-behind : (l u : ℕ) → l < length us → begun (levelsBelow n boxes us l) (u ∷ []) ≡ patternOf (l + 1) (set us l u)
+  pattern-behind l u h =
+      let z : 0 + l ≡ l = zero-add l in
+      let e : modeAt (set us l u) l ≡ u = getD-set-same us l u 0 h in
+      begun-below l (u ∷ [])
+      ∙ sym (tab-snoc (modeAt (set us l u)) l 0 ∙ rw (z, e, tab-same (modeAt (set us l u)) (modeAt us) l 0 (λ i a b. getD-below 0 us l u i (omega arith))) refl)
+
+  pub below-same : (l : ℕ) (boxes₁ : List ℤ) (us₁ : List ℕ) → SameTo n l boxes us boxes₁ us₁ → levelsBelow n boxes₁ us₁ l ≡ levelsBelow n boxes us l
+  unfolding levelsBelow
+  below-same l boxes₁ us₁ s = go l (omega arith)
+    where
+      go : (i : ℕ) → i ≤ l → levelsBelow n boxes₁ us₁ i ≡ levelsBelow n boxes us i
+      go zero h = refl
+      go (suc i) h = rw (s .boxes-same i (omega arith), s .modes-same i (omega arith), go i (omega arith)) refl

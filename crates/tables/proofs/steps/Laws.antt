@@ -1,41 +1,38 @@
--- Laws of the search's steps: the sums of a row from its extremes; extremes that are kept from mode to mode; that sums lie in the limits exactly
--- where the image's side lies in the side they are of; and from there, for a plant and its limits, that what is tested is the image in R or S,
--- and what is made is the image. Assumes nothing.
+-- Laws of the search's steps: the sums of a row from its extremes; sums that are kept; and that sums lie in the limits exactly where what they
+-- are divided to lies in the side that the limits are of. Assumes nothing.
 use Prim.Native.Nat.{ℕ, _+_, _≤_, _<_}
-use mathlib.Core.Path.{_≡_, refl, sym, ap, _∙_, subst}
+use mathlib.Core.Path.{_≡_, refl, sym, ap, _∙_}
 use mathlib.Core.Bool.{Bool, true, false}
 use mathlib.Core.List.{List}
-use mathlib.Core.Logic.{_⊎_, inl, inr}
 use native.Mathlib.Omega.{arith}
 use native.Mathlib.Decide.{ℕ-discrete}
 use native.Mathlib.Nat.{zero-add}
 use lib.ListN.{length, getD, set}
-use lib.Seq.{getD-set-other}
 use lib.IntN.{ℤ, pos, natAbs, _+ℤ_, _-ℤ_, _*ℤ_}
 use lib.Signed.{leZ, _≤ℤ_, _<ℤ_}
-use mir.Syntax.{w64}
-use mir.Val.{ofZ, toZ}
-use Rattle.laws.specs.Expressions.{var, exact}
 use Rattle.laws.specs.Integers.{zarith, add, sub, leZ-true, leZ-false}
 use Rattle.laws.specs.Division.{floorZ, ceilZ}
 use Rattle.laws.specs.DivisionLaws.{floor-greatest, ceil-least}
 use Rattle.laws.specs.Lists.{at, tab, all}
-use Rattle.laws.specs.Tabs.{tab-same, getD-tab, at-below, at-stored}
-use Rattle.laws.specs.Tests.{true-leZ, false-leZ}
-use Rattle.meaning.specs.declared.Plant.{Plant}
-use Rattle.meaning.specs.Boxes.{Side, side, sideAt, covers, within}
-use Rattle.meaning.specs.Images.{leastOf, greatestOf, extreme, image}
-use Rattle.meaning.specs.Plants.{rootOf, safeOf, rowStart, stepOf}
-use Rattle.tables.specs.Images.{rowLimit, entriesOf, Extremes}
-use Rattle.tables.specs.Limits.{limitSide, sumSide, divided, lentSide, covered, coveredAt, dividedAt, Within, Alike, Kept, Ready}
-use Rattle.tables.proofs.frames.Laws.{divisor}
-use Rattle.tables.proofs.boxes.Laws.{lies-tab}
-use Rattle.tables.proofs.images.Laws.{imageSideAt, image-tab}
+use Rattle.laws.specs.Tabs.{getD-tab, at-below, at-stored}
+use Rattle.laws.specs.Tests.{never, true-leZ, false-leZ, all-tab}
+use Rattle.meaning.specs.Boxes.{Side, side, covers}
+use Rattle.meaning.specs.Images.{leastOf, greatestOf, extreme}
+use Rattle.tables.specs.Images.{Extremes}
+use Rattle.tables.specs.Limits.{limitSide, divided, Within}
 
 -- ---- the sums
 
 pub sides-are : {es : List ℤ} {b : List Side} {lo hi : ℤ} → Extremes es b lo hi → (o : ℤ) → side (lo +ℤ o) (hi +ℤ o) ≡ side (extreme leastOf es b +ℤ o) (extreme greatestOf es b +ℤ o)
 sides-are e o = rw (e .least, e .greatest) refl
+
+-- one test that does not hold is enough
+pub one-fails : (t : ℕ → Bool) (n i : ℕ) → i < n → t i ≡ false → false ≡ all (tab t n 0)
+one-fails t n i h e = go (all (tab t n 0)) refl
+  where
+    go : (a : Bool) → all (tab t n 0) ≡ a → false ≡ all (tab t n 0)
+    go false q = sym q
+    go true q = never (sym e ∙ (rw zero-add at (all-tab t n 0 i h q)))
 
 -- ---- arrays that are filled from the front
 
@@ -57,53 +54,6 @@ within-more {k} {i} lo hi x y a b w f g j h = go (ℕ-discrete j i)
     go (no e) =
         let l : j < i = omega arith in
         rw (at-below lo i x j l, at-below hi i y j l) (w j l)
-
--- ---- extremes that are kept, row by row
-
-module _ (n : ℕ) (coef : List ℤ) (u : ℕ) (b : List Side) where
-  pub kept-none : (lo hi : List ℤ) → Kept n coef u b 0 lo hi
-  kept-none lo hi j h k = absurd (omega arith)
-
-  -- row i is put behind those before it: k of them stand
-  pub kept-more : (k i : ℕ) (lo hi : List ℤ) (x y : ℤ) → k ≤ i + 1 → i < length lo → i < length hi → Kept n coef u b i lo hi → Extremes (entriesOf n coef (rowStart n u i)) b x y
-      → Kept n coef u b k (set lo i x) (set hi i y)
-  kept-more k i lo hi x y m f g e new j h l = go (ℕ-discrete j i)
-    where
-      go : Dec (j ≡ i) → Extremes (entriesOf n coef (rowStart n u j)) b (at (set lo i x) j) (at (set hi i y) j)
-      go (yes q) = rw (q, at-stored lo i x f, at-stored hi i y g) new
-      go (no q) =
-          let s : j < i = omega arith in
-          rw (at-below lo i x j s, at-below hi i y j s) (e j h s)
-
-  -- for the mode behind they stand where it is alike: those that stood before, or those up to row r
-  module _ {m : ℤ} (have r : ℕ) (lo hi : List ℤ) (f : (m ≡ pos 0 → ⊥) → Alike n coef u) (e : Kept n coef u b have lo hi) (g : Kept n coef u b (r + 1) lo hi) where
-    next : (j : ℕ) → (m ≡ pos 0 → ⊥) → Kept n coef u b j lo hi → Kept n coef (u + 1) b j lo hi
-    next j z w i h l = subst (λ (es : List ℤ). Extremes es b (at lo i) (at hi i)) (f z i h) (w i h l)
-
-    pub kept-left : (k : ℕ) → (k ≡ 0) ⊎ ((m ≡ pos 0 → ⊥) × ((k ≡ have) ⊎ (k ≡ r + 1))) → Kept n coef (u + 1) b k lo hi
-    kept-left k (inl q) i h l = absurd (omega arith)
-    kept-left k (inr (z, inl q)) i h l = next have z e i h (omega arith)
-    kept-left k (inr (z, inr q)) i h l = next (r + 1) z g i h (omega arith)
-
--- as the machine holds them
-pub extremes-held : {es : List ℤ} {b : List Side} (lo hi : ℤ) → Extremes es b lo hi → Extremes es b (toZ w64 (ofZ w64 lo)) (toZ w64 (ofZ w64 hi))
-extremes-held lo hi e = rw (exact (var lo rowLimit (e .low)) tt, exact (var hi rowLimit (e .high)) tt) e
-
--- ---- arrays that are changed in place
-
--- what stands from i on is still what stood there
-pub record Unchanged (i : ℕ) (lo₀ hi₀ lo hi : List ℤ) : Type 0 where
-  pub low : (j : ℕ) → i ≤ j → at lo j ≡ at lo₀ j
-  pub high : (j : ℕ) → i ≤ j → at hi j ≡ at hi₀ j
-
-pub unchanged-all : (lo hi : List ℤ) → Unchanged 0 lo hi lo hi
-unchanged-all lo hi = record { low = λ j h. refl; high = λ j h. refl }
-
-pub unchanged-less : {i : ℕ} {lo₀ hi₀ lo hi : List ℤ} (x y : ℤ) → Unchanged i lo₀ hi₀ lo hi → Unchanged (i + 1) lo₀ hi₀ (set lo i x) (set hi i y)
-unchanged-less {i} {lo₀} {hi₀} {lo} {hi} x y u = record {
-  low = λ j h. getD-set-other lo i j x (pos 0) (λ e. absurd (omega arith)) ∙ u .low j (omega arith);
-  high = λ j h. getD-set-other hi i j y (pos 0) (λ e. absurd (omega arith)) ∙ u .high j (omega arith);
-}
 
 -- ---- limits
 
@@ -161,38 +111,5 @@ module _ (q : ℕ) (h : 1 ≤ q) where
               pick false k = let c = leZ-false m (floorZ (v +ℤ w) q) k in omega (zarith, add hi (pos 1))
 
   -- sums lie in the limits of a side exactly where what they are divided to lies in it
-  limit-covers : (w s t : Side) → covers (limitSide q w s) t ≡ covers s (divided q w t)
+  pub limit-covers : (w s t : Side) → covers (limitSide q w s) t ≡ covers s (divided q w t)
   limit-covers w s t = rw (low-limit (s .lo) (w .lo) (t .lo), high-limit (s .hi) (w .hi) (t .hi)) refl
-
--- ---- a plant and its limits
-
-module _ (p : Plant) (limits : List ℤ) (g : Ready p limits) (u : ℕ) (b : List Side) where
-  abbrev sides : ℕ → Side
-  sides = imageSideAt (p .n) (p .q) (p .wlo) (p .whi) (p .coef) u b
-
-  divided-is : (i : ℕ) → i < p .n → dividedAt (p .n) (p .q) (p .coef) limits u b i ≡ sides i
-  divided-is i h = ap (λ (w : Side). divided (p .q) w (sumSide (p .n) (p .coef) (rowStart (p .n) u i) b)) (g .laid .in-band i h)
-
-  pub made-image : tab (dividedAt (p .n) (p .q) (p .coef) limits u b) (p .n) 0 ≡ image (stepOf p u) b
-  made-image =
-      tab-same (dividedAt (p .n) (p .q) (p .coef) limits u b) sides (p .n) 0 (λ i l h. divided-is i (omega arith))
-      ∙ sym (image-tab (p .n) (p .q) (p .wlo) (p .whi) (p .coef) u b)
-
-  -- the limits at `base` are those of the box with sides t
-  covered-is : (base : ℕ) (t : ℕ → Side) → ((i : ℕ) → i < p .n → lentSide limits base i ≡ limitSide (p .q) (sideAt (p .wlo) (p .whi) i) (t i))
-      → covered (p .n) (p .coef) limits base u b ≡ within (image (stepOf p u) b) (tab t (p .n) 0)
-  covered-is base t e =
-      ap all (tab-same (coveredAt (p .n) (p .coef) limits base u b) (λ i. covers (t i) (sides i)) (p .n) 0 (λ i l h. at-side i (omega arith)))
-      ∙ sym (ap all (lies-tab sides t (p .n) 0))
-      ∙ sym (ap (λ (c : List Side). within c (tab t (p .n) 0)) (image-tab (p .n) (p .q) (p .wlo) (p .whi) (p .coef) u b))
-    where
-      at-side : (i : ℕ) → i < p .n → coveredAt (p .n) (p .coef) limits base u b i ≡ covers (t i) (sides i)
-      at-side i h =
-          ap (λ (s : Side). covers s (sumSide (p .n) (p .coef) (rowStart (p .n) u i) b)) (e i h)
-          ∙ limit-covers (p .q) (divisor p (g .sound)) (sideAt (p .wlo) (p .whi) i) (t i) (sumSide (p .n) (p .coef) (rowStart (p .n) u i) b)
-
-  pub covered-safe : covered (p .n) (p .coef) limits 0 u b ≡ within (image (stepOf p u) b) (safeOf p)
-  covered-safe = covered-is 0 (sideAt (p .slo) (p .shi)) (g .laid .in-safe)
-
-  pub covered-root : covered (p .n) (p .coef) limits 8 u b ≡ within (image (stepOf p u) b) (rootOf p)
-  covered-root = covered-is 8 (sideAt (p .rlo) (p .rhi)) (g .laid .in-root)

@@ -1,6 +1,6 @@
 -- `images::extremes`: the sums of the first rooms, one room more at each call. Assumes nothing.
-use mathlib.Core.Path.{_≡_}
 use Prim.Native.Nat.{ℕ, _+_, _≤_, _<_}
+use mathlib.Core.Path.{_≡_}
 use native.Mathlib.Omega.{arith}
 use lib.IntN.{ℤ, pos, natAbs, _+ℤ_}
 use denote.Ref.{now}
@@ -9,73 +9,61 @@ use Rattle.meaning.specs.Boxes.{Side, sideAt}
 use Rattle.meaning.specs.Images.{leastOf, greatestOf}
 use Rattle.meaning.specs.Plants.{edgeLimit, entryLimit}
 use Rattle.tables.specs.Boxes.{Bounded}
-use Rattle.tables.specs.Images.{rowLimit, entryAt, Extremes}
-use Rattle.tables.proofs.boxes.Laws.{small-side}
-use Rattle.tables.proofs.images.Laws.{Summed, summed-none, summed-more, least-small, greatest-small}
+use Rattle.tables.specs.Images.{rowLimit, entryAt, entriesOf, Extremes}
+use Rattle.tables.proofs.images.Laws.{Sums, sums-none, sums-more, sums-done, sums-place, sums-asked}
 use Rattle.tables.proofs.images.extremes.Statement.{statement}
 use Rattle.tables.proofs.images.extremes.Tie as tie
 
 module _ (s : tie.Start) where
-  abbrev entries : ℕ → ℤ
-  entries = entryAt (now (s .args .coef)) (s .args .start)
-
   abbrev sides : ℕ → Side
   sides = sideAt (now (s .args .lo)) (now (s .args .hi))
 
-  bounded : (j : ℕ) → j < s .args .n → Bounded edgeLimit (sides j)
-  bounded j h = small-side (now (s .args .lo)) (now (s .args .hi)) (s .args .n) j (s .pre .1) h
+  abbrev entries : ℕ → ℤ
+  entries = entryAt (now (s .args .coef)) (s .args .start)
 
-  -- both sums over the first j rooms
-  abbrev Sums : ℕ → ℤ → ℤ → Type 0
-  Sums j lo hi = Summed leastOf entries sides j lo × Summed greatestOf entries sides j hi
+  abbrev Summed : ℕ → ℤ → ℤ → Type 0
+  Summed = Sums (s .args .n) (now (s .args .coef)) (s .args .start) sides
 
-  sums-more : (j : ℕ) (x y lo hi : ℤ) → j < s .args .n → Sums j x y → (lo ≡ x +ℤ leastOf (entries j) (sides j)) × (hi ≡ y +ℤ greatestOf (entries j) (sides j)) → Sums (j + 1) lo hi
-  sums-more j x y lo hi h w e = (
-    summed-more leastOf entries sides j x lo (w .0) (least-small (entries j) (sides j) (s .pre .0 .entries j h) (bounded j h)) (e .0),
-    summed-more greatestOf entries sides j y hi (w .1) (greatest-small (entries j) (sides j) (s .pre .0 .entries j h) (bounded j h)) (e .1),
-  )
+  none : Summed 0 (pos 0) (pos 0)
+  none = sums-none (s .args .n) (now (s .args .coef)) (s .args .start) sides
 
-  done : (j : ℕ) (lo hi : ℤ) → s .args .n ≡ j → j ≤ 4 → Sums j lo hi → Extremes (tab entries (s .args .n) 0) (tab sides (s .args .n) 0) lo hi
-  done j lo hi q h w = record {
-    least = rw q (w .0 .sum);
-    greatest = rw q (w .1 .sum);
-    low = omega (arith, w .0 .small);
-    high = omega (arith, w .1 .small);
-  }
+  summed : (j : ℕ) → j < s .args .n → (x y lo hi : ℤ) → Summed j x y → (lo ≡ x +ℤ leastOf (entries j) (sides j)) × (hi ≡ y +ℤ greatestOf (entries j) (sides j)) → Summed (j + 1) lo hi
+  summed = sums-more (s .args .n) (now (s .args .coef)) (s .args .start) sides (s .pre .0) (s .pre .1)
+
+  done : (j : ℕ) (lo hi : ℤ) → s .args .n ≡ j → j ≤ 4 → Summed j lo hi → Extremes (tab entries (s .args .n) 0) (tab sides (s .args .n) 0) lo hi
+  done = sums-done (s .args .n) (now (s .args .coef)) (s .args .start) sides
 
   -- one room more can be asked for
-  asks : (j : ℕ) (lo hi : ℤ) → j < s .args .n → Sums j lo hi
+  asks : (j : ℕ) → j < s .args .n → (lo hi : ℤ) → Summed j lo hi
       → ((j < 4) × (s .args .start + j < 320))
       × (((natAbs (entries j) ≤ entryLimit) × Bounded edgeLimit (sides j)) × ((natAbs lo ≤ rowLimit) × (natAbs hi ≤ rowLimit)))
-  asks j lo hi h w =
-      let r = s .pre .0 .rooms in (
-        (omega arith, omega (arith, s .pre .0 .inside)),
-        ((s .pre .0 .entries j h, bounded j h), (omega (arith, w .0 .small), omega (arith, w .1 .small))),
-      )
+  asks j h lo hi w =
+      let p = sums-place (s .args .n) (now (s .args .coef)) (s .args .start) sides (s .pre .0) (s .pre .1) j h in
+      ((p .0, p .1), sums-asked (s .args .n) (now (s .args .coef)) (s .args .start) sides (s .pre .0) (s .pre .1) j h lo hi w)
 
 -- after each call
 module _ (c : tie.After-more) where
-  one : Sums (c .before) 1 (c .more .result .lo) (c .more .result .hi)
-  one = sums-more (c .before) 0 (pos 0) (pos 0) (c .more .result .lo) (c .more .result .hi) (c .before .pre .0 .some) (summed-none leastOf (entries (c .before)) (sides (c .before)), summed-none greatestOf (entries (c .before)) (sides (c .before))) (c .more .ensures)
+  one : Summed (c .before) 1 (c .more .result .lo) (c .more .result .hi)
+  one = summed (c .before) 0 (c .before .pre .0 .some) _ _ (c .more .result .lo) (c .more .result .hi) (none (c .before)) (c .more .ensures)
 
 module _ (c : tie.After-more2) where
   abbrev from2 : tie.Start
   from2 = c .before .before .before
 
-  two : Sums from2 2 (c .more2 .result .lo) (c .more2 .result .hi)
+  two : Summed from2 2 (c .more2 .result .lo) (c .more2 .result .hi)
   two = let e = c .before .if1 .left in let k = from2 .pre .0 .some in
-      sums-more from2 1 _ _ (c .more2 .result .lo) (c .more2 .result .hi) (omega arith) (one (c .before .before)) (c .more2 .ensures)
+      summed from2 1 (omega arith) _ _ (c .more2 .result .lo) (c .more2 .result .hi) (one (c .before .before)) (c .more2 .ensures)
 
 module _ (c : tie.After-more3) where
   abbrev from3 : tie.Start
   from3 = c .before .before .before .before .before
 
-  three : Sums from3 3 (c .more3 .result .lo) (c .more3 .result .hi)
+  three : Summed from3 3 (c .more3 .result .lo) (c .more3 .result .hi)
   three = let e = c .before .if2 .left in let f = c .before .before .before .if1 .left in let k = from3 .pre .0 .some in
-      sums-more from3 2 _ _ (c .more3 .result .lo) (c .more3 .result .hi) (omega arith) (two (c .before .before)) (c .more3 .ensures)
+      summed from3 2 (omega arith) _ _ (c .more3 .result .lo) (c .more3 .result .hi) (two (c .before .before)) (c .more3 .ensures)
 
 more-requires : tie.Need-more-requires
-more-requires c κs = asks c 0 (pos 0) (pos 0) (c .pre .0 .some) (summed-none leastOf (entries c) (sides c), summed-none greatestOf (entries c) (sides c))
+more-requires c κs = asks c 0 (c .pre .0 .some) _ _ (none c)
 
 returns : tie.Need-returns
 returns c = done (c .before .before) 1 _ _ (c .if1 .taken) (omega arith) (one (c .before))
@@ -85,7 +73,7 @@ more-requires-2 c κs =
     let s = c .before .before in
     let e = c .if1 .left in
     let k = s .pre .0 .some in
-    asks s 1 _ _ (omega arith) (one (c .before))
+    asks s 1 (omega arith) _ _ (one (c .before))
 
 returns-2 : tie.Need-returns-2
 returns-2 c = done (c .before .before .before .before) 2 _ _ (c .if2 .taken) (omega arith) (two (c .before))
@@ -96,7 +84,7 @@ more-requires-3 c κs =
     let e = c .if2 .left in
     let f = c .before .before .if1 .left in
     let k = s .pre .0 .some in
-    asks s 2 _ _ (omega arith) (two (c .before))
+    asks s 2 (omega arith) _ _ (two (c .before))
 
 returns-3 : tie.Need-returns-3
 returns-3 c = done (c .before .before .before .before .before .before) 3 _ _ (c .if3 .taken) (omega arith) (three (c .before))
@@ -108,7 +96,7 @@ more-requires-4 c κs =
     let f = c .before .before .if2 .left in
     let g = c .before .before .before .before .if1 .left in
     let k = s .pre .0 .some in
-    asks s 3 _ _ (omega arith) (three (c .before))
+    asks s 3 (omega arith) _ _ (three (c .before))
 
 returns-4 : tie.Need-returns-4
 returns-4 c =
@@ -118,7 +106,7 @@ returns-4 c =
     let g = c .before .before .before .before .before .if1 .left in
     let k = s .pre .0 .some in
     let r = s .pre .0 .rooms in
-    done s 4 _ _ (omega arith) (omega arith) (sums-more s 3 _ _ (c .more4 .result .lo) (c .more4 .result .hi) (omega arith) (three (c .before .before)) (c .more4 .ensures))
+    done s 4 _ _ (omega arith) (omega arith) (summed s 3 (omega arith) _ _ (c .more4 .result .lo) (c .more4 .result .hi) (three (c .before .before)) (c .more4 .ensures))
 
 pub extremes-spec : {M : Type 1} → statement M
 extremes-spec =

@@ -7,30 +7,27 @@ use denote.Ref.{now}
 use mir.Facts.{toZ-ofZ}
 use Rattle.laws.specs.Integers.{ok64}
 use Rattle.meaning.specs.Boxes.{sideAt}
-use Rattle.tables.specs.Limits.{Laid}
-use Rattle.tables.proofs.limits.Laws.{MarkedTo, laid-behind, marked-none, marked-more}
+use Rattle.tables.specs.Levels.{room}
+use Rattle.tables.specs.Limits.{marksAt, Laid, Marked}
+use Rattle.tables.proofs.limits.Laws.{laid-behind, marked-none, marked-more}
 use Rattle.tables.proofs.limits.lay.Statement.{statement}
 use Rattle.tables.proofs.limits.lay.Tie as tie
 
 abbrev Inv-loop : tie.InvT-loop
 Inv-loop f coef of₀ u₀ of u =
-    (u ≤ 16) × (length of ≡ 40) × Laid (f .n) (f .q) (sideAt (f .root .lo) (f .root .hi)) (sideAt (f .safe .lo) (f .safe .hi)) (sideAt (f .band .lo) (f .band .hi)) of × MarkedTo (f .n) coef u of
+    (u ≤ 16) × (length of ≡ room) × Laid (f .n) (f .q) (sideAt (f .root .lo) (f .root .hi)) (sideAt (f .safe .lo) (f .safe .hi)) (sideAt (f .band .lo) (f .band .hi)) of × Marked (f .n) u coef of
 
 abbrev μ-loop : tie.MeasureT-loop
 μ-loop f coef of₀ u₀ of u = f .modes - u
 
 lay-boxes-requires : tie.Need-lay-boxes-requires Inv-loop μ-loop
-lay-boxes-requires c κs = ((c .pre .0 .0, c .pre .0 .1), c .pre .1 .0)
+lay-boxes-requires c κs = ((c .pre .0 .1, c .pre .0 .2), c .pre .1 .0)
 
--- a mode with another behind it
-few : (t : tie.Then1 Inv-loop μ-loop) → t .before .before .loop .u < 15
-few t = let h = t .if1 .taken in let k = t .before .before .before .before .before .pre .0 .2 in omega arith
+few : (t : tie.Then1 Inv-loop μ-loop) → t .before .before .loop .u < 16
+few t = let h = t .if1 .taken in let k = t .before .before .before .before .before .pre .0 .3 in omega arith
 
 loop-holds : tie.Need-loop-holds Inv-loop μ-loop
 loop-holds c = let b = c .before in (omega arith, b .lay-boxes .ensures .1, b .lay-boxes .ensures .0, marked-none (b .before .args .f .n) (now (b .before .args .coef)) (b .lay-boxes .result .of))
-
-add-if1 : tie.Need-add-if1 Inv-loop μ-loop
-add-if1 c = let h = c .loop .inv .0 in omega arith
 
 mark-requires : tie.Need-mark-requires Inv-loop μ-loop
 mark-requires c κs =
@@ -38,7 +35,7 @@ mark-requires c κs =
     let u = c .before .before .loop .u in
     let h = c .if1 .taken in
     let f = few c in
-    (omega arith, s .pre .1 .1 u (omega arith), s .pre .1 .1 (u + 1) h)
+    (s .pre .0 .0, f, s .pre .1 .1 u h, λ k. s .pre .1 .1 (u - 1) (omega arith))
 
 add-of : tie.Need-add-of Inv-loop μ-loop
 add-of c = let f = few (c .before) in omega arith
@@ -63,7 +60,7 @@ loop-again c =
     let k = toZ-ofZ (ok64 (c .mark .result) (c .mark .ok)) in (
       omega arith,
       simp length-set (l .inv .1),
-      laid-behind (24 + l .u) _ (s .pre .0 .0) (omega arith) (l .inv .2),
+      laid-behind (marksAt + l .u) _ (s .pre .0 .1) (omega arith) (l .inv .2),
       marked-more (s .args .f .n) (now (s .args .coef)) (l .of) (l .u) _ (omega (arith, l .inv .1)) (λ z. c .mark .ensures (λ e. z (k ∙ e))) (l .inv .3),
     )
 
@@ -80,7 +77,6 @@ lay-spec =
     μ-loop
     lay-boxes-requires
     loop-holds
-    add-if1
     mark-requires
     add-of
     mul-of

@@ -6,6 +6,7 @@ use lib.ListN.{length}
 use Rattle.meaning.specs.Boxes.{Side, side, sideAt}
 use Rattle.meaning.specs.Plants.{edgeLimit, bandLimit}
 use Rattle.tables.specs.Boxes.{Bounded}
+use Rattle.tables.specs.Levels.{room}
 use Rattle.tables.specs.Limits.{Laid}
 use Rattle.tables.proofs.boxes.Laws.{small-side}
 use Rattle.tables.proofs.limits.Laws.{band-held, edge-held, limit-held, laid-none, laid-more}
@@ -14,7 +15,7 @@ use Rattle.tables.proofs.limits.lay_boxes.Tie as tie
 
 abbrev Inv-loop : tie.InvT-loop
 Inv-loop f band safe root of₀ i₀ of i =
-    (i ≤ f .n) × (length of ≡ 40) × Laid i (f .q) (sideAt (root .lo) (root .hi)) (sideAt (safe .lo) (safe .hi)) (sideAt (band .lo) (band .hi)) of
+    (i ≤ f .n) × (length of ≡ room) × Laid i (f .q) (sideAt (root .lo) (root .hi)) (sideAt (safe .lo) (safe .hi)) (sideAt (band .lo) (band .hi)) of
 
 abbrev μ-loop : tie.MeasureT-loop
 μ-loop f band safe root of₀ i₀ of i = f .n - i

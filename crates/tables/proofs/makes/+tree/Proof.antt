@@ -13,14 +13,15 @@ use Rattle.meaning.specs.declared.Plant.{Plant}
 use Rattle.meaning.specs.Boxes.{Side, children}
 use Rattle.meaning.specs.Plants.{edgeLimit}
 use Rattle.meaning.specs.Tables.{rulesOf}
+use Rattle.meaning.specs.Defined.{firstPattern}
 use Rattle.tables.specs.declared.makes.Grown.{Grown}
 use Rattle.tables.specs.Boxes.{boxOf}
 use Rattle.tables.specs.Frames.{plantFrom}
-use Rattle.tables.specs.Limits.{Unlent}
-use Rattle.tables.specs.Beginnings.{Roomy}
+use Rattle.tables.specs.Search.{patternBy}
 use Rattle.tables.specs.Makes.{Wrote, treeBytes, treesBytes}
 use Rattle.tables.proofs.boxes.Laws.{small-children}
 use Rattle.tables.proofs.frames.Laws.{rooms, longest}
+use Rattle.tables.proofs.search.Rules.{lent, shortest-is}
 use Rattle.tables.proofs.makes.Laws.{Growing, grow-none, grow-done, grow-more, grow-stopped, node-tile, node-deep, node-stuck, node-split, wrote-length}
 use borrow.Fn.Kinds.{In}
 use borrow.Fn.PlainCycle.{Measures, is, falls, and}
@@ -35,29 +36,32 @@ use Rattle.tables.proofs.search.first.Reads as first-reads
 use Rattle.tables.proofs.makes.+tree.{statement}
 use Rattle.tables.proofs.makes.+tree.Tie.{close}
 
-abbrev μ-tree : Measures 6 tree-kinds.ps ℕ
+abbrev μ-tree : Measures 3 tree-kinds.ps ℕ
 μ-tree κs a = a .1 .1 .1 .0
 
-abbrev tree-at : ℕ → In 6 tree-kinds.ps
-tree-at t = and 6 tree-kinds.ps (is 6 tree-kinds.ps μ-tree t) tree.Pre
+abbrev tree-at : ℕ → In 3 tree-kinds.ps
+tree-at t = and 3 tree-kinds.ps (is 3 tree-kinds.ps μ-tree t) tree.Pre
 
-abbrev tree-below : ℕ → In 6 tree-kinds.ps
-tree-below t = and 6 tree-kinds.ps (falls 6 tree-kinds.ps _<_ μ-tree t) tree.Pre
+abbrev tree-below : ℕ → In 3 tree-kinds.ps
+tree-below t = and 3 tree-kinds.ps (falls 3 tree-kinds.ps _<_ μ-tree t) tree.Pre
 
 abbrev claims : ℕ → tree-lts.Claims
 claims t = (first-reads.Asked, first-reads.Learnt, put-tile-reads.Asked, put-tile-reads.Learnt, count-reads.Asked, count-reads.Learnt, put-number-reads.Asked, put-number-reads.Learnt, child-reads.Asked, child-reads.Learnt, tree-below t, tree.Post)
 
 abbrev tree-Inv-loop : tree-lts.InvT-loop
-tree-Inv-loop f coef limits d b codes₀ los₀ his₀ buf₀ at n size count place₀ c₀ codes los his buf place c =
-    (c ≤ count) × Roomy codes los his
+tree-Inv-loop f coef limits d b buf₀ at n size count place₀ c₀ buf place c =
+    (c ≤ count)
     × Growing buf₀ place₀ (treesBytes (rulesOf (plantFrom f coef)) (d - 1) (children (boxOf (f .n) b))) (treesBytes (rulesOf (plantFrom f coef)) (d - 1) (drop c (children (boxOf (f .n) b)))) place buf
 
 abbrev tree-μ-loop : tree-lts.MeasureT-loop
-tree-μ-loop f coef limits d b codes₀ los₀ his₀ buf₀ at n size count place₀ c₀ codes los his buf place c = count - c
+tree-μ-loop f coef limits d b buf₀ at n size count place₀ c₀ buf place c = count - c
 
--- a call with that much depth: at its start, with a split's number written, with a child's tree written
+-- a call with that much depth: at its start, with a pattern sought, with a split's number written, with a child's tree written
 abbrev Call : ℕ → Type 0
 Call t = tree-lts.Start (claims t) (tree-at t) tree.Post tree-Inv-loop tree-μ-loop
+
+abbrev Sought : ℕ → Type 0
+Sought t = tree-lts.After-first (claims t) (tree-at t) tree.Post tree-Inv-loop tree-μ-loop
 
 abbrev Split : ℕ → Type 0
 Split t = tree-lts.After-slice-known3 (claims t) (tree-at t) tree.Post tree-Inv-loop tree-μ-loop
@@ -69,26 +73,21 @@ module _ (t : ℕ) (s : Call t) where
   abbrev plant : Plant
   plant = plantFrom (s .args .f) (now (s .args .coef))
 
-  -- what is not lent of it
-  abbrev kept : Unlent
-  kept = let f = s .args .f in record {
-    k = f .k;
-    d = f .d;
-    rlo = f .root .lo;
-    rhi = f .root .hi;
-    slo = f .safe .lo;
-    shi = f .safe .hi;
-    wlo = f .band .lo;
-    whi = f .band .hi;
-  }
-
   abbrev box : List Side
   box = boxOf (s .args .f .n) (s .args .b)
+
+-- what was sought is the first pattern of the box
+module _ (t : ℕ) (x : Sought t) where
+  abbrev modes : List ℕ
+  modes = x .first .last .1 .1 .1 .1 .1 .1 .1 .0
+
+  pattern : let s = x .before .before .before in patternBy (x .first .result) modes ≡ firstPattern (rulesOf (plant t s)) (box t s)
+  pattern = let s = x .before .before .before in x .first .ensures .0 ∙ shortest-is (plant t s) (now (s .args .limits)) (s .pre .1 .0) (s .args .f .k) 0 (box t s)
 
 -- whoever writes the children of a split has written its tree
 module _ (t : ℕ) (k : Split t) where
   abbrev from : Call t
-  from = k .before .before .before .before .before .before .before .before .before .before .before .before .before
+  from = k .before .before .before .before .before .before .before .before .before .before .before
 
   abbrev whole : Option (List ℕ)
   whole = treesBytes (rulesOf (plant t from)) (from .args .d - 1) (children (box t from))
@@ -99,8 +98,8 @@ module _ (t : ℕ) (k : Split t) where
   goes : (a : Grown) (out : List ℕ) → Wrote whole (k .before .before .put-number .last .0) (k .before .before .put-number .result) a out
       → Wrote (treeBytes (rulesOf (plant t from)) (from .args .d) (box t from)) (now (from .args .buf)) (from .args .at) a out
   goes a out w =
-      let x = k .before .before .before .before .before .before .before .before .first in
-      node-split (plant t from) (from .args .d) (box t from) (x .result .size) (x .result .code) (x .ensures .0 (kept t from) (from .pre .1 .0 .0)) (now (from .args .buf)) (from .args .at) (k .before .before .before .before .before .before .before .if1 .left) (k .before .before .before .before .before .before .if2 .left)
+      let x = k .before .before .before .before .before .before .before .before in
+      node-split (plant t from) (from .args .d) (box t from) (x .first .result) (modes t x) (pattern t x) (now (from .args .buf)) (from .args .at) (k .before .before .before .before .before .before .before .if1 .left) (k .before .before .before .before .before .before .if2 .left)
       (λ z. k .before .before .before .before .if3 .left (k .before .before .before .before .before .count .ensures ∙ z)) (k .before .before .put-number .result) (k .before .before .put-number .last .0) (k .before .before .put-number .ensures) a out w
 
   same : length (k .before .before .put-number .last .0) ≡ length (now (from .args .buf))
@@ -109,65 +108,65 @@ module _ (t : ℕ) (k : Split t) where
 -- a child's tree: what it is to stop at it and to go on behind it
 module _ (t : ℕ) (w : Child t) where
   abbrev parent : Split t
-  parent = w .before .before .before .before .before .before .before .before
+  parent = w .before .before .before .before .before
 
   abbrev done : ℕ
-  done = w .before .before .before .before .before .before .before .loop .c
+  done = w .before .before .before .before .loop .c
 
   abbrev left : List ℕ
-  left = w .tree .last .1 .1 .1 .1 .1 .1 .1 .1 .0
+  left = w .tree .last .1 .1 .1 .1 .1 .0
 
   in-count : done < length (children (box t (from t parent)))
-  in-count = in-box t parent (w .before .before .before .before .before .before .loop-test .taken)
+  in-count = in-box t parent (w .before .before .before .loop-test .taken)
 
   abbrev kid : List Side
-  kid = boxOf (from t parent .args .f .n) (w .before .before .before .before .before .child .result)
+  kid = boxOf (from t parent .args .f .n) (w .before .before .child .result)
 
   stopped : w .tree .result ≡ Grown.Nothing → Wrote (whole t parent) (parent .before .before .put-number .last .0) (parent .before .before .put-number .result) Grown.Nothing left
   stopped e =
-      let l = w .before .before .before .before .before .before .before .loop in
+      let l = w .before .before .before .before .loop in
       grow-stopped (rulesOf (plant t (from t parent))) (from t parent .args .d - 1) (children (box t (from t parent))) done (parent .before .before .put-number .last .0) (parent .before .before .put-number .result) (whole t parent) (l .place)
-      (l .buf) (l .inv .2) [] in-count kid (w .before .before .before .before .before .child .ensures) (w .tree .result) left (w .tree .ensures .0) e
+      (l .buf) (l .inv .1) [] in-count kid (w .before .before .child .ensures) (w .tree .result) left (w .tree .ensures) e
 
   goes-on : (m : ℕ) → w .tree .result ≡ Grown.Next m
       → Growing (parent .before .before .put-number .last .0) (parent .before .before .put-number .result) (whole t parent) (treesBytes (rulesOf (plant t (from t parent))) (from t parent .args .d - 1) (drop (done + 1) (children (box t (from t parent))))) m left
   goes-on m e =
-      let l = w .before .before .before .before .before .before .before .loop in
+      let l = w .before .before .before .before .loop in
       grow-more (rulesOf (plant t (from t parent))) (from t parent .args .d - 1) (children (box t (from t parent))) done (parent .before .before .put-number .last .0) (parent .before .before .put-number .result) (whole t parent) (l .place)
-      (l .buf) (l .inv .2) [] in-count kid (w .before .before .before .before .before .child .ensures) (w .tree .result) left (w .tree .ensures .0) m e
+      (l .buf) (l .inv .1) [] in-count kid (w .before .before .child .ensures) (w .tree .result) left (w .tree .ensures) m e
 
 tree-first-requires : (t : ℕ) → tree-lts.Need-first-requires (claims t) (tree-at t) tree.Post tree-Inv-loop tree-μ-loop
 tree-first-requires t c κs =
-    let s = c .before .before .before .before in
-    ((record { rest = kept t s; ready = s .pre .1 .0 .0 }, longest (plant t s) (s .pre .1 .0 .0 .sound), s .pre .1 .0 .1), s .pre .1 .1)
+    let s = c .before .before in
+    (lent (plant t s) (now (s .args .limits)) (s .pre .1 .0), longest (plant t s) (s .pre .1 .0 .sound), s .pre .1 .1)
 
 tree-put-tile-requires : (t : ℕ) → tree-lts.Need-put-tile-requires (claims t) (tree-at t) tree.Post tree-Inv-loop tree-μ-loop
-tree-put-tile-requires t c κs = c .before .before .first .ensures .1 .0
+tree-put-tile-requires t c κs = c .before .before .before .first .ensures .1 .0
 
 tree-same-length : (t : ℕ) → tree-lts.Need-same-length (claims t) (tree-at t) tree.Post tree-Inv-loop tree-μ-loop
 tree-same-length t c = put-length (c .before .before .put-tile .ensures)
 
 tree-returns : (t : ℕ) → tree-lts.Need-returns (claims t) (tree-at t) tree.Post tree-Inv-loop tree-μ-loop
 tree-returns t c =
-    let s = c .before .before .before .before .before .before .before .before .before .before in
-    let x = c .before .before .before .before .before .first in
+    let x = c .before .before .before .before .before .before in
+    let s = x .before .before .before in
     let w = c .before .before .put-tile in
-    (node-tile (plant t s) (s .args .d) (box t s) (x .result .size) (x .result .code) (x .ensures .0 (kept t s) (s .pre .1 .0 .0)) (now (s .args .buf)) (s .args .at) (c .before .before .before .before .if1 .taken) (w .result) (w .last .0) (w .ensures), x .ensures .1 .1)
+    node-tile (plant t s) (s .args .d) (box t s) (x .first .result) (modes t x) (pattern t x) (now (s .args .buf)) (s .args .at) (c .before .before .before .before .before .if1 .taken) (w .result) (w .last .0) (w .ensures)
 
 tree-returns-2 : (t : ℕ) → tree-lts.Need-returns-2 (claims t) (tree-at t) tree.Post tree-Inv-loop tree-μ-loop
 tree-returns-2 t c =
-    let s = c .before .before .before .before .before .before .before in
-    let x = c .before .before .first in
-    (node-deep (plant t s) (s .args .d) (box t s) (x .result .size) (x .result .code) (x .ensures .0 (kept t s) (s .pre .1 .0 .0)) (now (s .args .buf)) (s .args .at) (c .before .if1 .left) (c .if2 .taken), x .ensures .1 .1)
+    let x = c .before .before in
+    let s = x .before .before .before in
+    node-deep (plant t s) (s .args .d) (box t s) (x .first .result) (modes t x) (pattern t x) (now (s .args .buf)) (s .args .at) (c .before .if1 .left) (c .if2 .taken)
 
 tree-count-requires : (t : ℕ) → tree-lts.Need-count-requires (claims t) (tree-at t) tree.Post tree-Inv-loop tree-μ-loop
-tree-count-requires t c κs = let s = c .before .before .before .before .before .before .before in rooms (plant t s) (s .pre .1 .0 .0 .sound)
+tree-count-requires t c κs = let s = c .before .before .before .before .before in rooms (plant t s) (s .pre .1 .0 .sound)
 
 tree-returns-3 : (t : ℕ) → tree-lts.Need-returns-3 (claims t) (tree-at t) tree.Post tree-Inv-loop tree-μ-loop
 tree-returns-3 t c =
-    let s = c .before .before .before .before .before .before .before .before .before in
-    let x = c .before .before .before .before .first in
-    (node-stuck (plant t s) (s .args .d) (box t s) (x .result .size) (x .result .code) (x .ensures .0 (kept t s) (s .pre .1 .0 .0)) (now (s .args .buf)) (s .args .at) (c .before .before .before .if1 .left) (sym (c .before .count .ensures) ∙ c .if3 .taken), x .ensures .1 .1)
+    let x = c .before .before .before .before in
+    let s = x .before .before .before in
+    node-stuck (plant t s) (s .args .d) (box t s) (x .first .result) (modes t x) (pattern t x) (now (s .args .buf)) (s .args .at) (c .before .before .before .if1 .left) (sym (c .before .count .ensures) ∙ c .if3 .taken)
 
 tree-put-number-requires : (t : ℕ) → tree-lts.Need-put-number-requires (claims t) (tree-at t) tree.Post tree-Inv-loop tree-μ-loop
 tree-put-number-requires t c κs = tt
@@ -175,25 +174,25 @@ tree-put-number-requires t c κs = tt
 tree-loop-holds : (t : ℕ) → tree-lts.Need-loop-holds (claims t) (tree-at t) tree.Post tree-Inv-loop tree-μ-loop
 tree-loop-holds t c =
     let w = c .before .before .put-number in
-    (omega arith, c .before .before .before .before .before .before .before .before .first .ensures .1 .1, grow-none (w .last .0) (w .result) (whole t c) (omega (arith, w .ensures .place, put-length (w .ensures))))
+    (omega arith, grow-none (w .last .0) (w .result) (whole t c) (omega (arith, w .ensures .place, put-length (w .ensures))))
 
 tree-child-requires : (t : ℕ) → tree-lts.Need-child-requires (claims t) (tree-at t) tree.Post tree-Inv-loop tree-μ-loop
 tree-child-requires t c κs =
     let k = c .before .before in
     let s = from t k in
-    (rooms (plant t s) (s .pre .1 .0 .0 .sound), s .pre .1 .0 .1, in-box t k (c .loop-test .taken))
+    (rooms (plant t s) (s .pre .1 .0 .sound), s .pre .1 .1, in-box t k (c .loop-test .taken))
 
 tree-sub-tree : (t : ℕ) → tree-lts.Need-sub-tree (claims t) (tree-at t) tree.Post tree-Inv-loop tree-μ-loop
 tree-sub-tree t c = let z = c .before .before .before .before .before .before .before .before .before .if2 .left in omega arith
 
 tree-tree-requires : (t : ℕ) → tree-lts.Need-tree-requires (claims t) (tree-at t) tree.Post tree-Inv-loop tree-μ-loop
 tree-tree-requires t c κs =
-    let h = c .before .before .before .before in
+    let h = c .before in
     let k = h .before .before .before in
     let s = from t k in
     let z = k .before .before .before .before .before .before .if2 .left in
     let less = s .pre .0 in
-    (omega arith, ((s .pre .1 .0 .0, rw (h .child .ensures) (small-children edgeLimit (box t s) (h .before .before .loop .c) (in-box t k (h .before .loop-test .taken)) (s .pre .1 .0 .1))), h .before .before .loop .inv .1))
+    (omega arith, (s .pre .1 .0, rw (h .child .ensures) (small-children edgeLimit (box t s) (h .before .before .loop .c) (in-box t k (h .before .loop-test .taken)) (s .pre .1 .1))))
 
 tree-enum-known-grown : (t : ℕ) → tree-lts.Need-enum-known-grown (claims t) (tree-at t) tree.Post tree-Inv-loop tree-μ-loop
 tree-enum-known-grown t c = search needs
@@ -204,28 +203,28 @@ tree-enum-told t c = search needs
 tree-same-length-2 : (t : ℕ) → tree-lts.Need-same-length-2 (claims t) (tree-at t) tree.Post tree-Inv-loop tree-μ-loop
 tree-same-length-2 t c =
     let w = c .before .before .before .before in
-    wrote-length (treeBytes (rulesOf (plant t (from t (parent t w)))) (from t (parent t w) .args .d - 1) (kid t w)) _ _ (w .tree .result) (left t w) (w .tree .ensures .0) ∙ w .before .before .before .before .before .before .before .loop .inv .2 .long ∙ same t (parent t w)
+    wrote-length (treeBytes (rulesOf (plant t (from t (parent t w)))) (from t (parent t w) .args .d - 1) (kid t w)) _ _ (w .tree .result) (left t w) (w .tree .ensures) ∙ w .before .before .before .before .loop .inv .1 .long ∙ same t (parent t w)
 
 tree-returns-4 : (t : ℕ) → tree-lts.Need-returns-4 (claims t) (tree-at t) tree.Post tree-Inv-loop tree-μ-loop
 tree-returns-4 t c =
     let w = c .before .before .before .before in
-    (goes t (parent t w) Grown.Nothing (left t w) (stopped t w (c .enum-told .given .1)), w .tree .ensures .1)
+    goes t (parent t w) Grown.Nothing (left t w) (stopped t w (c .enum-told .given .1))
 
 tree-add-c : (t : ℕ) → tree-lts.Need-add-c (claims t) (tree-at t) tree.Post tree-Inv-loop tree-μ-loop
-tree-add-c t c = let h = c .before .before .before .before .before .before .before .before .before .before .before .loop-test .taken in omega arith
+tree-add-c t c = let h = c .before .before .before .before .before .before .before .before .loop-test .taken in omega arith
 
 tree-loop-less : (t : ℕ) → tree-lts.Need-loop-less (claims t) (tree-at t) tree.Post tree-Inv-loop tree-μ-loop
-tree-loop-less t c = let h = c .before .before .before .before .before .before .before .before .before .before .before .loop-test .taken in omega arith
+tree-loop-less t c = let h = c .before .before .before .before .before .before .before .before .loop-test .taken in omega arith
 
 tree-loop-again : (t : ℕ) → tree-lts.Need-loop-again (claims t) (tree-at t) tree.Post tree-Inv-loop tree-μ-loop
 tree-loop-again t c =
     let w = c .before .before .before .before .before in
-    let h = w .before .before .before .before .before .before .loop-test .taken in
+    let h = w .before .before .before .loop-test .taken in
     let g = c .before .grown .given in
-    (omega arith, w .tree .ensures .1, goes-on t w (g .0 .0) (g .1))
+    (omega arith, goes-on t w (g .0 .0) (g .1))
 
 tree-same-length-3 : (t : ℕ) → tree-lts.Need-same-length-3 (claims t) (tree-at t) tree.Post tree-Inv-loop tree-μ-loop
-tree-same-length-3 t c = c .before .loop .inv .2 .long ∙ same t (c .before .before)
+tree-same-length-3 t c = c .before .loop .inv .1 .long ∙ same t (c .before .before)
 
 tree-returns-5 : (t : ℕ) → tree-lts.Need-returns-5 (claims t) (tree-at t) tree.Post tree-Inv-loop tree-μ-loop
 tree-returns-5 t c =
@@ -234,7 +233,7 @@ tree-returns-5 t c =
     let l = c .before .loop in
     let n = k .before .before .before .before .before .count .ensures in
     let h = c .loop-test .left in
-    (goes t k (Grown.Next (l .place)) (l .buf) (grow-done (rulesOf (plant t s)) (s .args .d - 1) (children (box t s)) (l .c) (k .before .before .put-number .last .0) (k .before .before .put-number .result) (whole t k) (l .place) (l .buf) (l .inv .2) (rw (← n) h)), l .inv .1)
+    goes t k (Grown.Next (l .place)) (l .buf) (grow-done (rulesOf (plant t s)) (s .args .d - 1) (children (box t s)) (l .c) (k .before .before .put-number .last .0) (k .before .before .put-number .result) (whole t k) (l .place) (l .buf) (l .inv .1) (rw (← n) h))
 
 pub +tree-spec : {M : Type 1} → statement M
 +tree-spec = close μ-tree λ t. tree-lts.spec (claims t)

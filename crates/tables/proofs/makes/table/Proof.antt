@@ -1,8 +1,7 @@
 -- `makes::table`: header, then the tree of R, at the frame that the plant was taken apart into. Assumes nothing.
-use mathlib.Core.Path.{_≡_, refl, sym, ap, subst}
+use mathlib.Core.Path.{sym, subst}
 use Rattle.meaning.specs.declared.Plant.{Plant}
 use Rattle.promises.specs.Sound.{Sound}
-use Rattle.tables.specs.declared.frames.Frame.{Frame}
 use Rattle.tables.specs.Frames.{plantFrom}
 use Rattle.tables.specs.Limits.{Ready}
 use Rattle.tables.proofs.frames.Laws.{rooms, divisor-small, root-small, safe-small, band-small, step-sound}
@@ -16,11 +15,8 @@ module _ (c : tie.After-framed) where
   abbrev plant : Plant
   plant = plantFrom (c .framed .result) (c .before .before .args .p .coef)
 
-  same : plant ≡ c .before .before .args .p
-  same = ap (λ (f : Frame). plantFrom f (c .before .before .args .p .coef)) (c .framed .ensures)
-
   sound : Sound plant
-  sound = subst Sound (sym same) (c .before .before .pre)
+  sound = subst Sound (sym (c .framed .ensures)) (c .before .before .pre)
 
 -- and its limits
 ready : (c : tie.After-lay) → Ready (plant (c .before .before .before)) (c .lay .result .of)
@@ -34,7 +30,7 @@ lay-requires c κs =
     let f = c .before .before in
     let p = plant f in
     let g = sound f in
-    ((rooms p g, divisor-small p g, g .modes-high), ((band-small p g, root-small p g, safe-small p g), λ u h. step-sound p g u h .rows))
+    ((g .n-low, rooms p g, divisor-small p g, g .modes-high), ((band-small p g, root-small p g, safe-small p g), λ u h. step-sound p g u h .rows))
 
 put-number-requires : tie.Need-put-number-requires
 put-number-requires c κs = search needs
@@ -44,9 +40,9 @@ put-number-requires-2 c κs = search needs
 
 tree-requires : tie.Need-tree-requires
 tree-requires c κs =
-    let l = c .before .before .before .before .before .before .before .before .before .before .before .before .before .before .before .before in
+    let l = c .before .before .before .before .before .before .before .before .before .before .before .before .before in
     let f = l .before .before .before in
-    ((ready l, root-small (plant f) (sound f)), (refl, refl, refl))
+    (ready l, root-small (plant f) (sound f))
 
 same-length : tie.Need-same-length
 same-length c = search needs
@@ -54,10 +50,10 @@ same-length c = search needs
 returns : tie.Need-returns
 returns c =
     let t = c .before .before in
-    let w = t .before .before .before .before .before .before .before .before .before in
+    let w = t .before .before .before .before .before .before in
     let v = w .before .before .before .before in
     let f = v .before .before .before .before .before .before .before in
-    table-wrote (plant f) (f .before .before .args .p) (same f) (v .put-number .ensures) (w .put-number2 .ensures) (t .tree .result) (t .tree .last .1 .1 .1 .1 .1 .1 .1 .1 .0) (t .tree .ensures .0)
+    table-wrote (plant f) (f .before .before .args .p) (f .framed .ensures) (v .put-number .ensures) (w .put-number2 .ensures) (t .tree .result) (t .tree .last .1 .1 .1 .1 .1 .0) (t .tree .ensures)
 
 pub table-spec : {M : Type 1} → statement M
 table-spec =

@@ -1,305 +1,290 @@
--- `search::first`: the beginnings that are left of a length say what the length says, the lengths that are left what the search says; and whatever
--- box the beginnings spoke of at the start, they speak of it still. Assumes nothing.
-use Prim.Native.Nat.{ℕ, suc, _+_, _-_, _*_, _^_, _≤_, _<_}
+-- `search::first`: what is left of the path says what the length says, and what is left of the lengths says what the search says. Assumes nothing.
+use Prim.Native.Nat.{ℕ, suc, _+_, _-_, _*_, _≤_, _<_}
 use mathlib.Core.Path.{_≡_, refl, sym, ap, _∙_}
+use mathlib.Core.Bool.{true, false}
 use mathlib.Core.List.{List}
-use mathlib.Core.Logic.{⊎-elim}
-use mathlib.Core.Option.{some}
+use mathlib.Core.Option.{Option, some}
 use native.Mathlib.Omega.{arith}
 use native.Mathlib.Numerals.{add-one}
 use denote.Ref.{now}
-use lib.ListN.{getD}
 use lib.IntN.{ℤ}
-use Rattle.meaning.specs.declared.Plant.{Plant}
+use lib.ListN.{length, set, length-set}
 use Rattle.meaning.specs.Boxes.{Side}
 use Rattle.meaning.specs.Plants.{edgeLimit}
-use Rattle.meaning.specs.Tables.{rulesOf}
-use Rattle.meaning.specs.Defined.{exactly, shortest}
-use Rattle.tables.specs.declared.beginnings.Level.{Level}
 use Rattle.tables.specs.Boxes.{boxOf, Small}
-use Rattle.tables.specs.Limits.{Unlent, plantLent, Ready}
-use Rattle.tables.specs.Search.{digits}
-use Rattle.tables.specs.Beginnings.{firstBehind, imageAt, held, Holds, Says}
-use Rattle.tables.proofs.search.Laws.{none-sought, some-sought, lengths-all, lengths-done, lengths-found, lengths-next}
-use Rattle.tables.proofs.beginnings.Laws.{digits-behind, digits-room, behind-done, behind-miss, behind-found}
+use Rattle.tables.specs.Levels.{wide, levelIn}
+use Rattle.tables.specs.Limits.{staysLent, landsLent, imageLent}
+use Rattle.tables.specs.Search.{soughtFrom, soughtLent, shortestLent, Standing}
+use Rattle.tables.specs.Tiles.{modeAt, patternOf}
+use Rattle.tables.proofs.search.Laws.{lengths-all, lengths-done, lengths-found, lengths-next}
+use Rattle.tables.proofs.search.Paths.{standing-none, Along, turnsAlong, along-start, along-done, along-up, along-found, along-none, along-on, along-down}
 use Rattle.tables.proofs.search.first.Statement.{statement}
 use Rattle.tables.proofs.search.first.Tie as tie
 
 abbrev Inv-loop : tie.InvT-loop
-Inv-loop n count q k coef limits codes los his size₀ code₀ kept m i₀ size code i =
-    (size ≡ 0) × (kept .from ≤ i)
-    × ((x : Unlent) → Ready (plantLent x n count q coef) limits → let try = exactly (rulesOf (plantLent x n count q coef)) (m + 1 - kept .size) in
-    firstBehind try (held n (kept .size) codes los his i (kept .to)) ≡ firstBehind try (held n (kept .size) codes los his (kept .from) (kept .to)))
+Inv-loop n count q k coef limits us₀ boxes₀ size₀ m l₀ u₀ us boxes size l u =
+    (size ≡ 0) × (levelIn n boxes 0 ≡ levelIn n boxes₀ 0) × Along n count q coef limits m (soughtLent n count q coef limits m (levelIn n boxes₀ 0)) boxes us l u
 
 abbrev μ-loop : tie.MeasureT-loop
-μ-loop n count q k coef limits codes los his size₀ code₀ kept m i₀ size code i = kept .to - i
+μ-loop n count q k coef limits us₀ boxes₀ size₀ m l₀ u₀ us boxes size l u = turnsAlong n count q coef limits m boxes us l u
 
 abbrev Inv-search : tie.InvT-search
-Inv-search n count q k coef limits codes₀ los₀ his₀ size₀ code₀ kept₀ m₀ codes los his size code kept m =
-    (m ≤ k) × (size ≡ 0) × (kept .size ≤ m) × Holds n kept codes los his
-    × ((b : List Side) → Says n count q coef limits b kept₀ codes₀ los₀ his₀ → Says n count q coef limits b kept codes los his)
-    × ((b : List Side) → Says n count q coef limits b kept₀ codes₀ los₀ his₀ → (x : Unlent) → Ready (plantLent x n count q coef) limits
-    → shortest (rulesOf (plantLent x n count q coef)) (k - m) (suc m) b ≡ shortest (rulesOf (plantLent x n count q coef)) k 1 b)
+Inv-search n count q k coef limits us₀ boxes₀ size₀ m₀ us boxes size m =
+    (m ≤ k) × (size ≡ 0) × Standing n count q coef limits boxes us × (levelIn n boxes 0 ≡ levelIn n boxes₀ 0)
+    × (soughtFrom (staysLent n coef limits) (landsLent n coef limits) (imageLent n q coef limits) count (k - m) m (levelIn n boxes₀ 0) ≡ shortestLent n count q coef limits k (levelIn n boxes₀ 0))
 
 abbrev μ-search : tie.MeasureT-search
-μ-search n count q k coef limits codes₀ los₀ his₀ size₀ code₀ kept₀ m₀ codes los his size code kept m = k - m
+μ-search n count q k coef limits us₀ boxes₀ size₀ m₀ us boxes size m = k - m
 
-abbrev Start : Type 0
-Start = tie.Start Inv-loop μ-loop Inv-search μ-search
+-- a length is tried: the call, and the box as it stands in front
+module _ (o : tie.At-search Inv-loop μ-loop Inv-search μ-search) where
+  abbrev call : tie.Start Inv-loop μ-loop Inv-search μ-search
+  call = o .before .before .before .before
 
-abbrev Length : Type 0
-Length = tie.At-search Inv-loop μ-loop Inv-search μ-search
+  box-is : levelIn (call .args .n) (o .search .boxes) 0 ≡ boxOf (call .args .n) (call .args .b)
+  box-is = o .search .inv .3 ∙ o .before .before .begin .ensures .0
 
-abbrev Widened : Type 0
-Widened = tie.Joined1 Inv-loop μ-loop Inv-search μ-search
+  small : Small edgeLimit (levelIn (call .args .n) (o .search .boxes) 0)
+  small = rw box-is (call .pre .2)
 
-abbrev Place : Type 0
-Place = tie.Then2 Inv-loop μ-loop Inv-search μ-search
+-- a turn of the inner loop
+module _ (c : tie.At-loop Inv-loop μ-loop Inv-search μ-search) where
+  abbrev outer : tie.At-search Inv-loop μ-loop Inv-search μ-search
+  outer = c .before .before
 
-abbrev Tried : Type 0
-Tried = tie.After-behind Inv-loop μ-loop Inv-search μ-search
+  abbrev from : tie.Start Inv-loop μ-loop Inv-search μ-search
+  from = call outer
 
--- a plant that has what is lent
-module _ (s : Start) where
-  abbrev plant : Unlent → Plant
-  plant x = let a = s .args in plantLent x (a .n) (a .count) (a .q) (now (a .coef))
+  few : outer .search .m < 6
+  few = let h = c .before .search-test .taken in let k = from .pre .1 in omega arith
 
-  abbrev Fits : Unlent → Type 0
-  Fits x = Ready (plant x) (now (s .args .limits))
+  low : c .loop .l ≤ outer .search .m
+  low = c .loop .inv .2 .deep
 
--- what the beginnings speak of, at the start and where a length is tried
-module _ (o : Length) where
-  abbrev call : Start
-  call = o .before .before .before .before .before
+  abbrev whole : Option (List ℕ)
+  whole = let a = from .args in soughtLent (a .n) (a .count) (a .q) (now (a .coef)) (now (a .limits)) (outer .search .m) (levelIn (a .n) (outer .search .boxes) 0)
 
-  abbrev Spoke : List Side → Type 0
-  Spoke b = let a = call .args in let t = o .before .start in Says (a .n) (a .count) (a .q) (now (a .coef)) (now (a .limits)) b (t .result) (t .last .1 .0) (t .last .1 .1 .0) (t .last .1 .1 .1 .0)
+-- a level that is done, not the first
+module _ (c : tie.Else2 Inv-loop μ-loop Inv-search μ-search) where
+  abbrev turn1 : tie.At-loop Inv-loop μ-loop Inv-search μ-search
+  turn1 = c .before .before
 
-  abbrev Keeps : Level → List ℕ → List (List ℤ) → List (List ℤ) → Type 0
-  Keeps v codes los his =
-      let a = call .args in (v .size ≤ o .search .m) × Holds (a .n) v codes los his
-      × ((b : List Side) → Spoke b → Says (a .n) (a .count) (a .q) (now (a .coef)) (now (a .limits)) b v codes los his)
+  up : let a = from turn1 .args in let l = turn1 .loop in let m = outer turn1 .search .m in
+      Along (a .n) (a .count) (a .q) (now (a .coef)) (now (a .limits)) m (whole turn1) (l .boxes) (l .us) (l .l - 1) (modeAt (l .us) (l .l - 1) + 1)
+      × (turnsAlong (a .n) (a .count) (a .q) (now (a .coef)) (now (a .limits)) m (l .boxes) (l .us) (l .l - 1) (modeAt (l .us) (l .l - 1) + 1) < turnsAlong (a .n) (a .count) (a .q) (now (a .coef)) (now (a .limits)) m (l .boxes) (l .us) (l .l) (l .u))
+  up =
+      let a = from turn1 .args in
+      let l = turn1 .loop in
+      let e = c .before .if1 .taken in
+      along-up (a .n) (a .count) (a .q) (now (a .coef)) (now (a .limits)) (outer turn1 .search .m) (l .boxes) (l .us) (whole turn1) (l .l) (l .u) (c .if2 .left) (omega arith) (l .inv .2)
 
--- the beginnings of the length are kept, or of one before it
-keeps : (c : Widened) → Keeps (c .before .before .before) (c .if1 .kept) (c .if1 .codes) (c .if1 .los) (c .if1 .his)
-keeps c =
-    let l = c .before .before .before .search in
-    ⊎-elim
-    (λ w. let e = w .4 .ensures in let z = w .0 .taken in rw (w .5, w .6, w .7, w .8) (omega (arith, e .0 .1), e .0 .0, λ b h. e .1 b (l .inv .4 b h)))
-    (λ w. rw (w .1, w .2, w .3, w .4) (l .inv .2, l .inv .3, l .inv .4))
-    (c .if1 .came)
+-- the last level
+module _ (c : tie.After-last Inv-loop μ-loop Inv-search μ-search) where
+  abbrev turn2 : tie.At-loop Inv-loop μ-loop Inv-search μ-search
+  turn2 = c .before .before .before .before
 
--- a place that is tried: its beginning
-module _ (c : Place) where
-  abbrev over : Widened
-  over = c .before .before .before
+  abbrev found : ℕ
+  found = c .last .result
 
-  abbrev length : Length
-  length = over .before .before .before
+  not-done : turn2 .loop .u < from turn2 .args .count
+  not-done = let h = turn2 .loop .inv .2 .top in let z = c .before .before .before .if1 .left in omega arith
 
-  abbrev place : ℕ
-  place = c .before .before .loop .i
+-- a mode in front of the last
+module _ (c : tie.After-descend Inv-loop μ-loop Inv-search μ-search) where
+  abbrev turn3 : tie.At-loop Inv-loop μ-loop Inv-search μ-search
+  turn3 = c .before .before .before .before .before
 
-  low : over .if1 .kept .from ≤ place
-  low = c .before .before .loop .inv .1
+  abbrev us-after : List ℕ
+  us-after = c .descend .last .1 .1 .1 .1 .1 .1 .1 .0
 
-  high : place < over .if1 .kept .to
-  high = c .if2 .taken
+  abbrev boxes-after : List ℤ
+  boxes-after = c .descend .last .1 .1 .1 .1 .1 .1 .1 .1 .0
 
-  inside : place < 32
-  inside = let h = high in omega (arith, keeps over .1 .inside)
+  below-last : turn3 .loop .u < from turn3 .args .count
+  below-last = let h = turn3 .loop .inv .2 .top in let z = c .before .before .before .before .if1 .left in omega arith
 
-  fit : (getD (over .if1 .codes) place 0 < over .if1 .kept .weight) × Small edgeLimit (imageAt (call length .args .n) (over .if1 .los) (over .if1 .his) place)
-  fit = keeps over .1 .fit place low high
-
-  few : length .search .m < call length .args .k
-  few = over .before .before .search-test .taken
-
-  -- as many modes are to come
-  abbrev rest : ℕ
-  rest = length .search .m + 1 - over .if1 .kept .size
-
-  sum : over .if1 .kept .size + rest ≡ suc (length .search .m)
-  sum = let h = keeps over .0 in omega arith
-
-start-requires : tie.Need-start-requires Inv-loop μ-loop Inv-search μ-search
-start-requires c κs = c .before .before .before .pre .1
+begin-requires : tie.Need-begin-requires Inv-loop μ-loop Inv-search μ-search
+begin-requires c κs = (c .before .pre .0 .rooms, refl, c .before .pre .2)
 
 search-holds : tie.Need-search-holds Inv-loop μ-loop Inv-search μ-search
 search-holds c =
-    let s = c .before .before .before .before in
-    let a = s .args in
-    let e = c .start .ensures in
-    (omega arith, refl, omega (arith, e .1 .1), e .0 (a .n) (s .pre .0 .2), (λ b h. h), λ b h x g. lengths-all (rulesOf (plant s x)) (a .k) b)
-
-add-if1 : tie.Need-add-if1 Inv-loop μ-loop Inv-search μ-search
-add-if1 c = let o = c .before .before in let l = o .search in let h = c .before .search-test .taken in let k = call o .pre .0 .1 in omega (arith, l .inv .2)
-
-widen-requires : tie.Need-widen-requires Inv-loop μ-loop Inv-search μ-search
-widen-requires c κs =
-    let t = c .before .before .before in
-    let o = t .before .before .before in
-    let z = t .if1 .taken in
-    let h = t .before .before .search-test .taken in
-    let k = call o .pre .0 .1 in
-    (call o .pre .0 .0, (o .search .inv .3, omega arith))
-
-loop-holds : tie.Need-loop-holds Inv-loop μ-loop Inv-search μ-search
-loop-holds c = (c .before .before .before .search .inv .1, omega arith, λ x g. refl)
-
-mul-lo : tie.Need-mul-lo Inv-loop μ-loop Inv-search μ-search
-mul-lo c = omega (arith, inside c)
-
-element-copy-out-lo : tie.Need-element-copy-out-lo Inv-loop μ-loop Inv-search μ-search
-element-copy-out-lo c = inside c
-
-mul-hi : tie.Need-mul-hi Inv-loop μ-loop Inv-search μ-search
-mul-hi c = omega (arith, inside (c .before))
-
-element-copy-out-hi : tie.Need-element-copy-out-hi Inv-loop μ-loop Inv-search μ-search
-element-copy-out-hi c = inside (c .before)
-
-add-behind : tie.Need-add-behind Inv-loop μ-loop Inv-search μ-search
-add-behind c = let p = c .before .before in let k = call (length p) .pre .0 .1 in omega (arith, few p)
-
-sub-behind : tie.Need-sub-behind Inv-loop μ-loop Inv-search μ-search
-sub-behind c = omega (arith, keeps (over (c .before .before .before)) .0)
-
-behind-requires : tie.Need-behind-requires Inv-loop μ-loop Inv-search μ-search
-behind-requires c κs =
-    let p = c .before .before .before .before .before in
-    let s = call (length p) in
-    let k = s .pre .0 .1 in
-    let h = few p in
-    let z = keeps (over p) .0 in
-    ((s .pre .0 .0, fit p .1), (omega arith, omega arith))
-
--- what was found behind a place
-module _ (c : Tried) where
-  abbrev here : Place
-  here = c .before .before .before .before .before .before
-
-  abbrev found : ℕ
-  found = c .behind .result
-
-  room : (found ≡ 0 → ⊥) → getD (over here .if1 .codes) (place here) 0 + over here .if1 .kept .weight * (found - 1) < 16 ^ 6
-  room z =
-      let k = call (length here) .pre .0 .1 in
-      let h = few here in
-      let e = sum here in
-      digits-room (over here .if1 .kept .size) (rest here) (over here .if1 .kept .weight) (getD (over here .if1 .codes) (place here) 0) found (omega arith) (keeps (over here) .1 .weight) (fit here .0) z (c .behind .ensures .1)
-
-mul-code : tie.Need-mul-code Inv-loop μ-loop Inv-search μ-search
-mul-code c = omega (arith, inside (here (c .before)))
-
-element-copy-out-code : tie.Need-element-copy-out-code Inv-loop μ-loop Inv-search μ-search
-element-copy-out-code c = inside (here (c .before))
-
-sub-code : tie.Need-sub-code Inv-loop μ-loop Inv-search μ-search
-sub-code c = let z = c .before .if3 .taken in omega arith
-
-mul-code-2 : tie.Need-mul-code-2 Inv-loop μ-loop Inv-search μ-search
-mul-code-2 c = omega (arith, room (c .before .before .before) (c .before .before .if3 .taken))
-
-add-code : tie.Need-add-code Inv-loop μ-loop Inv-search μ-search
-add-code c = omega (arith, room (c .before .before .before) (c .before .before .if3 .taken))
-
-add-size : tie.Need-add-size Inv-loop μ-loop Inv-search μ-search
-add-size c = let p = here (c .before .before .before) in let k = call (length p) .pre .0 .1 in omega (arith, few p)
-
-add-i : tie.Need-add-i Inv-loop μ-loop Inv-search μ-search
-add-i c = omega (arith, inside (here (c .before)))
-
-loop-less : tie.Need-loop-less Inv-loop μ-loop Inv-search μ-search
-loop-less c = let h = high (here (c .before)) in omega arith
-
-loop-again : tie.Need-loop-again Inv-loop μ-loop Inv-search μ-search
-loop-again c =
     let d = c .before in
-    let p = here d in
-    let v = over p .if1 in
-    let l = p .before .before .loop in
-    let s = call (length p) in (
-      l .inv .0,
-      omega (arith, low p),
-      λ x g.
-          let try = exactly (rulesOf (plant s x)) (rest p) in
-          let none-there = sym (d .behind .ensures .0 x g) ∙ none-sought (rest p) (found d) (c .if3 .left) in
-          behind-miss try (s .args .n) (v .kept .size) (v .codes) (v .los) (v .his) (place p) (v .kept .to) (high p) none-there ∙ l .inv .2 x g,
+    let a = d .before .before .args in (
+      omega arith,
+      refl,
+      standing-none (a .n) (a .count) (a .q) (now (a .coef)) (now (a .limits)) _ (d .begin .ensures .1),
+      refl,
+      lengths-all (staysLent (a .n) (now (a .coef)) (now (a .limits))) (landsLent (a .n) (now (a .coef)) (now (a .limits))) (imageLent (a .n) (a .q) (now (a .coef)) (now (a .limits))) (a .count) (a .k) _,
     )
 
+loop-holds : tie.Need-loop-holds Inv-loop μ-loop Inv-search μ-search
+loop-holds c =
+    let o = c .before in
+    let a = call o .args in
+    (o .search .inv .1, refl, along-start (a .n) (a .count) (a .q) (now (a .coef)) (now (a .limits)) (o .search .m) (o .search .boxes) (o .search .us) (o .search .inv .2) (small o))
+
+sub-l : tie.Need-sub-l Inv-loop μ-loop Inv-search μ-search
+sub-l c = let z = c .if2 .left in omega arith
+
+mul-v : tie.Need-mul-v Inv-loop μ-loop Inv-search μ-search
+mul-v c = let h = few (turn1 c) in let k = low (turn1 c) in omega arith
+
+element-copy-out-v : tie.Need-element-copy-out-v Inv-loop μ-loop Inv-search μ-search
+element-copy-out-v c = let h = few (turn1 c) in let k = low (turn1 c) in omega arith
+
+add-u : tie.Need-add-u Inv-loop μ-loop Inv-search μ-search
+add-u c = let h = up (c .before) .0 .top in omega arith
+
+loop-less : tie.Need-loop-less Inv-loop μ-loop Inv-search μ-search
+loop-less c = up (c .before) .1
+
+loop-again : tie.Need-loop-again Inv-loop μ-loop Inv-search μ-search
+loop-again c = let l = turn1 (c .before) .loop in (l .inv .0, l .inv .1, up (c .before) .0)
+
+mul-last : tie.Need-mul-last Inv-loop μ-loop Inv-search μ-search
+mul-last c = let t = c .before .before .before in let h = few t in let k = low t in omega arith
+
+last-requires : tie.Need-last-requires Inv-loop μ-loop Inv-search μ-search
+last-requires c κs =
+    let t = c .before .before .before in
+    let g = from t .pre .0 in
+    let h = few t in
+    let k = low t in
+    ((g .some, g .rows, g .few, g .marked), (omega arith, t .loop .inv .2 .small))
+
+mul-us : tie.Need-mul-us Inv-loop μ-loop Inv-search μ-search
+mul-us c = let t = turn2 (c .before) in let h = few t in let k = low t in omega arith
+
+element-write-us : tie.Need-element-write-us Inv-loop μ-loop Inv-search μ-search
+element-write-us c = let t = turn2 (c .before) in let h = few t in let k = low t in omega arith
+
+add-size : tie.Need-add-size Inv-loop μ-loop Inv-search μ-search
+add-size c = let h = few (turn2 (c .before)) in omega arith
+
+-- none of its modes lands
+none-lands : (c : tie.Else4 Inv-loop μ-loop Inv-search μ-search) → (let d = c .before in let t = turn2 d in let a = from t .args in let l = t .loop in let m = outer t .search .m in
+    Along (a .n) (a .count) (a .q) (now (a .coef)) (now (a .limits)) m (whole t) (l .boxes) (l .us) (l .l) (found d)
+    × (turnsAlong (a .n) (a .count) (a .q) (now (a .coef)) (now (a .limits)) m (l .boxes) (l .us) (l .l) (found d) < turnsAlong (a .n) (a .count) (a .q) (now (a .coef)) (now (a .limits)) m (l .boxes) (l .us) (l .l) (l .u)))
+none-lands c =
+    let d = c .before in
+    let t = turn2 d in
+    let a = from t .args in
+    let l = t .loop in
+    along-none (a .n) (a .count) (a .q) (now (a .coef)) (now (a .limits)) (outer t .search .m) (l .boxes) (l .us) (whole t) (l .l) (l .u) (found d) (d .before .before .if3 .taken) (l .inv .2) (not-done d) (d .last .ensures .0) (c .if4 .left) (d .last .ensures .1)
+
+loop-less-2 : tie.Need-loop-less-2 Inv-loop μ-loop Inv-search μ-search
+loop-less-2 c = none-lands c .1
+
+loop-again-2 : tie.Need-loop-again-2 Inv-loop μ-loop Inv-search μ-search
+loop-again-2 c = let l = turn2 (c .before) .loop in (l .inv .0, l .inv .1, none-lands c .0)
+
+descend-requires : tie.Need-descend-requires Inv-loop μ-loop Inv-search μ-search
+descend-requires c κs =
+    let t = c .before .before .before .before in
+    let a = t .loop .inv .2 in
+    let z = c .before .before .if3 .left in
+    let y = c .before .before .before .if1 .left in
+    let h = few t in
+    let k = low t in
+    let u = a .top in
+    ((from t .pre .0, omega arith, omega arith), (a .standing, a .small))
+
+-- the image of a level stays, or it does not
+module _ (c : tie.After-descend Inv-loop μ-loop Inv-search μ-search) where
+  abbrev Goes : ℕ → ℕ → Type 0
+  Goes l u =
+      let t = turn3 c in let a = from t .args in let m = outer t .search .m in
+      Along (a .n) (a .count) (a .q) (now (a .coef)) (now (a .limits)) m (whole t) (boxes-after c) (us-after c) l u
+      × (turnsAlong (a .n) (a .count) (a .q) (now (a .coef)) (now (a .limits)) m (boxes-after c) (us-after c) l u < turnsAlong (a .n) (a .count) (a .q) (now (a .coef)) (now (a .limits)) m (t .loop .boxes) (t .loop .us) (t .loop .l) (t .loop .u))
+
+  down : c .descend .result ≡ true → Goes (turn3 c .loop .l + 1) 0
+  down e =
+      let t = turn3 c in
+      let a = from t .args in
+      let l = t .loop in
+      let d = c .descend .ensures in
+      let new = d .1 .1 .1 e in
+      along-down (a .n) (a .count) (a .q) (now (a .coef)) (now (a .limits)) (outer t .search .m) (whole t) (l .boxes) (l .us) (l .l) (l .u) (l .inv .2) (below-last c) (c .before .before .before .if3 .left) (boxes-after c) (us-after c) (d .1 .1 .0) (d .1 .0)
+      (sym e ∙ d .0) (new .0) (new .1) (from t .pre .0)
+
+  on : c .descend .result ≡ false → Goes (turn3 c .loop .l) (turn3 c .loop .u + 1)
+  on e =
+      let t = turn3 c in
+      let a = from t .args in
+      let l = t .loop in
+      let d = c .descend .ensures in
+      along-on (a .n) (a .count) (a .q) (now (a .coef)) (now (a .limits)) (outer t .search .m) (whole t) (l .boxes) (l .us) (l .l) (l .u) (l .inv .2) (below-last c) (c .before .before .before .if3 .left) (boxes-after c) (us-after c) (d .1 .1 .0) (d .1 .0)
+      (sym e ∙ d .0)
+
+  front-same : levelIn (from (turn3 c) .args .n) (boxes-after c) 0 ≡ levelIn (from (turn3 c) .args .n) (outer (turn3 c) .search .boxes) 0
+  front-same = c .descend .ensures .1 .1 .0 .boxes-same 0 (omega arith) ∙ turn3 c .loop .inv .1
+
+add-l : tie.Need-add-l Inv-loop μ-loop Inv-search μ-search
+add-l c = let t = turn3 (c .before) in let h = few t in let k = low t in omega arith
+
+loop-less-3 : tie.Need-loop-less-3 Inv-loop μ-loop Inv-search μ-search
+loop-less-3 c = down (c .before) (c .if5 .taken) .1
+
+loop-again-3 : tie.Need-loop-again-3 Inv-loop μ-loop Inv-search μ-search
+loop-again-3 c = (turn3 (c .before) .loop .inv .0, front-same (c .before), down (c .before) (c .if5 .taken) .0)
+
+add-u-2 : tie.Need-add-u-2 Inv-loop μ-loop Inv-search μ-search
+add-u-2 c = let h = below-last (c .before) in omega arith
+
+loop-less-4 : tie.Need-loop-less-4 Inv-loop μ-loop Inv-search μ-search
+loop-less-4 c = on (c .before) (c .if5 .left) .1
+
+loop-again-4 : tie.Need-loop-again-4 Inv-loop μ-loop Inv-search μ-search
+loop-again-4 c = (turn3 (c .before) .loop .inv .0, front-same (c .before), on (c .before) (c .if5 .left) .0)
+
 add-m : tie.Need-add-m Inv-loop μ-loop Inv-search μ-search
-add-m c = let o = c .before .before .before .before .before .before in let h = c .before .before .before .before .before .search-test .taken in let k = call o .pre .0 .1 in omega arith
+add-m c = let h = few (c .before .before) in omega arith
 
 search-less : tie.Need-search-less Inv-loop μ-loop Inv-search μ-search
-search-less c = let h = c .before .before .before .before .before .search-test .taken in omega arith
-
--- the beginnings that are kept say what a box says of the length
-says-length : (c : Widened) (b : List Side) → (let o = c .before .before .before in let s = call o in let v = c .if1 in let m = o .search .m in Spoke o b → (x : Unlent) → Fits s x
-    → firstBehind (exactly (rulesOf (plant s x)) (m + 1 - v .kept .size)) (held (s .args .n) (v .kept .size) (v .codes) (v .los) (v .his) (v .kept .from) (v .kept .to)) ≡ exactly (rulesOf (plant s x)) (suc m) b)
-says-length c b h x g =
-    let o = c .before .before .before in
-    let e = keeps c in
-    let z = e .0 in
-    e .2 b h x g (o .search .m + 1 - c .if1 .kept .size) ∙ ap (λ (i : ℕ). exactly (rulesOf (plant (call o) x)) i b) (omega arith)
+search-less c = let h = c .before .before .before .search-test .taken in omega arith
 
 search-again : tie.Need-search-again Inv-loop μ-loop Inv-search μ-search
 search-again c =
-    let d = c .before .before in
-    let w = d .before in
-    let o = w .before .before .before in
-    let s = call o in
-    let v = w .if1 in
+    let t = c .before .before in
+    let o = outer t in
+    let a = from t .args in
+    let l = t .loop in
     let m = o .search .m in
-    let h = w .before .before .search-test .taken in
-    let e = keeps w in (
+    let h = t .before .search-test .taken in
+    let e = c .before .if1 .taken in
+    let none-there = along-done (a .n) (a .count) (a .q) (now (a .coef)) (now (a .limits)) m (l .boxes) (l .us) (whole t) (l .l) (l .u) (c .if2 .taken) (omega arith) (l .inv .2) in (
       omega arith,
-      d .loop .inv .0,
-      omega (arith, e .0),
-      e .1,
-      e .2,
-      λ b spoke x g.
-          let r = rulesOf (plant s x) in
-          let none-there = behind-done (exactly r (m + 1 - v .kept .size)) (s .args .n) (v .kept .size) (v .codes) (v .los) (v .his) (d .loop .i) (v .kept .to) (c .if2 .left) in
-          lengths-next r (s .args .k) b m (shortest r (s .args .k) 1 b) (o .search .inv .5 b spoke x g) h (sym none-there ∙ d .loop .inv .2 x g ∙ says-length w b spoke x g),
+      l .inv .0,
+      l .inv .2 .standing,
+      l .inv .1 ∙ o .search .inv .3,
+      lengths-next (staysLent (a .n) (now (a .coef)) (now (a .limits))) (landsLent (a .n) (now (a .coef)) (now (a .limits))) (imageLent (a .n) (a .q) (now (a .coef)) (now (a .limits))) (a .count) (a .k) _ m _ (o .search .inv .4) h (rw (o .search .inv .3) at none-there),
     )
-
--- they spoke of the box
-spoke-box : (o : Length) → Spoke o (boxOf (call o .args .n) (call o .args .b))
-spoke-box o = let a = call o .args in o .before .start .ensures .1 .0 (a .n) (a .count) (a .q) (now (a .coef)) (now (a .limits))
 
 returns : tie.Need-returns Inv-loop μ-loop Inv-search μ-search
 returns c =
     let o = c .before in
-    let s = call o in
-    let b = boxOf (s .args .n) (s .args .b) in
-    let z = o .search .inv .1 in (
-      (λ x g. let r = rulesOf (plant s x) in rw z (lengths-done r (s .args .k) b (o .search .m) (shortest r (s .args .k) 1 b) (o .search .inv .5 b (spoke-box o) x g) (c .search-test .left))),
-      (omega arith, o .search .inv .3 .roomy),
+    let a = call o .args in
+    let z = o .search .inv .1 in
+    let e = o .before .before .begin .ensures .0 in (
+      rw (z, ← e) (lengths-done (staysLent (a .n) (now (a .coef)) (now (a .limits))) (landsLent (a .n) (now (a .coef)) (now (a .limits))) (imageLent (a .n) (a .q) (now (a .coef)) (now (a .limits))) (a .count) (a .k) _ (o .search .m) _ (o .search .inv .4) (c .search-test .left)),
+      (omega arith, o .search .inv .2 .long),
     )
 
 returns-2 : tie.Need-returns-2 Inv-loop μ-loop Inv-search μ-search
 returns-2 c =
-    let d = c .before .before .before in
-    let p = here d in
-    let v = over p .if1 in
-    let o = length p in
-    let s = call o in
-    let b = boxOf (s .args .n) (s .args .b) in
+    let d = c .before in
+    let t = turn2 d in
+    let o = outer t in
+    let a = from t .args in
+    let l = t .loop in
     let m = o .search .m in
-    let z = c .before .before .if3 .taken in
-    let code = getD (v .codes) (place p) 0 in
-    let k = s .pre .0 .1 in (
-      (λ x g.
-          let r = rulesOf (plant s x) in
-          let try = exactly r (rest p) in
-          let us = digits (rest p) (found d - 1) in
-          let there = sym (d .behind .ensures .0 x g) ∙ some-sought (rest p) (found d) z in
-          let whole = behind-found try (s .args .n) (v .kept .size) (v .codes) (v .los) (v .his) (place p) (v .kept .to) (high p) us there in
-          let e = ap some (digits-behind (v .kept .size) (v .kept .weight) code (found d - 1) (keeps (over p) .1 .weight) (fit p .0) (rest p) (suc m) (sum p)) in
-          rw add-one (lengths-found r (s .args .k) b m (shortest r (s .args .k) 1 b) (o .search .inv .5 b (spoke-box o) x g) (few p) (digits (suc m) (code + v .kept .weight * (found d - 1)))
-          (e ∙ sym whole ∙ p .before .before .loop .inv .2 x g ∙ says-length (over p) b (spoke-box o) x g))),
-      (omega (arith, few p), keeps (over p) .1 .roomy),
+    let q = d .before .before .if3 .taken in
+    let h = few t in
+    let e = o .before .before .begin .ensures .0 in
+    let there =
+    along-found (a .n) (a .count) (a .q) (now (a .coef)) (now (a .limits)) m (l .boxes) (l .us) (whole t) (l .l) (l .u) (found d) q (l .inv .2) (not-done d) (d .last .ensures .0) (omega arith) (c .if4 .taken) in (
+      rw (add-one, ← e) (lengths-found (staysLent (a .n) (now (a .coef)) (now (a .limits))) (landsLent (a .n) (now (a .coef)) (now (a .limits))) (imageLent (a .n) (a .q) (now (a .coef)) (now (a .limits))) (a .count) (a .k) _ m _ (o .search .inv .4) (t .before .search-test .taken) _ (rw (add-one, o .search .inv .3) at (sym there))),
+      (omega arith, length-set (l .us) (l .l) (found d) ∙ l .inv .2 .standing .long),
     )
 
 pub first-spec : {M : Type 1} → statement M
@@ -310,27 +295,29 @@ first-spec =
     μ-loop
     Inv-search
     μ-search
-    start-requires
+    begin-requires
     search-holds
-    add-if1
-    widen-requires
     loop-holds
-    mul-lo
-    element-copy-out-lo
-    mul-hi
-    element-copy-out-hi
-    add-behind
-    sub-behind
-    behind-requires
-    mul-code
-    element-copy-out-code
-    sub-code
-    mul-code-2
-    add-code
-    add-size
-    add-i
+    sub-l
+    mul-v
+    element-copy-out-v
+    add-u
     loop-less
     loop-again
+    mul-last
+    last-requires
+    mul-us
+    element-write-us
+    add-size
+    loop-less-2
+    loop-again-2
+    descend-requires
+    add-l
+    loop-less-3
+    loop-again-3
+    add-u-2
+    loop-less-4
+    loop-again-4
     add-m
     search-less
     search-again

@@ -1,182 +1,108 @@
--- `steps::lands`: the first i rows hold, and their extremes are kept. Assumes nothing.
-use Prim.Native.Nat.{ℕ, _+_, _-_, _<_}
+-- `steps::lands`: where the last row leaves the limits the image does, and otherwise all rows are tried. Assumes nothing.
+use Prim.Native.Nat.{ℕ, _+_, _-_, _≤_, _<_}
 use mathlib.Core.Path.{_≡_, sym, ap, _∙_}
 use mathlib.Core.Bool.{Bool}
-use native.Mathlib.Omega.{arith}
-use lib.ListN.{length}
-use lib.IntN.{ℤ}
 use mathlib.Core.List.{List}
+use native.Mathlib.Omega.{arith}
+use borrow.Author.Needs.{needs}
 use denote.Ref.{now}
+use lib.IntN.{ℤ, _+ℤ_}
 use Rattle.laws.specs.Lists.{at}
 use Rattle.laws.specs.Expressions.{Ex, var, _⊕_, need, exact}
-use Rattle.laws.specs.Tests.{HoldUpTo, hold-none, hold-more, fails-here, all-hold}
-use Rattle.meaning.specs.Boxes.{Side, sidesOf, covers}
+use Rattle.meaning.specs.Boxes.{Side, side, covers}
 use Rattle.meaning.specs.Plants.{offsetLimit, rowStart}
-use Rattle.tables.specs.Images.{rowLimit, entriesOf, RowSound, Extremes}
-use Rattle.tables.specs.Limits.{lentSide, coveredAt, Kept}
-use Rattle.tables.proofs.steps.Laws.{sides-are, kept-none}
+use Rattle.tables.specs.Images.{rowLimit, RowSound}
+use Rattle.tables.specs.Levels.{sideIn, boxIn}
+use Rattle.tables.specs.Limits.{goalAt, sumsAt, coveredAt}
+use Rattle.tables.proofs.steps.Laws.{sides-are, one-fails}
 use Rattle.tables.proofs.steps.lands.Statement.{statement}
 use Rattle.tables.proofs.steps.lands.Tie as tie
 
-abbrev Inv-loop : tie.InvT-loop
-Inv-loop n coef limits u lo hi have elo₀ ehi₀ i₀ elo ehi i =
-    (length elo ≡ 4) × (length ehi ≡ 4) × HoldUpTo (coveredAt n coef limits 8 u (sidesOf n lo hi)) n i × Kept n coef u (sidesOf n lo hi) have elo ehi × Kept n coef u (sidesOf n lo hi) i elo ehi
-
-abbrev μ-loop : tie.MeasureT-loop
-μ-loop n coef limits u lo hi have elo₀ ehi₀ i₀ elo ehi i = n - i
-
--- where a round began
-abbrev round : tie.After-keep Inv-loop μ-loop → tie.In-loop Inv-loop μ-loop
-round k = k .before .before .before
-
--- the round of row i: its test, what is kept of it, and its sums
-module _ (k : tie.After-keep Inv-loop μ-loop) where
-  abbrev from : tie.Start Inv-loop μ-loop
-  from = round k .before .before
-
+module _ (s : tie.Start) where
   abbrev index : ℕ
-  index = round k .before .loop .i
+  index = s .args .n - 1
 
-  abbrev box : List Side
-  box = let a = from .args in sidesOf (a .n) (now (a .lo)) (now (a .hi))
+  inside-rows : index < s .args .n
+  inside-rows = let k = s .pre .0 .0 in omega arith
 
-  abbrev test : ℕ → Bool
-  test = let a = from .args in coveredAt (a .n) (now (a .coef)) (now (a .limits)) 8 (a .u) box
+  last-row : RowSound (s .args .n) (now (s .args .coef)) (rowStart (s .args .n) (s .args .u) index)
+  last-row = s .pre .0 .1 index inside-rows
 
-  abbrev start : ℕ
-  start = rowStart (from .args .n) (from .args .u) index
+  abbrev tests : ℕ → Bool
+  tests = let a = s .args in coveredAt (a .n) (now (a .coef)) (now (a .limits)) goalAt (a .u) (boxIn (a .n) (now (a .boxes)) (a .place))
 
-  row : RowSound (from .args .n) (now (from .args .coef)) start
-  row = from .pre .0 .0 index (round k .loop-test .taken)
-
-  few : index < 4
-  few = let h = round k .loop-test .taken in omega (arith, row .rooms)
-
-  abbrev low : ℤ
-  low = at (k .keep .last .1 .1 .1 .1 .1 .1 .1 .0) index
-
-  abbrev high : ℤ
-  high = at (k .keep .last .1 .1 .1 .1 .1 .1 .1 .1 .0) index
-
-  kept : Extremes (entriesOf (from .args .n) (now (from .args .coef)) start) box low high
-  kept = k .keep .ensures .0 .1 index (round k .loop-test .taken) (omega arith)
-
+-- the sums of the last row
+module _ (c : tie.After-row) where
   abbrev offset : ℤ
-  offset = at (now (from .args .coef)) (start + from .args .n)
+  offset = at (now (c .before .args .coef)) (c .row .result + c .before .args .n)
 
   abbrev least : Ex
-  least = var low rowLimit (kept .low) ⊕ var offset offsetLimit (row .offset)
+  least = var (c .before .args .e .lo) rowLimit (c .before .pre .1 .low) ⊕ var offset offsetLimit (rw (c .row .ensures) (last-row (c .before) .offset))
 
   abbrev greatest : Ex
-  greatest = var high rowLimit (kept .high) ⊕ var offset offsetLimit (row .offset)
+  greatest = var (c .before .args .e .hi) rowLimit (c .before .pre .1 .high) ⊕ var offset offsetLimit (rw (c .row .ensures) (last-row (c .before) .offset))
 
-tested : (c : tie.After-inside Inv-loop μ-loop) → (let k = c .before .before .before .before in c .inside .result ≡ test k (index k))
-tested c =
-    let k = c .before .before .before .before in
-    (rw (exact (least k) tt, exact (greatest k) tt) at (c .inside .ensures)) ∙ ap (λ (z : Side). covers (lentSide (now (from k .args .limits)) 8 (index k)) z) (sides-are (kept k) (offset k))
+sub-row : tie.Need-sub-row
+sub-row c = search needs
 
-loop-holds : tie.Need-loop-holds Inv-loop μ-loop
-loop-holds c = let a = c .args in (c .pre .1 .1, c .pre .1 .2, hold-none _ (a .n), c .pre .1 .0, kept-none (a .n) (now (a .coef)) (a .u) (sidesOf (a .n) (now (a .lo)) (now (a .hi))) (now (a .elo)) (now (a .ehi)))
+row-requires : tie.Need-row-requires
+row-requires c κs = last-row c .inside
 
-keep-requires : tie.Need-keep-requires Inv-loop μ-loop
-keep-requires c κs =
-    let t = c .before .before in
-    let s = t .before .before in
-    let l = t .before .loop in
-    ((t .loop-test .taken, s .pre .0 .0 (l .i) (t .loop-test .taken), s .pre .0 .1, l .inv .0, l .inv .1), (l .inv .3, l .inv .4))
+add-offset : tie.Need-add-offset
+add-offset c = omega (arith, c .row .ensures, last-row (c .before) .inside)
 
-mul-offset : tie.Need-mul-offset Inv-loop μ-loop
-mul-offset c = omega (arith, row c .rooms, row c .inside)
+mul-offset : tie.Need-mul-offset
+mul-offset c = omega (arith, c .row .ensures, last-row (c .before) .inside)
 
-add-offset : tie.Need-add-offset Inv-loop μ-loop
-add-offset c = omega (arith, row c .rooms, row c .inside)
+element-copy-out-offset : tie.Need-element-copy-out-offset
+element-copy-out-offset c = omega (arith, c .row .ensures, last-row (c .before) .inside)
 
-add-offset-2 : tie.Need-add-offset-2 Inv-loop μ-loop
-add-offset-2 c = omega (arith, row c .rooms, row c .inside)
+sub-inside : tie.Need-sub-inside
+sub-inside c = search needs
 
-mul-offset-2 : tie.Need-mul-offset-2 Inv-loop μ-loop
-mul-offset-2 c = omega (arith, row c .rooms, row c .inside)
-
-add-offset-3 : tie.Need-add-offset-3 Inv-loop μ-loop
-add-offset-3 c = omega (arith, row c .rooms, row c .inside)
-
-mul-offset-3 : tie.Need-mul-offset-3 Inv-loop μ-loop
-mul-offset-3 c = omega (arith, row c .rooms, row c .inside)
-
-element-copy-out-offset : tie.Need-element-copy-out-offset Inv-loop μ-loop
-element-copy-out-offset c = omega (arith, row c .rooms, row c .inside)
-
-mul-least : tie.Need-mul-least Inv-loop μ-loop
-mul-least c = let f = few (c .before) in omega arith
-
-element-copy-out-least : tie.Need-element-copy-out-least Inv-loop μ-loop
-element-copy-out-least c = few (c .before)
-
-mul-greatest : tie.Need-mul-greatest Inv-loop μ-loop
-mul-greatest c = let f = few (c .before .before) in omega arith
-
-element-copy-out-greatest : tie.Need-element-copy-out-greatest Inv-loop μ-loop
-element-copy-out-greatest c = few (c .before .before)
-
-add-inside : tie.Need-add-inside Inv-loop μ-loop
+add-inside : tie.Need-add-inside
 add-inside c = need (least (c .before .before .before)) tt
 
-add-inside-2 : tie.Need-add-inside-2 Inv-loop μ-loop
-add-inside-2 c = need (greatest (c .before .before .before)) tt
+add-inside-2 : tie.Need-add-inside-2
+add-inside-2 c = need (greatest (c .before .before .before .before .before)) tt
 
-inside-requires : tie.Need-inside-requires Inv-loop μ-loop
-inside-requires c κs = (omega arith, few (c .before .before .before))
+inside-requires : tie.Need-inside-requires
+inside-requires c κs = let s = c .before .before .before .before .before .before in (omega arith, omega (arith, inside-rows s, last-row s .rooms))
 
-add-i : tie.Need-add-i Inv-loop μ-loop
-add-i c = let h = round (c .before .before .before .before .before) .loop-test .taken in omega arith
+stays-requires : tie.Need-stays-requires
+stays-requires c κs = search needs
 
-loop-less : tie.Need-loop-less Inv-loop μ-loop
-loop-less c = let h = round (c .before .before .before .before .before) .loop-test .taken in omega arith
+returns : tie.Need-returns
+returns c = search needs
 
-loop-again : tie.Need-loop-again Inv-loop μ-loop
-loop-again c =
-    let k = c .before .before .before .before .before in
-    let e = k .keep .ensures in
-    let l = round k .before .loop in
-    (e .1 .0, e .1 .1, hold-more (l .inv .2) (round k .loop-test .taken) (sym (tested (c .before)) ∙ c .if1 .taken), e .0 .0, e .0 .1)
+-- the test of the last row
+tested : (c : tie.After-inside) → (let s = c .before .before .before .before .before .before .before in c .inside .result ≡ tests s (index s))
+tested c =
+    let t = c .before .before .before .before .before .before in
+    let s = t .before in
+    let a = s .args in
+    let sums : side (s .args .e .lo +ℤ offset t) (s .args .e .hi +ℤ offset t) ≡ sumsAt (a .n) (now (a .coef)) (a .u) (boxIn (a .n) (now (a .boxes)) (a .place)) (index s) =
+    rw (t .row .ensures) (sides-are (s .pre .1) (at (now (a .coef)) (rowStart (a .n) (a .u) (index s) + a .n))) in
+    (rw (exact (least t) tt, exact (greatest t) tt) at (c .inside .ensures)) ∙ ap (λ (z : Side). covers (sideIn (now (a .limits)) goalAt (index s)) z) sums
 
-returns : tie.Need-returns Inv-loop μ-loop
-returns c =
-    let k = c .before .before .before .before .before in
-    let e = k .keep .ensures in
-    let l = round k .before .loop in
-    let t = round k .loop-test .taken in
-    (λ h. fails-here (l .inv .2) t (sym (tested (c .before)) ∙ c .if1 .left), (λ h. absurd (omega arith), (e .0, e .1)))
-
-returns-2 : tie.Need-returns-2 Inv-loop μ-loop
+returns-2 : tie.Need-returns-2
 returns-2 c =
-    let l = c .before .loop in
-    (λ h. absurd (omega (arith, c .loop-test .left)), (λ h. all-hold (l .inv .2) (c .loop-test .left), ((l .inv .3, λ j h k. l .inv .4 j h (omega arith)), (l .inv .0, l .inv .1))))
+    let s = c .before .before .before .before .before .before .before .before in
+    one-fails (tests s) (s .args .n) (index s) (inside-rows s) (sym (tested (c .before)) ∙ c .if1 .left)
 
 pub lands-spec : {M : Type 1} → statement M
 lands-spec =
     tie.close
     (tie.spec
-    Inv-loop
-    μ-loop
-    loop-holds
-    keep-requires
-    mul-offset
+    sub-row
+    row-requires
     add-offset
-    add-offset-2
-    mul-offset-2
-    add-offset-3
-    mul-offset-3
+    mul-offset
     element-copy-out-offset
-    mul-least
-    element-copy-out-least
-    mul-greatest
-    element-copy-out-greatest
+    sub-inside
     add-inside
     add-inside-2
     inside-requires
-    add-i
-    loop-less
-    loop-again
+    stays-requires
     returns
     returns-2)
