@@ -1,5 +1,4 @@
--- The search of a box's first pattern as loops do it, over what it is lent: whether an image stays in S and whether it lands in the goal, mode by
--- mode, and the image. What is left to find is said of the levels of a beginning, each a box and the mode that is tried on it; and how many turns
+-- The search of a box's first pattern as loops do it, over what the modes do to boxes, whatever that is. What is left to find is said of the levels of a beginning, each a box and the mode that is tried on it; and how many turns
 -- are left at most. Then the same at limits and rows. Definitions alone.
 use Prim.Native.Nat.{ℕ, zero, suc, _+_, _-_, _*_, _≤_, _<_}
 use mathlib.Core.Path.{_≡_}
@@ -30,15 +29,22 @@ unfoldable pub begun : List Level → List ℕ → List ℕ
 begun [] us = us
 begun (v ∷ below) us = begun below (v .mode ∷ us)
 
-module _ (stays lands : ℕ → List Side → Bool) (image : ℕ → List Side → List Side) (N : ℕ) where
+-- what the modes do to boxes: whether the image of a box stays in S, whether it lands in the goal, and the image; and how many modes there are
+pub record Moves : Type 0 where
+  pub stays : ℕ → List Side → Bool
+  pub lands : ℕ → List Side → Bool
+  pub image : ℕ → List Side → List Side
+  pub modes : ℕ
+
+module _ (w : Moves) where
   -- behind mode u on box b, the first j modes that work
   unfoldable pub behind : ℕ → List Side → ℕ → Option (List ℕ)
-  behind zero b u = guard (lands u b) none λ _. some []
-  behind (suc j) b u = guard (stays u b) none λ _. firstMode (behind j (image u b)) N 0
+  behind zero b u = guard (w .lands u b) none λ _. some []
+  behind (suc j) b u = guard (w .stays u b) none λ _. firstMode (behind j (w .image u b)) (w .modes) 0
 
   -- a mode and j behind it
   abbrev pub sought : ℕ → List Side → Option (List ℕ)
-  sought j b = firstMode (behind j b) N 0
+  sought j b = firstMode (behind j b) (w .modes) 0
 
   -- so many lengths, from one mode and j behind it on
   unfoldable pub soughtFrom : ℕ → ℕ → List Side → Option (List ℕ)
@@ -49,11 +55,11 @@ module _ (stays lands : ℕ → List Side → Bool) (image : ℕ → List Side �
   unfoldable pub leftBelow : ℕ → List Level → Option (List ℕ)
   leftBelow j [] = none
   leftBelow j (v ∷ below) =
-      orElse (mapSome (begun below) (firstMode (behind (suc j) (v .box)) (N - suc (v .mode)) (suc (v .mode)))) λ _. leftBelow (suc j) below
+      orElse (mapSome (begun below) (firstMode (behind (suc j) (v .box)) (w .modes - suc (v .mode)) (suc (v .mode)))) λ _. leftBelow (suc j) below
 
   -- and with the level itself, box b, from mode u on
   abbrev pub rest : ℕ → List Side → ℕ → List Level → Option (List ℕ)
-  rest j b u below = orElse (mapSome (begun below) (firstMode (behind j b) (N - u) u)) λ _. leftBelow j below
+  rest j b u below = orElse (mapSome (begun below) (firstMode (behind j b) (w .modes - u) u)) λ _. leftBelow j below
 
 -- ---- how many turns of the loop are left at most: of one mode with j behind it, below a level, and with it
 
@@ -101,14 +107,12 @@ oneOf modes u = picked (ltb u modes) u
 -- ---- at limits and rows
 
 module _ (n modes q : ℕ) (coef limits : List ℤ) where
-  abbrev pub soughtLent : ℕ → List Side → Option (List ℕ)
-  soughtLent = sought (staysLent n coef limits) (landsLent n coef limits) (imageLent n q coef limits) modes
+  abbrev pub movesLent : Moves
+  movesLent = record { stays = staysLent n coef limits; lands = landsLent n coef limits; image = imageLent n q coef limits; modes = modes }
 
+  -- the shortest pattern of at most k modes
   abbrev pub shortestLent : ℕ → List Side → Option (List ℕ)
-  shortestLent k b = soughtFrom (staysLent n coef limits) (landsLent n coef limits) (imageLent n q coef limits) modes k 0 b
-
-  abbrev pub restLent : ℕ → List Side → ℕ → List Level → Option (List ℕ)
-  restLent = rest (staysLent n coef limits) (landsLent n coef limits) (imageLent n q coef limits) modes
+  shortestLent k b = soughtFrom movesLent k 0 b
 
   -- a level behind a mode below N is the image of the one before it, and lies in S
   pub record Standing (boxes : List ℤ) (us : List ℕ) : Type 0 where

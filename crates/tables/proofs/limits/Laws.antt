@@ -10,7 +10,6 @@ use lib.ListN.{length, set}
 use lib.IntN.{ℤ, pos}
 use mir.Syntax.{w64}
 use mir.Val.{ofZ, toZ}
-use Rattle.laws.specs.Lists.{at}
 use Rattle.laws.specs.Tabs.{at-stored}
 use Rattle.laws.specs.Expressions.{Ex, var, lit, _⊕_, _⊝_, _⊗_, bound, size, exact}
 use Rattle.meaning.specs.Boxes.{Side, side}

@@ -1,9 +1,9 @@
 -- The search in loops, turn by turn: what is left of the modes of a level, of the levels of a path and of the lengths says what the whole says, and
 -- the turns that are left grow fewer. Over what the search is lent, whatever it is; then over the two arrays that hold a path. Assumes nothing.
 use Prim.Native.Nat.{ℕ, zero, suc, _+_, _-_, _*_, _≤_, _<_}
-use mathlib.Core.Path.{_≡_, refl, sym, ap, _∙_}
-use mathlib.Core.Bool.{Bool, true, false}
-use mathlib.Core.List.{List, [], _∷_, _++_, append-nil, append-assoc}
+use mathlib.Core.Path.{_≡_, refl, sym, _∙_}
+use mathlib.Core.Bool.{Bool, true}
+use mathlib.Core.List.{List, [], _∷_, _++_, append-assoc}
 use mathlib.Core.Option.{Option, none, some}
 use native.Mathlib.Omega.{arith}
 use native.Mathlib.Nat.{sub-zero, zero-add}
@@ -17,7 +17,7 @@ use Rattle.laws.specs.Tabs.{tab-snoc, tab-same, getD-below}
 use Rattle.meaning.specs.Boxes.{Side}
 use Rattle.meaning.specs.Defined.{orElse, mapSome, firstMode}
 use Rattle.tables.specs.Tiles.{modeAt, patternOf}
-use Rattle.tables.specs.Search.{Level, level, begun, behind, sought, soughtFrom, leftBelow, rest, turns, turnsBelow, turnsLeft, levelsBelow, SameTo, patternBy, oneOf}
+use Rattle.tables.specs.Search.{Moves, Level, level, begun, behind, sought, soughtFrom, leftBelow, rest, turns, turnsBelow, turnsLeft, levelsBelow, SameTo, oneOf}
 
 -- ---- the modes of one level: v of N are tried
 
@@ -48,17 +48,17 @@ first-same f g e (suc m) v = rw (e v, first-same f g e m (suc v)) refl
 
 -- ---- the levels of a path: one turn each
 
-module _ (stays lands : ℕ → List Side → Bool) (image : ℕ → List Side → List Side) (N : ℕ) where
+module _ (w : Moves) where
   abbrev tried : ℕ → List Side → ℕ → Option (List ℕ)
-  tried = behind stays lands image N
+  tried = behind w
 
   abbrev left : ℕ → List Side → ℕ → List Level → Option (List ℕ)
-  left = rest stays lands image N
+  left = rest w
 
   -- nothing is tried yet
-  pub rest-all : (j : ℕ) (b : List Side) → left j b 0 [] ≡ sought stays lands image N j b
+  pub rest-all : (j : ℕ) (b : List Side) → left j b 0 [] ≡ sought w j b
   unfolding leftBelow begun
-  rest-all j b = rw sub-zero (go (firstMode (tried j b) N 0))
+  rest-all j b = rw sub-zero (go (firstMode (tried j b) (w .modes) 0))
     where
       go : (o : Option (List ℕ)) → (orElse (mapSome (begun []) o) λ _. none) ≡ o
       go (some us) = refl
@@ -66,48 +66,48 @@ module _ (stays lands : ℕ → List Side → Bool) (image : ℕ → List Side �
 
   module _ (j : ℕ) (b : List Side) (u : ℕ) where
     -- a level is done: the one below it moves on
-    module _ (h : N ≤ u) where
+    module _ (h : w .modes ≤ u) where
       pub rest-done : left j b u [] ≡ none
       unfolding leftBelow
-      rest-done = rw (modes-over (tried j b) N u h) refl
+      rest-done = rw (modes-over (tried j b) (w .modes) u h) refl
 
       pub rest-over : (v : Level) (below : List Level) → left j b u (v ∷ below) ≡ left (suc j) (v .box) (v .mode + 1) below
       unfolding leftBelow
-      rest-over v below = rw (modes-over (tried j b) N u h, add-one) refl
+      rest-over v below = rw (modes-over (tried j b) (w .modes) u h, add-one) refl
 
-    module _ (h : u < N) (below : List Level) where
+    module _ (h : u < w .modes) (below : List Level) where
       -- nothing is found behind mode u
       pub rest-pass : tried j b u ≡ none → left j b u below ≡ left j b (u + 1) below
-      rest-pass e = rw (modes-miss (tried j b) N u h e) refl
+      rest-pass e = rw (modes-miss (tried j b) (w .modes) u h e) refl
 
       -- its image stays: a level on top
-      pub rest-enter : stays u b ≡ true → left (suc j) b u below ≡ left j (image u b) 0 (level b u ∷ below)
+      pub rest-enter : w .stays u b ≡ true → left (suc j) b u below ≡ left j (w .image u b) 0 (level b u ∷ below)
       unfolding leftBelow begun behind
-      rest-enter e = rw (modes-next (tried (suc j) b) N u h, e, sub-zero, add-one) (go (firstMode (tried j (image u b)) N 0))
+      rest-enter e = rw (modes-next (tried (suc j) b) (w .modes) u h, e, sub-zero, add-one) (go (firstMode (tried j (w .image u b)) (w .modes) 0))
         where
           others : Option (List ℕ)
-          others = firstMode (tried (suc j) b) (N - suc u) (suc u)
+          others = firstMode (tried (suc j) b) (w .modes - suc u) (suc u)
 
-          go : (o : Option (List ℕ)) → (orElse (mapSome (begun below) (orElse (mapSome (λ us. u ∷ us) o) λ _. others)) λ _. leftBelow stays lands image N (suc j) below)
-              ≡ orElse (mapSome (begun (level b u ∷ below)) o) λ _. orElse (mapSome (begun below) others) λ _. leftBelow stays lands image N (suc j) below
+          go : (o : Option (List ℕ)) → (orElse (mapSome (begun below) (orElse (mapSome (λ us. u ∷ us) o) λ _. others)) λ _. leftBelow w (suc j) below)
+              ≡ orElse (mapSome (begun (level b u ∷ below)) o) λ _. orElse (mapSome (begun below) others) λ _. leftBelow w (suc j) below
           go (some us) = refl
           go none = refl
 
-  -- the last level, whose modes are tried in one go: v is the first that lands, or N
-  module _ (b : List Side) (v : ℕ) (e : oneOf N v ≡ firstMode (tried 0 b) N 0) (below : List Level) where
-    pub rest-found : v < N → left 0 b 0 below ≡ some (begun below (v ∷ []))
-    rest-found h = rw (sub-zero, ← e, lt-ltb v N h) refl
+  -- the last level, whose modes are tried in one go: v is the first that lands, or their number
+  module _ (b : List Side) (v : ℕ) (e : oneOf (w .modes) v ≡ firstMode (tried 0 b) (w .modes) 0) (below : List Level) where
+    pub rest-found : v < w .modes → left 0 b 0 below ≡ some (begun below (v ∷ []))
+    rest-found h = rw (sub-zero, ← e, lt-ltb v (w .modes) h) refl
 
-    pub rest-none : N ≤ v → left 0 b 0 below ≡ left 0 b v below
-    rest-none h = rw (modes-over (tried 0 b) N v h, sub-zero, ← e, le-ltb v N h) refl
+    pub rest-none : w .modes ≤ v → left 0 b 0 below ≡ left 0 b v below
+    rest-none h = rw (modes-over (tried 0 b) (w .modes) v h, sub-zero, ← e, le-ltb v (w .modes) h) refl
 
   -- ---- the lengths up to k: those up to m modes are tried
 
   module _ (k : ℕ) (b : List Side) where
-    pub lengths-all : soughtFrom stays lands image N (k - 0) 0 b ≡ soughtFrom stays lands image N k 0 b
+    pub lengths-all : soughtFrom w (k - 0) 0 b ≡ soughtFrom w k 0 b
     lengths-all = rw sub-zero refl
 
-    module _ (m : ℕ) (whole : Option (List ℕ)) (q : soughtFrom stays lands image N (k - m) m b ≡ whole) where
+    module _ (m : ℕ) (whole : Option (List ℕ)) (q : soughtFrom w (k - m) m b ≡ whole) where
       pub lengths-done : k ≤ m → none ≡ whole
       unfolding soughtFrom
       lengths-done h = let z : k - m ≡ 0 = omega arith in sym (rw z refl) ∙ q
@@ -116,11 +116,11 @@ module _ (stays lands : ℕ → List Side → Bool) (image : ℕ → List Side �
         one-more : k - m ≡ suc (k - (m + 1))
         one-more = omega arith
 
-        pub lengths-found : (us : List ℕ) → sought stays lands image N m b ≡ some us → some us ≡ whole
+        pub lengths-found : (us : List ℕ) → sought w m b ≡ some us → some us ≡ whole
         unfolding soughtFrom
         lengths-found us e = sym (rw (one-more, e) refl) ∙ q
 
-        pub lengths-next : sought stays lands image N m b ≡ none → soughtFrom stays lands image N (k - (m + 1)) (m + 1) b ≡ whole
+        pub lengths-next : sought w m b ≡ none → soughtFrom w (k - (m + 1)) (m + 1) b ≡ whole
         unfolding soughtFrom
         lengths-next e = sym (rw (one-more, e, add-one) refl) ∙ q
 

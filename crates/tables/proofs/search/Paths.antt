@@ -1,9 +1,9 @@
 -- A path of levels in two arrays, turn by turn, as the search's inner loop has it: what stands, what is left to find, and that the turns grow
 -- fewer. Assumes nothing.
 use Prim.Native.Nat.{ℕ, zero, suc, _+_, _-_, _*_, _≤_, _<_}
-use mathlib.Core.Path.{_≡_, refl, sym, ap, _∙_, subst}
+use mathlib.Core.Path.{_≡_, refl, sym, ap, _∙_}
 use mathlib.Core.Bool.{true, false}
-use mathlib.Core.List.{List, [], _∷_}
+use mathlib.Core.List.{List, _∷_}
 use mathlib.Core.Logic.{_⊎_, inl, inr}
 use mathlib.Core.Option.{Option, none, some}
 use native.Mathlib.Omega.{arith}
@@ -13,14 +13,13 @@ use lib.IntN.{ℤ}
 use lib.ListN.{length, set, replicate, length-set, getD-replicate}
 use lib.Seq.{getD-set-same, getD-set-other}
 use Rattle.laws.specs.Tabs.{tab-same}
-use Rattle.meaning.specs.Boxes.{Side}
 use Rattle.meaning.specs.Defined.{firstMode}
 use Rattle.meaning.specs.Plants.{edgeLimit}
 use Rattle.tables.specs.Boxes.{Small}
 use Rattle.tables.specs.Levels.{wide, room, sideIn, levelIn, Beside}
-use Rattle.tables.specs.Limits.{staysLent, landsLent, imageLent, landing, Lent}
+use Rattle.tables.specs.Limits.{staysLent, imageLent, landing, Lent}
 use Rattle.tables.specs.Tiles.{modeAt, patternOf}
-use Rattle.tables.specs.Search.{Level, level, behind, rest, turnsLeft, levelsBelow, Open, SameTo, oneOf, soughtLent, restLent, Standing}
+use Rattle.tables.specs.Search.{level, behind, turnsLeft, levelsBelow, Open, SameTo, oneOf, sought, rest, movesLent, Standing}
 use Rattle.tables.proofs.search.Laws.{first-same, rest-all, rest-done, rest-over, rest-pass, rest-enter, rest-found, rest-none, turns-over, turns-pass, turns-enter, turns-last, pattern-behind, below-same}
 
 -- ---- level l + 1 is written: every other level stays
@@ -90,13 +89,13 @@ module _ (n N q : ℕ) (coef limits : List ℤ) where
     pub standing : Standing n N q coef limits boxes us
     pub small : Small edgeLimit (levelIn n boxes l)
     pub below : Open N (levelsBelow n boxes us l)
-    pub left : restLent n N q coef limits (m - l) (levelIn n boxes l) u (levelsBelow n boxes us l) ≡ whole
+    pub left : rest (movesLent n N q coef limits) (m - l) (levelIn n boxes l) u (levelsBelow n boxes us l) ≡ whole
 
   abbrev pub turnsAlong : ℕ → List ℤ → List ℕ → ℕ → ℕ → ℕ
   turnsAlong m boxes us l u = turnsLeft N (m - l) u (levelsBelow n boxes us l)
 
   module _ (m : ℕ) (boxes : List ℤ) (us : List ℕ) where
-    pub along-start : Standing n N q coef limits boxes us → Small edgeLimit (levelIn n boxes 0) → Along m (soughtLent n N q coef limits m (levelIn n boxes 0)) boxes us 0 0
+    pub along-start : Standing n N q coef limits boxes us → Small edgeLimit (levelIn n boxes 0) → Along m (sought (movesLent n N q coef limits) m (levelIn n boxes 0)) boxes us 0 0
     unfolding levelsBelow Open
     along-start g s = record {
       deep = omega arith;
@@ -105,14 +104,14 @@ module _ (n N q : ℕ) (coef limits : List ℤ) where
       standing = g;
       small = s;
       below = tt;
-      left = let z : m - 0 ≡ m = omega arith in rw z (rest-all (staysLent n coef limits) (landsLent n coef limits) (imageLent n q coef limits) N m (levelIn n boxes 0));
+      left = let z : m - 0 ≡ m = omega arith in rw z (rest-all (movesLent n N q coef limits) m (levelIn n boxes 0));
     }
 
     module _ (whole : Option (List ℕ)) where
       -- the first level is done
       pub along-done : (l u : ℕ) → l ≡ 0 → N ≤ u → Along m whole boxes us l u → whole ≡ none
       unfolding levelsBelow
-      along-done zero u z h a = sym (a .left) ∙ rest-done (staysLent n coef limits) (landsLent n coef limits) (imageLent n q coef limits) N (m - 0) (levelIn n boxes 0) u h
+      along-done zero u z h a = sym (a .left) ∙ rest-done (movesLent n N q coef limits) (m - 0) (levelIn n boxes 0) u h
       along-done (suc i) u z h a = absurd (omega arith)
 
       -- another one is, and the level below it goes on behind its mode
@@ -129,7 +128,7 @@ module _ (n N q : ℕ) (coef limits : List ℤ) where
           standing = a .standing;
           small = a .below .0;
           below = a .below .2;
-          left = rw under (sym (rest-over (staysLent n coef limits) (landsLent n coef limits) (imageLent n q coef limits) N (m - suc i) (levelIn n boxes (suc i)) u h (level (levelIn n boxes i) (modeAt us i)) (levelsBelow n boxes us i)) ∙ a .left);
+          left = rw under (sym (rest-over (movesLent n N q coef limits) (m - suc i) (levelIn n boxes (suc i)) u h (level (levelIn n boxes i) (modeAt us i)) (levelsBelow n boxes us i)) ∙ a .left);
         }
 
         fewer : turnsAlong m boxes us i (modeAt us i + 1) < turnsAlong m boxes us (suc i) u
@@ -143,21 +142,21 @@ module _ (n N q : ℕ) (coef limits : List ℤ) where
 
       -- the last level: v is its first mode that lands, or N
       module _ (l u v : ℕ) (z : l ≡ m) (a : Along m whole boxes us l u) (h : u < N) (e : oneOf N v ≡ firstMode (landing n coef limits (levelIn n boxes l)) N 0) where
-        landed : oneOf N v ≡ firstMode (behind (staysLent n coef limits) (landsLent n coef limits) (imageLent n q coef limits) N 0 (levelIn n boxes l)) N 0
+        landed : oneOf N v ≡ firstMode (behind (movesLent n N q coef limits) 0 (levelIn n boxes l)) N 0
         unfolding behind
         landed = e ∙ first-same _ _ (λ w. refl) N 0
 
         last : m - l ≡ 0
         last = omega arith
 
-        from-first : restLent n N q coef limits 0 (levelIn n boxes l) 0 (levelsBelow n boxes us l) ≡ whole
+        from-first : rest (movesLent n N q coef limits) 0 (levelIn n boxes l) 0 (levelsBelow n boxes us l) ≡ whole
         from-first = let y : u ≡ 0 = a .fresh z h in rw (last, y) at (a .left)
 
         pub along-found : l < 6 → v < N → some (patternOf (m + 1) (set us l v)) ≡ whole
         along-found few k =
             ap (λ (i : ℕ). some (patternOf (i + 1) (set us l v))) (sym z)
             ∙ ap some (sym (pattern-behind n boxes us l v (omega (arith, a .standing .long))))
-            ∙ sym (rest-found (staysLent n coef limits) (landsLent n coef limits) (imageLent n q coef limits) N (levelIn n boxes l) v landed (levelsBelow n boxes us l) k) ∙ from-first
+            ∙ sym (rest-found (movesLent n N q coef limits) (levelIn n boxes l) v landed (levelsBelow n boxes us l) k) ∙ from-first
 
         pub along-none : N ≤ v → v ≤ N → Along m whole boxes us l v × (turnsAlong m boxes us l v < turnsAlong m boxes us l u)
         along-none k o = (
@@ -168,7 +167,7 @@ module _ (n N q : ℕ) (coef limits : List ℤ) where
             standing = a .standing;
             small = a .small;
             below = a .below;
-            left = rw last (sym (rest-none (staysLent n coef limits) (landsLent n coef limits) (imageLent n q coef limits) N (levelIn n boxes l) v landed (levelsBelow n boxes us l) k) ∙ from-first);
+            left = rw last (sym (rest-none (movesLent n N q coef limits) (levelIn n boxes l) v landed (levelsBelow n boxes us l) k) ∙ from-first);
           },
           let y : u ≡ 0 = a .fresh z h in rw (last, y) (turns-last N v (levelsBelow n boxes us l) (omega arith) k),
         )
@@ -198,7 +197,7 @@ module _ (n N q : ℕ) (coef limits : List ℤ) where
         below = rw below-is (a .below);
         left =
             rw (here-is, below-is)
-            (sym (rest-pass (staysLent n coef limits) (landsLent n coef limits) (imageLent n q coef limits) N (m - l) (levelIn n boxes₀ l) u h (levelsBelow n boxes₀ us₀ l) (rw (more, ← e) refl)) ∙ a .left);
+            (sym (rest-pass (movesLent n N q coef limits) (m - l) (levelIn n boxes₀ l) u h (levelsBelow n boxes₀ us₀ l) (rw (more, ← e) refl)) ∙ a .left);
       }
 
       pub along-on : Along m whole boxes us l (u + 1) × (turnsAlong m boxes us l (u + 1) < turnsAlong m boxes₀ us₀ l u)
@@ -224,7 +223,7 @@ module _ (n N q : ℕ) (coef limits : List ℤ) where
         below = rw path-is (a .small, h, a .below);
         left =
             rw (top-is, path-is)
-            (sym (rest-enter (staysLent n coef limits) (landsLent n coef limits) (imageLent n q coef limits) N (m - (l + 1)) (levelIn n boxes₀ l) u h (levelsBelow n boxes₀ us₀ l) (sym e)) ∙ (rw more at (a .left)));
+            (sym (rest-enter (movesLent n N q coef limits) (m - (l + 1)) (levelIn n boxes₀ l) u h (levelsBelow n boxes₀ us₀ l) (sym e)) ∙ (rw more at (a .left)));
       }
 
       pub along-down : Lent n N q coef limits → Along m whole boxes us (l + 1) 0 × (turnsAlong m boxes us (l + 1) 0 < turnsAlong m boxes₀ us₀ l u)

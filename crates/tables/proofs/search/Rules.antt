@@ -1,6 +1,6 @@
 -- What the search is lent of a plant, and what it seeks, are the plant's own: tests of sums are the image in S and in R, what is made of them is the
 -- image, and the first pattern by them is the defined one. The only page of the search that speaks of a plant and its rules. Assumes nothing.
-use Prim.Native.Nat.{ℕ, zero, suc, _+_, _≤_, _<_}
+use Prim.Native.Nat.{ℕ, zero, suc, _<_}
 use mathlib.Core.Path.{_≡_, refl, sym, ap, _∙_}
 use mathlib.Core.Bool.{Bool, true, false}
 use mathlib.Core.List.{List, []}
@@ -14,14 +14,13 @@ use Rattle.laws.specs.Tests.{never}
 use Rattle.meaning.specs.declared.Plant.{Plant}
 use Rattle.meaning.specs.Boxes.{Side, sideAt, covers, within}
 use Rattle.meaning.specs.Images.{image}
-use Rattle.meaning.specs.Plants.{edgeLimit, bandLimit, rootOf, safeOf, stepOf}
+use Rattle.meaning.specs.Plants.{rootOf, safeOf, stepOf}
 use Rattle.meaning.specs.Tables.{rulesOf}
-use Rattle.meaning.specs.Defined.{orElse, exactly, shortest}
+use Rattle.meaning.specs.Defined.{exactly, shortest}
 use Rattle.promises.specs.Boxes.{within-trans}
-use Rattle.tables.specs.Boxes.{Small}
-use Rattle.tables.specs.Levels.{sideIn, boxIn}
-use Rattle.tables.specs.Limits.{limitSide, divided, safeAt, goalAt, bandAt, sumsAt, covered, coveredAt, dividedAt, staysLent, landsLent, imageLent, Lent, Ready}
-use Rattle.tables.specs.Search.{behind, soughtLent, soughtFrom}
+use Rattle.tables.specs.Levels.{sideIn}
+use Rattle.tables.specs.Limits.{limitSide, divided, safeAt, goalAt, bandAt, sumsAt, covered, coveredAt, dividedAt, landsLent, Lent, Ready}
+use Rattle.tables.specs.Search.{behind, sought, soughtFrom, movesLent}
 use Rattle.tables.proofs.frames.Laws.{rooms, divisor, divisor-small, band-small, step-sound}
 use Rattle.tables.proofs.boxes.Laws.{lies-tab}
 use Rattle.tables.proofs.images.Laws.{imageSideAt, image-tab, small-image}
@@ -84,7 +83,7 @@ module _ (p : Plant) (limits : List ℤ) (g : Ready p limits) where
   defined j b u = let c = image (stepOf p u) b in guard (within c (safeOf p)) none λ _. exactly (rulesOf p) j c
 
   abbrev lentBehind : ℕ → List Side → ℕ → Option (List ℕ)
-  lentBehind = behind (staysLent (p .n) (p .coef) limits) (landsLent (p .n) (p .coef) limits) (imageLent (p .n) (p .q) (p .coef) limits) (p .modes)
+  lentBehind = behind (movesLent (p .n) (p .modes) (p .q) (p .coef) limits)
 
   -- an image in R lies in S, so that the last step asks for R alone
   last-is : (b : List Side) (u : ℕ) → ending (landsLent (p .n) (p .coef) limits u b) ≡ defined 0 b u
@@ -106,12 +105,12 @@ module _ (p : Plant) (limits : List ℤ) (g : Ready p limits) where
       let c = image (stepOf p u) b in
       rw (covered-safe p limits g u b, made-image p limits g u b, first-same (lentBehind j c) (defined j c) (behind-is j c) (p .modes) 0) refl
 
-  sought-is : (j : ℕ) (b : List Side) → soughtLent (p .n) (p .modes) (p .q) (p .coef) limits j b ≡ exactly (rulesOf p) (suc j) b
+  sought-is : (j : ℕ) (b : List Side) → sought (movesLent (p .n) (p .modes) (p .q) (p .coef) limits) j b ≡ exactly (rulesOf p) (suc j) b
   unfolding exactly
   sought-is j b = first-same (lentBehind j b) (defined j b) (behind-is j b) (p .modes) 0
 
   -- the first pattern, by what is lent and by the definition
-  pub shortest-is : (more j : ℕ) (b : List Side) → soughtFrom (staysLent (p .n) (p .coef) limits) (landsLent (p .n) (p .coef) limits) (imageLent (p .n) (p .q) (p .coef) limits) (p .modes) more j b ≡ shortest (rulesOf p) more (suc j) b
+  pub shortest-is : (more j : ℕ) (b : List Side) → soughtFrom (movesLent (p .n) (p .modes) (p .q) (p .coef) limits) more j b ≡ shortest (rulesOf p) more (suc j) b
   unfolding soughtFrom shortest
   shortest-is zero j b = refl
   shortest-is (suc more) j b = rw (sought-is j b, shortest-is more (suc j) b) refl

@@ -1,12 +1,8 @@
 -- `levels::begin`: the sides that are done are filled. Assumes nothing.
 use Prim.Native.Nat.{_-_, _≤_, _<_}
-use mathlib.Core.Path.{_≡_, sym, ap, _∙_}
+use mathlib.Core.Path.{_≡_, _∙_}
 use native.Mathlib.Omega.{arith}
-use lib.ListN.{length}
-use denote.Ref.{now}
-use Rattle.laws.specs.Lists.{tab}
 use Rattle.meaning.specs.Boxes.{sideAt}
-use Rattle.tables.specs.Levels.{room}
 use Rattle.tables.proofs.boxes.Laws.{small-side}
 use Rattle.tables.proofs.limits.Laws.{edge-held}
 use Rattle.tables.proofs.levels.Laws.{FilledTo, filled-none, filled-more, filled-box}

@@ -1,15 +1,12 @@
 -- `search::descend`: a level that stands, one that is made, and none. Assumes nothing.
-use Prim.Native.Nat.{ℕ, suc, _+_, _*_, _<_}
-use mathlib.Core.Path.{_≡_, refl, sym, _∙_, subst}
-use mathlib.Core.List.{List}
+use Prim.Native.Nat.{suc, _+_, _*_}
+use mathlib.Core.Path.{_≡_, refl, sym, _∙_}
 use native.Mathlib.Omega.{arith}
 use borrow.Author.Needs.{needs}
 use denote.Ref.{now}
-use lib.IntN.{ℤ}
 use Rattle.laws.specs.Tests.{never}
-use Rattle.tables.specs.Levels.{wide, levelIn, boxIn}
+use Rattle.tables.specs.Levels.{wide, levelIn}
 use Rattle.tables.specs.Limits.{imageLent}
-use Rattle.tables.specs.Search.{Standing, SameTo}
 use Rattle.tables.specs.Tiles.{modeAt}
 use Rattle.tables.proofs.search.Paths.{entered, entered-here, entered-below, same-to, standing-new}
 use Rattle.tables.proofs.search.descend.Statement.{statement}

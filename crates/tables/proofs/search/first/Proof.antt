@@ -1,6 +1,6 @@
 -- `search::first`: what is left of the path says what the length says, and what is left of the lengths says what the search says. Assumes nothing.
-use Prim.Native.Nat.{ℕ, suc, _+_, _-_, _*_, _≤_, _<_}
-use mathlib.Core.Path.{_≡_, refl, sym, ap, _∙_}
+use Prim.Native.Nat.{ℕ, _+_, _-_, _≤_, _<_}
+use mathlib.Core.Path.{_≡_, refl, sym, _∙_}
 use mathlib.Core.Bool.{true, false}
 use mathlib.Core.List.{List}
 use mathlib.Core.Option.{Option, some}
@@ -8,14 +8,12 @@ use native.Mathlib.Omega.{arith}
 use native.Mathlib.Numerals.{add-one}
 use denote.Ref.{now}
 use lib.IntN.{ℤ}
-use lib.ListN.{length, set, length-set}
-use Rattle.meaning.specs.Boxes.{Side}
+use lib.ListN.{length-set}
 use Rattle.meaning.specs.Plants.{edgeLimit}
 use Rattle.tables.specs.Boxes.{boxOf, Small}
-use Rattle.tables.specs.Levels.{wide, levelIn}
-use Rattle.tables.specs.Limits.{staysLent, landsLent, imageLent}
-use Rattle.tables.specs.Search.{soughtFrom, soughtLent, shortestLent, Standing}
-use Rattle.tables.specs.Tiles.{modeAt, patternOf}
+use Rattle.tables.specs.Levels.{levelIn}
+use Rattle.tables.specs.Search.{Moves, movesLent, sought, soughtFrom, shortestLent, Standing}
+use Rattle.tables.specs.Tiles.{modeAt}
 use Rattle.tables.proofs.search.Laws.{lengths-all, lengths-done, lengths-found, lengths-next}
 use Rattle.tables.proofs.search.Paths.{standing-none, Along, turnsAlong, along-start, along-done, along-up, along-found, along-none, along-on, along-down}
 use Rattle.tables.proofs.search.first.Statement.{statement}
@@ -23,7 +21,7 @@ use Rattle.tables.proofs.search.first.Tie as tie
 
 abbrev Inv-loop : tie.InvT-loop
 Inv-loop n count q k coef limits us₀ boxes₀ size₀ m l₀ u₀ us boxes size l u =
-    (size ≡ 0) × (levelIn n boxes 0 ≡ levelIn n boxes₀ 0) × Along n count q coef limits m (soughtLent n count q coef limits m (levelIn n boxes₀ 0)) boxes us l u
+    (size ≡ 0) × (levelIn n boxes 0 ≡ levelIn n boxes₀ 0) × Along n count q coef limits m (sought (movesLent n count q coef limits) m (levelIn n boxes₀ 0)) boxes us l u
 
 abbrev μ-loop : tie.MeasureT-loop
 μ-loop n count q k coef limits us₀ boxes₀ size₀ m l₀ u₀ us boxes size l u = turnsAlong n count q coef limits m boxes us l u
@@ -31,10 +29,14 @@ abbrev μ-loop : tie.MeasureT-loop
 abbrev Inv-search : tie.InvT-search
 Inv-search n count q k coef limits us₀ boxes₀ size₀ m₀ us boxes size m =
     (m ≤ k) × (size ≡ 0) × Standing n count q coef limits boxes us × (levelIn n boxes 0 ≡ levelIn n boxes₀ 0)
-    × (soughtFrom (staysLent n coef limits) (landsLent n coef limits) (imageLent n q coef limits) count (k - m) m (levelIn n boxes₀ 0) ≡ shortestLent n count q coef limits k (levelIn n boxes₀ 0))
+    × (soughtFrom (movesLent n count q coef limits) (k - m) m (levelIn n boxes₀ 0) ≡ shortestLent n count q coef limits k (levelIn n boxes₀ 0))
 
 abbrev μ-search : tie.MeasureT-search
 μ-search n count q k coef limits us₀ boxes₀ size₀ m₀ us boxes size m = k - m
+
+-- what the modes do in a call
+abbrev moves : tie.Start Inv-loop μ-loop Inv-search μ-search → Moves
+moves s = let a = s .args in movesLent (a .n) (a .count) (a .q) (now (a .coef)) (now (a .limits))
 
 -- a length is tried: the call, and the box as it stands in front
 module _ (o : tie.At-search Inv-loop μ-loop Inv-search μ-search) where
@@ -62,16 +64,23 @@ module _ (c : tie.At-loop Inv-loop μ-loop Inv-search μ-search) where
   low = c .loop .inv .2 .deep
 
   abbrev whole : Option (List ℕ)
-  whole = let a = from .args in soughtLent (a .n) (a .count) (a .q) (now (a .coef)) (now (a .limits)) (outer .search .m) (levelIn (a .n) (outer .search .boxes) 0)
+  whole = sought (moves from) (outer .search .m) (levelIn (from .args .n) (outer .search .boxes) 0)
+
+  -- the path behind a turn says the same, and fewer turns are left
+  abbrev Turned : List ℤ → List ℕ → ℕ → ℕ → Type 0
+  Turned boxes us l u =
+      let a = from .args in
+      let m = outer .search .m in
+      let v = c .loop in
+      Along (a .n) (a .count) (a .q) (now (a .coef)) (now (a .limits)) m whole boxes us l u
+      × (turnsAlong (a .n) (a .count) (a .q) (now (a .coef)) (now (a .limits)) m boxes us l u < turnsAlong (a .n) (a .count) (a .q) (now (a .coef)) (now (a .limits)) m (v .boxes) (v .us) (v .l) (v .u))
 
 -- a level that is done, not the first
 module _ (c : tie.Else2 Inv-loop μ-loop Inv-search μ-search) where
   abbrev turn1 : tie.At-loop Inv-loop μ-loop Inv-search μ-search
   turn1 = c .before .before
 
-  up : let a = from turn1 .args in let l = turn1 .loop in let m = outer turn1 .search .m in
-      Along (a .n) (a .count) (a .q) (now (a .coef)) (now (a .limits)) m (whole turn1) (l .boxes) (l .us) (l .l - 1) (modeAt (l .us) (l .l - 1) + 1)
-      × (turnsAlong (a .n) (a .count) (a .q) (now (a .coef)) (now (a .limits)) m (l .boxes) (l .us) (l .l - 1) (modeAt (l .us) (l .l - 1) + 1) < turnsAlong (a .n) (a .count) (a .q) (now (a .coef)) (now (a .limits)) m (l .boxes) (l .us) (l .l) (l .u))
+  up : let l = turn1 .loop in Turned turn1 (l .boxes) (l .us) (l .l - 1) (modeAt (l .us) (l .l - 1) + 1)
   up =
       let a = from turn1 .args in
       let l = turn1 .loop in
@@ -114,7 +123,7 @@ search-holds c =
       refl,
       standing-none (a .n) (a .count) (a .q) (now (a .coef)) (now (a .limits)) _ (d .begin .ensures .1),
       refl,
-      lengths-all (staysLent (a .n) (now (a .coef)) (now (a .limits))) (landsLent (a .n) (now (a .coef)) (now (a .limits))) (imageLent (a .n) (a .q) (now (a .coef)) (now (a .limits))) (a .count) (a .k) _,
+      lengths-all (moves (d .before .before)) (a .k) _,
     )
 
 loop-holds : tie.Need-loop-holds Inv-loop μ-loop Inv-search μ-search
@@ -162,9 +171,7 @@ add-size : tie.Need-add-size Inv-loop μ-loop Inv-search μ-search
 add-size c = let h = few (turn2 (c .before)) in omega arith
 
 -- none of its modes lands
-none-lands : (c : tie.Else4 Inv-loop μ-loop Inv-search μ-search) → (let d = c .before in let t = turn2 d in let a = from t .args in let l = t .loop in let m = outer t .search .m in
-    Along (a .n) (a .count) (a .q) (now (a .coef)) (now (a .limits)) m (whole t) (l .boxes) (l .us) (l .l) (found d)
-    × (turnsAlong (a .n) (a .count) (a .q) (now (a .coef)) (now (a .limits)) m (l .boxes) (l .us) (l .l) (found d) < turnsAlong (a .n) (a .count) (a .q) (now (a .coef)) (now (a .limits)) m (l .boxes) (l .us) (l .l) (l .u)))
+none-lands : (c : tie.Else4 Inv-loop μ-loop Inv-search μ-search) → (let d = c .before in let l = turn2 d .loop in Turned (turn2 d) (l .boxes) (l .us) (l .l) (found d))
 none-lands c =
     let d = c .before in
     let t = turn2 d in
@@ -191,13 +198,7 @@ descend-requires c κs =
 
 -- the image of a level stays, or it does not
 module _ (c : tie.After-descend Inv-loop μ-loop Inv-search μ-search) where
-  abbrev Goes : ℕ → ℕ → Type 0
-  Goes l u =
-      let t = turn3 c in let a = from t .args in let m = outer t .search .m in
-      Along (a .n) (a .count) (a .q) (now (a .coef)) (now (a .limits)) m (whole t) (boxes-after c) (us-after c) l u
-      × (turnsAlong (a .n) (a .count) (a .q) (now (a .coef)) (now (a .limits)) m (boxes-after c) (us-after c) l u < turnsAlong (a .n) (a .count) (a .q) (now (a .coef)) (now (a .limits)) m (t .loop .boxes) (t .loop .us) (t .loop .l) (t .loop .u))
-
-  down : c .descend .result ≡ true → Goes (turn3 c .loop .l + 1) 0
+  down : c .descend .result ≡ true → Turned (turn3 c) (boxes-after c) (us-after c) (turn3 c .loop .l + 1) 0
   down e =
       let t = turn3 c in
       let a = from t .args in
@@ -207,7 +208,7 @@ module _ (c : tie.After-descend Inv-loop μ-loop Inv-search μ-search) where
       along-down (a .n) (a .count) (a .q) (now (a .coef)) (now (a .limits)) (outer t .search .m) (whole t) (l .boxes) (l .us) (l .l) (l .u) (l .inv .2) (below-last c) (c .before .before .before .if3 .left) (boxes-after c) (us-after c) (d .1 .1 .0) (d .1 .0)
       (sym e ∙ d .0) (new .0) (new .1) (from t .pre .0)
 
-  on : c .descend .result ≡ false → Goes (turn3 c .loop .l) (turn3 c .loop .u + 1)
+  on : c .descend .result ≡ false → Turned (turn3 c) (boxes-after c) (us-after c) (turn3 c .loop .l) (turn3 c .loop .u + 1)
   on e =
       let t = turn3 c in
       let a = from t .args in
@@ -257,7 +258,7 @@ search-again c =
       l .inv .0,
       l .inv .2 .standing,
       l .inv .1 ∙ o .search .inv .3,
-      lengths-next (staysLent (a .n) (now (a .coef)) (now (a .limits))) (landsLent (a .n) (now (a .coef)) (now (a .limits))) (imageLent (a .n) (a .q) (now (a .coef)) (now (a .limits))) (a .count) (a .k) _ m _ (o .search .inv .4) h (rw (o .search .inv .3) at none-there),
+      lengths-next (moves (from t)) (a .k) _ m _ (o .search .inv .4) h (rw (o .search .inv .3) at none-there),
     )
 
 returns : tie.Need-returns Inv-loop μ-loop Inv-search μ-search
@@ -266,7 +267,7 @@ returns c =
     let a = call o .args in
     let z = o .search .inv .1 in
     let e = o .before .before .begin .ensures .0 in (
-      rw (z, ← e) (lengths-done (staysLent (a .n) (now (a .coef)) (now (a .limits))) (landsLent (a .n) (now (a .coef)) (now (a .limits))) (imageLent (a .n) (a .q) (now (a .coef)) (now (a .limits))) (a .count) (a .k) _ (o .search .m) _ (o .search .inv .4) (c .search-test .left)),
+      rw (z, ← e) (lengths-done (moves (call o)) (a .k) _ (o .search .m) _ (o .search .inv .4) (c .search-test .left)),
       (omega arith, o .search .inv .2 .long),
     )
 
@@ -283,7 +284,7 @@ returns-2 c =
     let e = o .before .before .begin .ensures .0 in
     let there =
     along-found (a .n) (a .count) (a .q) (now (a .coef)) (now (a .limits)) m (l .boxes) (l .us) (whole t) (l .l) (l .u) (found d) q (l .inv .2) (not-done d) (d .last .ensures .0) (omega arith) (c .if4 .taken) in (
-      rw (add-one, ← e) (lengths-found (staysLent (a .n) (now (a .coef)) (now (a .limits))) (landsLent (a .n) (now (a .coef)) (now (a .limits))) (imageLent (a .n) (a .q) (now (a .coef)) (now (a .limits))) (a .count) (a .k) _ m _ (o .search .inv .4) (t .before .search-test .taken) _ (rw (add-one, o .search .inv .3) at (sym there))),
+      rw (add-one, ← e) (lengths-found (moves (from t)) (a .k) _ m _ (o .search .inv .4) (t .before .search-test .taken) _ (rw (add-one, o .search .inv .3) at (sym there))),
       (omega arith, length-set (l .us) (l .l) (found d) ∙ l .inv .2 .standing .long),
     )
 

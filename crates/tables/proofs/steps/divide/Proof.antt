@@ -2,13 +2,11 @@
 use Prim.Native.Nat.{ℕ, _+_, _-_, _≤_, _<_}
 use mathlib.Core.Path.{_≡_, refl, _∙_}
 use native.Mathlib.Omega.{arith}
-use lib.ListN.{length}
 use denote.Ref.{now}
 use mir.Facts.{toZ-ofZ}
 use Rattle.laws.specs.Integers.{ok64}
 use Rattle.laws.specs.Lists.{at}
 use Rattle.laws.specs.Expressions.{Ex, var, _⊕_, need, exact, under}
-use Rattle.meaning.specs.Boxes.{Side}
 use Rattle.meaning.specs.Plants.{bandLimit}
 use Rattle.tables.specs.Boxes.{Bounded}
 use Rattle.tables.specs.Images.{sumLimit}

@@ -8,7 +8,7 @@ use denote.Ref.{now}
 use Rattle.laws.specs.Lists.{tab}
 use Rattle.laws.specs.Expressions.{Ex, var, mach, exact, under}
 use Rattle.laws.specs.Tests.{never, HoldUpTo, hold-none, hold-more, fails-here, all-hold}
-use Rattle.meaning.specs.Boxes.{Side, sideAt, sidesOf, covers}
+use Rattle.meaning.specs.Boxes.{Side, sideAt, covers}
 use Rattle.meaning.specs.Plants.{rowStart}
 use Rattle.tables.specs.Images.{RowSound}
 use Rattle.tables.specs.Levels.{sideIn, boxIn}
