@@ -48,13 +48,13 @@ module _ (r : Rules) where
   open Rules r using (Box, Reading, children, n, K, N)
 
   -- a tile was found whose k modes stand in s from `from` up to `end`, and so it is in every list that agrees up to there
-  record Reach (look : List ℕ → Found) (s : List ℕ) (at from k : ℕ) : Type 0 where
-    modes : List ℕ
-    end : ℕ
-    are : modesAt N k s from ≡ read modes end
-    order : (at ≤ from) × (from ≤ end)
-    some : 1 ≤ k
-    same : (z : List ℕ) → take end s ≡ take end z → look z ≡ Found.Tile from k
+  pub record Reach (look : List ℕ → Found) (s : List ℕ) (at from k : ℕ) : Type 0 where
+    pub modes : List ℕ
+    pub end : ℕ
+    pub are : modesAt N k s from ≡ read modes end
+    pub order : (at ≤ from) × (from ≤ end)
+    pub some : 1 ≤ k
+    pub same : (z : List ℕ) → take end s ≡ take end z → look z ≡ Found.Tile from k
 
   -- the same, looked at from before, where the bytes between are read
   back-to : {look see : List ℕ → Found} {s : List ℕ} {at m from k : ℕ} → at ≤ m → ((z : List ℕ) (e : ℕ) → m ≤ e → take e s ≡ take e z → see z ≡ look z)
@@ -70,7 +70,6 @@ module _ (r : Rules) where
 
   -- A call, idle, that finds a tile: where its modes end, and that nothing behind them is read.
   pub record Unseen (x : Reading) (s : List ℕ) (from k : ℕ) : Type 0 where
-    pub some : 1 ≤ k
     pub modes : List ℕ
     pub end : ℕ
     pub are : modesAt N k s from ≡ read modes end
@@ -145,7 +144,7 @@ module _ (r : Rules) where
               let some : children b ≡ [] → ⊥ = λ y. never cc in
               back-to (omega arith) (λ z g l t. find-split r x (suc d) z at b next d (number-agreed 0 at next g s z q l t) refl some ∙ rw w refl) (ih (c ∷ cs) e)
 
-      find-reach : (d : ℕ) (s : List ℕ) (at : ℕ) (b : Box) (from k : ℕ) → find r d s at b x ≡ Found.Tile from k → Reach (λ z. find r d z at b x) s at from k
+      pub find-reach : (d : ℕ) (s : List ℕ) (at : ℕ) (b : Box) (from k : ℕ) → find r d s at b x ≡ Found.Tile from k → Reach (λ z. find r d z at b x) s at from k
       unfolding find
       find-reach zero s at b from k e =
           go (node-was K s at Found.Refused (λ _. Found.Refused (badTable at)) (λ k m. tileFound (modesAt N k s m) m k) (λ _. refused-tile) e)
@@ -176,7 +175,6 @@ unseen r sizes x s at from k h e =
     let w = find-reach r sizes x (r .D) s at (r .root) from k e in
     let m = modes-stand (r .N) k s from (w .modes) (w .end) (w .are) in
     record {
-      some = w .some;
       modes = w .modes;
       end = w .end;
       are = w .are;

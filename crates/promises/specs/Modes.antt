@@ -16,7 +16,6 @@ use Rattle.laws.specs.Tests.{never, guard-passed, second}
 use Rattle.meaning.specs.declared.Refusal.{Refusal}
 use Rattle.meaning.specs.declared.Plant.{Plant}
 use Rattle.meaning.specs.declared.Number.{Number}
-use Rattle.meaning.specs.declared.Walk.{Walk}
 use Rattle.meaning.specs.declared.Found.{Found}
 use Rattle.meaning.specs.declared.State.{State}
 use Rattle.meaning.specs.declared.Answer.{Answer}
@@ -34,7 +33,7 @@ use Rattle.meaning.specs.Verdicts.{header}
 use Rattle.promises.specs.Judged.{judged-sound}
 use Rattle.promises.specs.Laws.{Sizes}
 use Rattle.promises.specs.Layouts.{ModesStand, modes-stand, first-read}
-use Rattle.promises.specs.Local.{unseen}
+use Rattle.promises.specs.Local.{find-reach}
 use Rattle.promises.specs.PlantRules.{judged-sizes}
 use Rattle.promises.specs.Walking.{walk-went}
 
@@ -68,11 +67,10 @@ running-first K N s place m e =
     go (Number.Value u next) q h = record { some = omega arith; mode = u; next = next; is = q; is-below = ltb-true u N h }
 
 -- idle: the modes of the tile that was found were read
-pub found-first : (r : Rules) → Sizes r → (s : List ℕ) (at : ℕ) → header (r .n) s ≡ Walk.Next at → (x : r .Reading) (from k : ℕ)
-    → find r (r .D) s at (r .root) x ≡ Found.Tile from k → First (r .N) s from k
+pub found-first : (r : Rules) → Sizes r → (x : r .Reading) (d : ℕ) (s : List ℕ) (at : ℕ) (b : r .Box) (from k : ℕ) → find r d s at b x ≡ Found.Tile from k → First (r .N) s from k
 unfolding Y.below
-found-first r z s at head x from k q =
-    let w = unseen r z x s at from k head q in
+found-first r z x d s at b from k q =
+    let w = find-reach r z x d s at b from k q in
     go (w .modes) (w .end) (modes-stand (r .N) k s from (w .modes) (w .end) (w .are)) (w .some)
   where
     go : (us : List ℕ) (m : ℕ) → ModesStand (r .N) k s from us m → 1 ≤ k → First (r .N) s from k
@@ -91,15 +89,15 @@ module _ {u : ℕ} {then : State} where
 
   module _ (r : Rules) (z : Sizes r) (s : List ℕ) where
     -- 12 and 11 were passed
-    state-below : (at : ℕ) → header (r .n) s ≡ Walk.Next at → (x : r .Reading) (place left : ℕ) → stateCall r s at place left x ≡ Answer.Mode u then → u < r .N
-    state-below at head x place zero e =
+    state-below : (at : ℕ) (x : r .Reading) (place left : ℕ) → stateCall r s at place left x ≡ Answer.Mode u then → u < r .N
+    state-below at x place zero e =
         let a = guard-passed (eqb place 0) _ refused-mode e in
         found (find r (r .D) s at (r .root) x) refl (guard-passed (holds r (r .root) x) _ refused-mode (a .1) .1)
       where
         found : (f : Found) → find r (r .D) s at (r .root) x ≡ f → onFound s f ≡ Answer.Mode u then → u < r .N
         found (Found.Refused e) q a = absurd (refused-mode a)
-        found (Found.Tile from k) q a = first-below (r .N) s from k (found-first r z s at head x from k q) a
-    state-below at head x place (suc m) e =
+        found (Found.Tile from k) q a = first-below (r .N) s from k (found-first r z x (r .D) s at (r .root) from k q) a
+    state-below at x place (suc m) e =
         let a = guard-passed (canRun (r .K) (r .N) s place (suc m)) _ refused-mode e in
         let b = guard-passed (holds r (r .safe) x) _ refused-mode (a .1) in
         first-below (r .N) s place (suc m) (running-first (r .K) (r .N) s place m (a .0)) (b .1)
@@ -108,7 +106,7 @@ module _ {u : ℕ} {then : State} where
     unfolding C.call
     call-below st x e =
         let w = walk-went (header (r .n) s) Answer.Refused (λ at. stateCall r s at (st .place) (st .left) x) (λ _. refused-mode) e in
-        state-below (w .0) (w .1) x (st .place) (st .left) (w .2)
+        state-below (w .0) x (st .place) (st .left) (w .2)
 
   -- of every plant, table, state and reading
   pub answered-mode : (plant table : List ℕ) (st : State) (x : List ℤ) → controlled plant table st x ≡ Answer.Mode u then

@@ -229,7 +229,7 @@ module _ (plant : List ℕ) (p : Plant) (good-plant : plantJudged plant ≡ good
         -- a tile that is found has a first mode
         go : (f : Found) → find (rulesOf p) (p .d) table at (rootOf p) x ≡ f → (foundShown f ≡ refusing e []) ↔ (answerShown (onFound table f) ≡ refusing e noMode)
         go (Found.Tile from k) w =
-            let first = found-first (rulesOf p) (judged-sizes plant p good-plant) table at head-is x from k w in (
+            let first = found-first (rulesOf p) (judged-sizes plant p good-plant) x (p .d) table at (rootOf p) from k w in (
               λ q. let z = ap (λ (a : Shown). a .values) q in never cc,
               λ q. absurd (s (sym (ap (λ (a : Shown). a .number) (ap answerShown (sym (first-answered (p .modes) table from k first)) ∙ q)))),
             )
