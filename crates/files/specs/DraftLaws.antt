@@ -95,16 +95,17 @@ module _ (most : ℕ) (some : 1 ≤ most) (b : Beginning) (rest : List ℕ) wher
         told (good a) = refl
         told (bad r) = refl
 
--- ---- in an array of k bytes
+-- ---- in a buffer, and in an array of k bytes
 
 pub record InDraft (bs : List ℕ) (r : ℕ) (out : List ℕ) : Type 0 where
   pub fits : r ≤ length out
   pub front : take r out ≡ bs
 
-pub in-array : (k : ℕ) (bs : List ℕ) (r : ℕ) (out : List ℕ) → length bs ≤ k → Put (replicate k 0) 0 bs r out → InDraft bs r out
-in-array k bs r out l t =
-    let b : List ℕ = replicate k 0 in
-    let n : length b ≡ k = length-replicate {A = ℕ} k 0 in
+pub in-buffer : (b bs : List ℕ) (r : ℕ) (out : List ℕ) → length bs ≤ length b → Put b 0 bs r out → InDraft bs r out
+in-buffer b bs r out l t =
     let q : r ≡ length bs = omega (arith, t .place) in
     let e : out ≡ bs ++ drop (length bs) b = t .bytes ∙ sets-eq bs b 0 (omega arith) ∙ rw (zero-add (length bs)) refl in
     record { fits = omega (arith, put-length t); front = rw (q, e) (take-append-seam bs (drop (length bs) b)) }
+
+pub in-array : (k : ℕ) (bs : List ℕ) (r : ℕ) (out : List ℕ) → length bs ≤ k → Put (replicate k 0) 0 bs r out → InDraft bs r out
+in-array k bs r out l t = in-buffer (replicate k 0) bs r out (omega (arith, length-replicate {A = ℕ} k 0)) t

@@ -1,6 +1,6 @@
 -- A frame: what a table is made, checked and run by, its small numbers by value and its coefficients lent; its rules, and what is asked of it, which
 -- a judged plant's own frame has. Definitions alone.
-use Prim.Native.Nat.{ℕ, _≤_, _<_}
+use Prim.Native.Nat.{ℕ, _*_, _≤_, _<_}
 use mathlib.Core.Path.{_≡_}
 use mathlib.Core.Bool.{true}
 use mathlib.Core.List.{List}
@@ -9,6 +9,7 @@ use lib.Signed.{_≤ℤ_}
 use Rattle.laws.specs.Lists.{at}
 use Rattle.meaning.specs.declared.Plant.{Plant}
 use Rattle.meaning.specs.Boxes.{within}
+use Rattle.meaning.specs.Images.{Step}
 use Rattle.meaning.specs.Plants.{edgeLimit, bandLimit, rowStart}
 use Rattle.meaning.specs.Rules.{Rules}
 use Rattle.meaning.specs.Tables.{rulesFrom}
@@ -34,17 +35,22 @@ frameOf p = record {
   band = boxFrom (p .wlo) (p .whi);
 }
 
+-- what mode u does
+abbrev pub stepIn : Frame → List ℤ → ℕ → Step
+stepIn f coef u = stepFrom (f .n) (f .q) (f .band .lo) (f .band .hi) coef u
+
 abbrev pub rulesIn : Frame → List ℤ → Rules
-rulesIn f coef =
-    rulesFrom (f .n) (f .modes) (f .k) (f .d) (boxOf (f .n) (f .root)) (boxOf (f .n) (f .goal)) (boxOf (f .n) (f .safe))
-    (stepFrom (f .n) (f .q) (f .band .lo) (f .band .hi) coef)
+rulesIn f coef = rulesFrom (f .n) (f .modes) (f .k) (f .d) (boxOf (f .n) (f .root)) (boxOf (f .n) (f .goal)) (boxOf (f .n) (f .safe)) (stepIn f coef)
 
 pub record FrameSound (f : Frame) (coef : List ℤ) : Type 0 where
+  pub some : 1 ≤ f .n
   pub rooms : f .n ≤ 4
   pub longest : f .k ≤ 6
   pub least : 1 ≤ f .q
   pub most : f .q ≤ 10_000
   pub modes : f .modes ≤ 16
+  pub depth : f .d ≤ 6
+  pub tiles : f .n * f .d ≤ 12
   pub root : Small edgeLimit (boxOf (f .n) (f .root))
   pub goal : Small edgeLimit (boxOf (f .n) (f .goal))
   pub safe : Small edgeLimit (boxOf (f .n) (f .safe))
@@ -52,20 +58,3 @@ pub record FrameSound (f : Frame) (coef : List ℤ) : Type 0 where
   pub in-safe : within (boxOf (f .n) (f .goal)) (boxOf (f .n) (f .safe)) ≡ true
   pub wide : (i : ℕ) → i < f .n → (pos (f .q) -ℤ pos 1) ≤ℤ (at (f .band .hi) i -ℤ at (f .band .lo) i)
   pub rows : (u i : ℕ) → u < f .modes → i < f .n → RowSound (f .n) coef (rowStart (f .n) u i)
-
--- TODO goes with the search's recut: a plant from a frame
-abbrev pub plantFrom : Frame → List ℤ → Plant
-plantFrom f coef = record {
-  n = f .n;
-  modes = f .modes;
-  q = f .q;
-  k = f .k;
-  d = f .d;
-  rlo = f .root .lo;
-  rhi = f .root .hi;
-  slo = f .safe .lo;
-  shi = f .safe .hi;
-  wlo = f .band .lo;
-  whi = f .band .hi;
-  coef = coef;
-}

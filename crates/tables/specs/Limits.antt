@@ -10,13 +10,13 @@ use lib.IntN.{ℤ, pos, natAbs, _+ℤ_, _-ℤ_, _*ℤ_}
 use Rattle.laws.specs.Guards.{guard}
 use Rattle.laws.specs.Lists.{at, tab, all}
 use Rattle.laws.specs.Division.{floorZ, ceilZ}
-use Rattle.meaning.specs.declared.Plant.{Plant}
 use Rattle.meaning.specs.Boxes.{Side, side, sideAt, covers}
 use Rattle.meaning.specs.Images.{leastOf, greatestOf, extreme}
 use Rattle.meaning.specs.Plants.{edgeLimit, bandLimit, rowStart}
-use Rattle.promises.specs.Sound.{Sound}
+use Rattle.tables.specs.declared.frames.Frame.{Frame}
 use Rattle.tables.specs.Boxes.{Small}
 use Rattle.tables.specs.Images.{entriesOf, RowSound}
+use Rattle.tables.specs.Frames.{FrameSound}
 use Rattle.tables.specs.Levels.{sideIn, boxIn}
 
 -- ceil(v / q) ≥ lo exactly when v ≥ q·(lo − 1) + 1, floor(v / q) ≤ hi exactly when v ≤ q·(hi + 1) − 1; v is a sum with an end of the band w
@@ -116,8 +116,8 @@ pub record Lent (n modes q : ℕ) (coef limits : List ℤ) : Type 0 where
   pub marked : Marked n modes coef limits
   pub small : (u : ℕ) (b : List Side) → u < modes → Small edgeLimit b → staysLent n coef limits u b ≡ true → Small edgeLimit (imageLent n q coef limits u b)
 
--- of a plant, that it is sound, and of its limits and marks
-pub record Ready (p : Plant) (limits : List ℤ) : Type 0 where
-  pub sound : Sound p
-  pub laid : Laid (p .n) (p .q) (sideAt (p .rlo) (p .rhi)) (sideAt (p .slo) (p .shi)) (sideAt (p .wlo) (p .whi)) limits
-  pub marked : Marked (p .n) (p .modes) (p .coef) limits
+-- of a frame, that it is sound, and of its limits and marks
+pub record LimitsLaid (f : Frame) (coef limits : List ℤ) : Type 0 where
+  pub sound : FrameSound f coef
+  pub laid : Laid (f .n) (f .q) (sideAt (f .goal .lo) (f .goal .hi)) (sideAt (f .safe .lo) (f .safe .hi)) (sideAt (f .band .lo) (f .band .hi)) limits
+  pub marked : Marked (f .n) (f .modes) coef limits

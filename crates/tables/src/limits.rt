@@ -1,4 +1,4 @@
-// Limits: where the sums of a row have to lie for an image to lie in S or in R, with which the search tells both without dividing; and marks of
+// Limits: where the sums of a row have to lie for an image to lie in S or in the goal, with which the search tells both without dividing; and marks of
 // modes whose last row is that of the mode before, as in every plant made of a sheet, with which it makes what it needs of that row once for all of
 // them.
 // Relies on frames, on levels for the array, and on images for a pair of numbers. Leaves out the sums themselves (levels) and who tests them (steps).
@@ -9,17 +9,18 @@ use crate::levels;
 use crate::levels::ROOM;
 ghost use mathlib.Core.Path.{_≡_};
 ghost use mathlib.Core.Bool.{true};
-ghost use Prim.Native.Nat.{ℕ, _-_, _≤_, _<_};
+ghost use Prim.Native.Nat.{_-_, _≤_, _<_};
 ghost use lib.ListN.{length};
 ghost use lib.IntN.{pos};
 ghost use Rattle.meaning.specs.Boxes.{side, sideAt};
 ghost use Rattle.meaning.specs.Plants.{edgeLimit, bandLimit};
 ghost use Rattle.tables.specs.Boxes.{boxOf, Bounded, Small};
+ghost use Rattle.tables.specs.Frames.{FrameSound};
 ghost use Rattle.tables.specs.Images.{entriesOf, RowSound};
 ghost use Rattle.tables.specs.Levels.{room};
-ghost use Rattle.tables.specs.Limits.{limitSide, Laid, lastEntries, Marked, RowsSound};
+ghost use Rattle.tables.specs.Limits.{limitSide, Laid, lastEntries, RowsSound, LimitsLaid};
 
-// Where the limits of S stand in the array, those of R, the band, and the marks.
+// Where the limits of S stand in the array, those of the goal, the band, and the marks.
 pub const SAFE: usize = 0;
 
 pub const GOAL: usize = 8;
@@ -39,7 +40,7 @@ fn around(q: usize, wl: i64, wh: i64, l: i64, h: i64) -> Span
     Span { lo: from, hi: to }
 }
 
-// What the search is lent: the limits of S, those of R, and the band; then the marks of the modes.
+// What the search is lent: the limits of S, those of the goal, and the band; then the marks of the modes.
 pub struct Limits {
     pub of: [i64; ROOM],
 }
@@ -47,13 +48,13 @@ pub struct Limits {
 // The three boxes.
 fn lay_boxes(f: Frame) -> Limits
     requires sizes { ⌜ (f .n ≤ 4) × (f .q ≤ 10_000) ⌝ }
-    requires boxes { ⌜ Small bandLimit (boxOf (f .n) (f .band)) × Small edgeLimit (boxOf (f .n) (f .root)) × Small edgeLimit (boxOf (f .n) (f .safe)) ⌝ }
-    ensures laid { λ r. ⌜ Laid (f .n) (f .q) (sideAt (f .root .lo) (f .root .hi)) (sideAt (f .safe .lo) (f .safe .hi)) (sideAt (f .band .lo) (f .band .hi)) (r .of) ⌝ }
+    requires boxes { ⌜ Small bandLimit (boxOf (f .n) (f .band)) × Small edgeLimit (boxOf (f .n) (f .goal)) × Small edgeLimit (boxOf (f .n) (f .safe)) ⌝ }
+    ensures laid { λ r. ⌜ Laid (f .n) (f .q) (sideAt (f .goal .lo) (f .goal .hi)) (sideAt (f .safe .lo) (f .safe .hi)) (sideAt (f .band .lo) (f .band .hi)) (r .of) ⌝ }
     ensures size { λ r. ⌜ length (r .of) ≡ room ⌝ }
 {
     let band = f.band;
     let safe = f.safe;
-    let root = f.root;
+    let goal = f.goal;
     let mut of = [0i64; ROOM];
     let mut i: usize = 0;
     while i < f.n {
@@ -61,12 +62,12 @@ fn lay_boxes(f: Frame) -> Limits
         let wh = band.hi[i];
         let sl = safe.lo[i];
         let sh = safe.hi[i];
-        let rl = root.lo[i];
-        let rh = root.hi[i];
+        let gl = goal.lo[i];
+        let gh = goal.hi[i];
         let s = around(f.q, wl, wh, sl, sh);
         levels::put_side(&mut of, SAFE, i, s.lo, s.hi);
-        let r = around(f.q, wl, wh, rl, rh);
-        levels::put_side(&mut of, GOAL, i, r.lo, r.hi);
+        let g = around(f.q, wl, wh, gl, gh);
+        levels::put_side(&mut of, GOAL, i, g.lo, g.hi);
         levels::put_side(&mut of, BAND, i, wl, wh);
         i += 1;
     }
@@ -109,11 +110,8 @@ fn mark(n: usize, coef: &[i64; 320], u: usize) -> i64
 
 // The boxes, and behind them the marks.
 pub fn lay(f: Frame, coef: &[i64; 320]) -> Limits
-    requires sizes { ⌜ (1 ≤ f .n) × (f .n ≤ 4) × (f .q ≤ 10_000) × (f .modes ≤ 16) ⌝ }
-    requires boxes { ⌜ Small bandLimit (boxOf (f .n) (f .band)) × Small edgeLimit (boxOf (f .n) (f .root)) × Small edgeLimit (boxOf (f .n) (f .safe)) ⌝ }
-    requires rows { ⌜ ((u : ℕ) → u < f .modes → RowsSound (f .n) (now coef) u) ⌝ }
-    ensures laid { λ r. ⌜ Laid (f .n) (f .q) (sideAt (f .root .lo) (f .root .hi)) (sideAt (f .safe .lo) (f .safe .hi)) (sideAt (f .band .lo) (f .band .hi)) (r .of) ⌝ }
-    ensures marked { λ r. ⌜ Marked (f .n) (f .modes) (now (coef .entry)) (r .of) ⌝ }
+    requires { ⌜ FrameSound f (now coef) ⌝ }
+    ensures { λ r. ⌜ LimitsLaid f (now (coef .entry)) (r .of) ⌝ }
 {
     let laid = lay_boxes(f);
     let mut of = laid.of;

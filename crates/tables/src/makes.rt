@@ -1,6 +1,7 @@
-// The maker (document 01, "The defined table"): the table that is defined for a plant, in one pass: what is found is written at once.
-// Relies on crate files for the plant and for numbers, on search for a box's first pattern, on boxes for a split's children.
-// Leaves out whether the table works: that is proved of the definition. A buffer that is full does not end the search: 9 is told before 10.
+// The maker (document 01, "The defined table"): the table that is defined for a plant. It is drafted in an array of its own, and the lent buffer is
+// touched once: plant, 9, 10.
+// Relies on crate files for the plant, for numbers and for what a write leaves, on search for a box's first pattern, on boxes for a split's children.
+// Leaves out whether the table works: that is proved of the definition.
 use crate::boxes;
 use crate::boxes::Bx;
 use crate::frames;
@@ -12,21 +13,27 @@ use crate::search;
 use files::buffers;
 use files::numbers;
 use files::plants;
-use meaning::Plant;
 use meaning::Verdict;
 use meaning::Written;
 ghost use mathlib.Core.Path.{_≡_};
-ghost use Prim.Native.Nat.{_≤_};
+ghost use Prim.Native.Nat.{_+_, _^_, _≤_};
+ghost use lib.ListN.{length};
 ghost use Rattle.laws.specs.Writing.{Put};
 ghost use Rattle.meaning.specs.Plants.{edgeLimit};
-ghost use Rattle.meaning.specs.Tables.{rulesOf, makerLeft};
+ghost use Rattle.meaning.specs.Tables.{makerLeft};
 ghost use Rattle.meaning.specs.Trees.{tile, layout};
-ghost use Rattle.promises.specs.Sound.{Sound};
+ghost use Rattle.promises.specs.TableLengths.{most};
 ghost use Rattle.tables.specs.Boxes.{boxOf, Small};
-ghost use Rattle.tables.specs.Frames.{plantFrom};
-ghost use Rattle.tables.specs.Limits.{Ready};
+ghost use Rattle.tables.specs.Frames.{rulesIn, FrameSound};
+ghost use Rattle.tables.specs.Limits.{LimitsLaid};
 ghost use Rattle.tables.specs.Tiles.{patternOf};
-ghost use Rattle.tables.specs.Makes.{Wrote, treeBytes, definedBytes};
+ghost use Rattle.tables.specs.Makes.{Wrote, treeBytes, definedBytes, definedLeft};
+
+// No table has more bytes; and none of at most sixteen tiles has more than FEW, which most rooms have: zeros of 30,039 bytes would cost more than their
+// whole search.
+const MOST: usize = 30_039;
+
+const FEW: usize = 129;
 
 // A tree that was written: the place behind it, one past the buffer's end where there was not room for all; or that there is no such tree.
 enum Grown {
@@ -59,8 +66,8 @@ fn tree(
     buf: &mut [u8],
     at: usize,
 ) -> Grown
-    requires { ⌜ Ready (plantFrom f (now coef)) (now limits) × Small edgeLimit (boxOf (f .n) b) ⌝ }
-    ensures { λ r. ⌜ Wrote (treeBytes (rulesOf (plantFrom f (now (coef .entry)))) d (boxOf (f .n) b)) (now (buf .entry)) at r (now (buf .exit)) ⌝ }
+    requires { ⌜ LimitsLaid f (now coef) (now limits) × Small edgeLimit (boxOf (f .n) b) ⌝ }
+    ensures { λ r. ⌜ Wrote (treeBytes (rulesIn f (now (coef .entry))) d (boxOf (f .n) b)) (now (buf .entry)) at r (now (buf .exit)) ⌝ }
 {
     let n = f.n;
     let mut us = [0usize; 6];
@@ -89,23 +96,33 @@ fn tree(
     Grown::Next(place)
 }
 
-// The table of a plant that was judged good: header, then the tree of R. The coefficients are copied out of the plant
-// once and the limits made once; both are lent from then on.
-fn table(p: Plant, buf: &mut [u8]) -> Grown
-    requires { ⌜ Sound p ⌝ }
-    ensures { λ r. ⌜ Wrote (definedBytes (rulesOf p)) (now (buf .entry)) 0 r (now (buf .exit)) ⌝ }
+// The table of a frame: header, then the tree of the box that is tiled. The limits are made once, and lent from then on.
+fn table(f: Frame, coef: &[i64; 320], buf: &mut [u8]) -> Grown
+    requires { ⌜ FrameSound f (now coef) ⌝ }
+    ensures { λ r. ⌜ Wrote (definedBytes (rulesIn f (now (coef .entry)))) (now (buf .entry)) 0 r (now (buf .exit)) ⌝ }
 {
-    let f = frames::framed(p);
-    let coef = p.coef;
-    let laid = limits::lay(f, &coef);
+    let laid = limits::lay(f, coef);
     let limits = laid.of;
     let root = f.root;
     let past_form = numbers::put_number(buf, 0, 1);
     let past_rooms = numbers::put_number(buf, past_form, f.n);
-    tree(f, &coef, &limits, f.d, root, buf, past_rooms)
+    tree(f, coef, &limits, f.d, root, buf, past_rooms)
 }
 
-// The table's file for a plant's file. Finished, only the file's bytes are changed; refused, the buffer is all zeros: plant, 9, 10.
+// The same, drafted where there is room for it, and written: 9, 10. Finished, only the table's bytes are changed; refused, the buffer is all zeros.
+fn write_table(f: Frame, coef: &[i64; 320], draft: &mut [u8], buf: &mut [u8]) -> Written
+    requires frame { ⌜ FrameSound f (now coef) ⌝ }
+    requires room { ⌜ 2 + most (2 ^ f .n) 7 (f .d) ≤ length (now draft) ⌝ }
+    ensures answer { λ r. ⌜ r ≡ definedLeft (rulesIn f (now (coef .entry))) (now (buf .entry)) .answer ⌝ }
+    ensures bytes { λ r. ⌜ now (buf .exit) ≡ definedLeft (rulesIn f (now (coef .entry))) (now (buf .entry)) .buffer ⌝ }
+{
+    let Grown::Next(length) = table(f, coef, draft) else {
+        return buffers::refuse(refusals::no_table(), buf);
+    };
+    buffers::leave(Verdict::Accepted, &draft[..length], buf)
+}
+
+// The table's file for a plant's file: plant, 9, 10. The coefficients are copied out of the plant once, and lent from then on.
 pub fn make(plant: &[u8], buf: &mut [u8]) -> Written
     ensures answer { λ r. ⌜ r ≡ makerLeft (now (plant .entry)) (now (buf .entry)) .answer ⌝ }
     ensures bytes { λ r. ⌜ now (buf .exit) ≡ makerLeft (now (plant .entry)) (now (buf .entry)) .buffer ⌝ }
@@ -113,21 +130,17 @@ pub fn make(plant: &[u8], buf: &mut [u8]) -> Written
     let read = plants::read_plant(plant);
     let verdict = read.verdict;
     match verdict {
-        Verdict::Refused(e) => {
-            buffers::clear(buf);
-            Written::Refused(e)
-        }
+        Verdict::Refused(e) => buffers::refuse(e, buf),
         Verdict::Accepted => {
             let p = read.plant;
-            let Grown::Next(length) = table(p, buf) else {
-                buffers::clear(buf);
-                return Written::Refused(refusals::no_table());
-            };
-            if buf.len() < length {
-                buffers::clear(buf);
-                return Written::Refused(files::refusals::short());
+            let coef = p.coef;
+            let f = frames::framed(p);
+            if f.n * f.d <= 4 {
+                let mut few = [0u8; FEW];
+                return write_table(f, &coef, &mut few, buf);
             }
-            Written::Length(length)
+            let mut draft = [0u8; MOST];
+            write_table(f, &coef, &mut draft, buf)
         }
     }
 }

@@ -8,7 +8,7 @@ use native.Mathlib.Nat.{mul-le-mul}
 use lib.IntN.{ℤ}
 use Rattle.meaning.specs.declared.Plant.{Plant}
 use Rattle.meaning.specs.Boxes.{sideAt, sidesOf}
-use Rattle.meaning.specs.Plants.{edgeLimit, bandLimit, rootOf, safeOf, rowStart}
+use Rattle.meaning.specs.Plants.{rowStart}
 use Rattle.tables.specs.declared.frames.Frame.{Frame}
 use Rattle.tables.specs.Boxes.{Small}
 use Rattle.tables.specs.Images.{RowSound, StepSound}
@@ -48,11 +48,14 @@ module _ (p : Plant) (g : Sound p) where
 
   pub own-sound : FrameSound (frameOf p) (p .coef)
   own-sound = record {
+    some = g .n-low;
     rooms = g .n-high;
     longest = g .k-high;
     least = g .q-low;
     most = g .q-high;
     modes = g .modes-high;
+    depth = g .d-high;
+    tiles = g .nd-high;
     root = edges-small (g .root);
     goal = edges-small (g .root);
     safe = edges-small (g .safe);
@@ -64,29 +67,3 @@ module _ (p : Plant) (g : Sound p) where
 
   pub framed-sound : (f : Frame) → f ≡ frameOf p → FrameSound f (p .coef)
   framed-sound f e = rw e own-sound
-
-  -- the same by a plant's own words, for the search until it is stated over frames
-
-  pub rooms : p .n ≤ 4
-  rooms = own-sound .rooms
-
-  pub longest : p .k ≤ 6
-  longest = own-sound .longest
-
-  pub divisor : 1 ≤ p .q
-  divisor = own-sound .least
-
-  pub divisor-small : p .q ≤ 10_000
-  divisor-small = own-sound .most
-
-  pub root-small : Small edgeLimit (rootOf p)
-  root-small = own-sound .root
-
-  pub safe-small : Small edgeLimit (safeOf p)
-  safe-small = own-sound .safe
-
-  pub band-small : Small bandLimit (sidesOf (p .n) (p .wlo) (p .whi))
-  band-small = own-sound .band
-
-  pub step-sound : (u : ℕ) → u < p .modes → StepSound (p .n) (p .q) (p .wlo) (p .whi) (p .coef) u
-  step-sound = step-in (frameOf p) (p .coef) own-sound

@@ -1,34 +1,39 @@
 -- The defined table, written: a tile's modes one after another; a box by its first pattern; the children of a split one after another; the whole
 -- by its parts. Assumes nothing.
-use Prim.Native.Nat.{ℕ, zero, suc, _+_, _-_, _≤_, _<_}
+use Prim.Native.Nat.{ℕ, zero, suc, _+_, _-_, _^_, _≤_, _<_}
 use mathlib.Core.Path.{_≡_, refl, sym, ap, _∙_}
 use mathlib.Core.List.{List, [], _∷_, _++_}
 use mathlib.Core.Option.{Option, none, some}
 use native.Mathlib.Omega.{arith}
 use native.Mathlib.Numerals.{add-one}
-use borrow.Author.Tests.{le-leb, lt-leb}
-use lib.ListN.{length, getD, drop, drop-of-length-le}
+use lib.IntN.{ℤ}
+use lib.ListN.{length, getD, drop, take, drop-of-length-le}
 use lib.Seq.{drop-cons}
 use Rattle.laws.specs.Lists.{tab}
 use Rattle.laws.specs.Tabs.{length-tab, tab-step, tab-done}
 use Rattle.laws.specs.Writing.{Put, put-append, put-length, put-none}
 use Rattle.meaning.specs.declared.Refusal.{Refusal}
 use Rattle.meaning.specs.declared.Plant.{Plant}
-use Rattle.meaning.specs.declared.Written.{Written}
-use Rattle.meaning.specs.Refusals.{noTable, short}
+use Rattle.meaning.specs.Refusals.{noTable}
 use Rattle.meaning.specs.Numbers.{bytesOf}
 use Rattle.meaning.specs.Files.{good, bad}
 use Rattle.meaning.specs.Buffers.{refusedWith, left}
-use Rattle.meaning.specs.Boxes.{Side, children}
-use Rattle.meaning.specs.Plants.{plantJudged, rootOf}
+use Rattle.meaning.specs.Boxes.{Side, sideAt, children}
+use Rattle.meaning.specs.Plants.{plantJudged}
 use Rattle.meaning.specs.Rules.{Rules}
 use Rattle.meaning.specs.Trees.{Tree, Forest, split, tile, more, modesBytes, layout, layouts, tableOf}
 use Rattle.meaning.specs.Defined.{mapSome, andAlso, allOf, splitOf, firstPattern, treeOf, definedTree}
-use Rattle.meaning.specs.Tables.{rulesOf, tableBytes, made, makerLeft}
+use Rattle.meaning.specs.Tables.{tableBytes, made, makerLeft}
+use Rattle.promises.specs.Exists.{defined-works}
+use Rattle.promises.specs.TableLengths.{most, table-length}
+use Rattle.files.specs.DraftLaws.{InDraft, in-buffer}
+use Rattle.tables.specs.declared.frames.Frame.{Frame}
 use Rattle.tables.specs.declared.makes.Grown.{Grown}
+use Rattle.tables.specs.Boxes.{boxOf}
+use Rattle.tables.specs.Frames.{frameOf, stepIn, rulesIn, FrameSound}
 use Rattle.tables.specs.Search.{patternBy}
 use Rattle.tables.specs.Tiles.{modeAt, patternOf}
-use Rattle.tables.specs.Makes.{Wrote, treeBytes, treesBytes, definedBytes}
+use Rattle.tables.specs.Makes.{Wrote, treeBytes, treesBytes, definedBytes, definedLeft}
 
 -- ---- a tile: its modes from the j-th on are left
 
@@ -159,78 +164,94 @@ empty : {A : Type 0} (xs : List A) → length xs ≡ 0 → xs ≡ []
 empty [] e = refl
 empty (x ∷ xs) e = absurd (omega arith)
 
-module _ (p : Plant) (d : ℕ) (b : List Side) (size : ℕ) (us : List ℕ) (q : patternBy size us ≡ firstPattern (rulesOf p) b) (buf : List ℕ) (at : ℕ) where
-  pub node-tile : (size ≡ 0 → ⊥) → (next : ℕ) (out : List ℕ) → Put buf at (layout (tile (patternOf size us))) next out → Wrote (treeBytes (rulesOf p) d b) buf at (Grown.Next next) out
-  node-tile z next out t = rw (box-tile (rulesOf p) d b (patternOf size us) (sym q ∙ there size z)) t
+module _ (f : Frame) (coef : List ℤ) (d : ℕ) (b : List Side) (size : ℕ) (us : List ℕ) (q : patternBy size us ≡ firstPattern (rulesIn f coef) b) (buf : List ℕ) (at : ℕ) where
+  pub node-tile : (size ≡ 0 → ⊥) → (next : ℕ) (out : List ℕ) → Put buf at (layout (tile (patternOf size us))) next out → Wrote (treeBytes (rulesIn f coef) d b) buf at (Grown.Next next) out
+  node-tile z next out t = rw (box-tile (rulesIn f coef) d b (patternOf size us) (sym q ∙ there size z)) t
     where
       there : (k : ℕ) → (k ≡ 0 → ⊥) → patternBy k us ≡ some (patternOf k us)
       there zero z = absurd (z refl)
       there (suc k) z = refl
 
   module _ (z : size ≡ 0) where
-    nothing : firstPattern (rulesOf p) b ≡ none
+    nothing : firstPattern (rulesIn f coef) b ≡ none
     nothing = sym q ∙ rw z refl
 
-    pub node-deep : d ≡ 0 → Wrote (treeBytes (rulesOf p) d b) buf at Grown.Nothing buf
-    node-deep h = rw (box-deep (rulesOf p) d b nothing h) refl
+    pub node-deep : d ≡ 0 → Wrote (treeBytes (rulesIn f coef) d b) buf at Grown.Nothing buf
+    node-deep h = rw (box-deep (rulesIn f coef) d b nothing h) refl
 
-    pub node-stuck : length (children b) ≡ 0 → Wrote (treeBytes (rulesOf p) d b) buf at Grown.Nothing buf
-    node-stuck h = rw (box-stuck (rulesOf p) d b nothing (empty (children b) h)) refl
+    pub node-stuck : length (children b) ≡ 0 → Wrote (treeBytes (rulesIn f coef) d b) buf at Grown.Nothing buf
+    node-stuck h = rw (box-stuck (rulesIn f coef) d b nothing (empty (children b) h)) refl
 
     pub node-split : (d ≡ 0 → ⊥) → (length (children b) ≡ 0 → ⊥) → (place : ℕ) (mid : List ℕ) → Put buf at (bytesOf 0) place mid
-        → (a : Grown) (out : List ℕ) → Wrote (treesBytes (rulesOf p) (d - 1) (children b)) mid place a out → Wrote (treeBytes (rulesOf p) d b) buf at a out
+        → (a : Grown) (out : List ℕ) → Wrote (treesBytes (rulesIn f coef) (d - 1) (children b)) mid place a out → Wrote (treeBytes (rulesIn f coef) d b) buf at a out
     node-split h l place mid t a out w =
         let k : d ≡ suc (d - 1) = omega arith in
-        let e : treeBytes (rulesOf p) d b ≡ mapSome (λ ys. bytesOf 0 ++ ys) (treesBytes (rulesOf p) (d - 1) (children b)) =
-        ap (λ (i : ℕ). treeBytes (rulesOf p) i b) k ∙ box-split (rulesOf p) (d - 1) b nothing (λ n. l (ap length n)) in
-        rw e (wrote-behind t (treesBytes (rulesOf p) (d - 1) (children b)) a out w)
+        let e : treeBytes (rulesIn f coef) d b ≡ mapSome (λ ys. bytesOf 0 ++ ys) (treesBytes (rulesIn f coef) (d - 1) (children b)) =
+        ap (λ (i : ℕ). treeBytes (rulesIn f coef) i b) k ∙ box-split (rulesIn f coef) (d - 1) b nothing (λ n. l (ap length n)) in
+        rw e (wrote-behind t (treesBytes (rulesIn f coef) (d - 1) (children b)) a out w)
 
--- ---- the whole table: form 1, n, then the tree of R; of a plant that is the same, however it is held
+-- ---- the whole table: form 1, n, then the tree of the box that is tiled
 
 header-bytes : (r : Rules) (o : Option Tree) → mapSome (tableOf r) o ≡ mapSome (λ ys. bytesOf 1 ++ ys) (mapSome (λ ys. bytesOf (Rules.n r) ++ ys) (mapSome layout o))
 header-bytes r (some t) = refl
 header-bytes r none = refl
 
-pub table-wrote : (p q : Plant) → p ≡ q → {buf : List ℕ} {past-form : ℕ} {mid : List ℕ} {past-rooms : ℕ} {behind : List ℕ} → Put buf 0 (bytesOf 1) past-form mid → Put mid past-form (bytesOf (p .n)) past-rooms behind
-    → (a : Grown) (out : List ℕ) → Wrote (treeBytes (rulesOf p) (p .d) (rootOf p)) behind past-rooms a out → Wrote (definedBytes (rulesOf q)) buf 0 a out
-table-wrote p q e t v a out w =
-    let o = treeBytes (rulesOf p) (p .d) (rootOf p) in
-    rw (← e, header-bytes (rulesOf p) (definedTree (rulesOf p))) (wrote-behind t (mapSome (λ ys. bytesOf (p .n) ++ ys) o) a out (wrote-behind v o a out w))
+module _ (r : Rules) where
+  open Rules r using (n, D, root)
 
--- ---- the maker: plant, 9, 10
+  pub table-wrote : {buf : List ℕ} {past-form : ℕ} {mid : List ℕ} {past-rooms : ℕ} {behind : List ℕ} → Put buf 0 (bytesOf 1) past-form mid → Put mid past-form (bytesOf n) past-rooms behind
+      → (a : Grown) (out : List ℕ) → Wrote (treeBytes r D root) behind past-rooms a out → Wrote (definedBytes r) buf 0 a out
+  table-wrote t v a out w =
+      let o = treeBytes r D root in
+      rw (header-bytes r (definedTree r)) (wrote-behind t (mapSome (λ ys. bytesOf n ++ ys) o) a out (wrote-behind v o a out w))
+
+  -- ---- a draft of it: 9 where there is none, else its front is the table, where the draft has room for it
+
+  module _ (draft buf : List ℕ) (a : Grown) (out : List ℕ) (w : Wrote (definedBytes r) draft 0 a out) where
+    pub left-none : a ≡ Grown.Nothing → refusedWith noTable buf ≡ definedLeft r buf
+    left-none z = go (definedTree r) (rw z at w)
+      where
+        go : (o : Option Tree) → Wrote (mapSome (tableOf r) o) draft 0 Grown.Nothing out → refusedWith noTable buf ≡ left (tableBytes r o) buf
+        go (some t) v = absurd v
+        go none v = refl
+
+    module _ (size : ℕ) (z : a ≡ Grown.Next size) (room : (t : Tree) → definedTree r ≡ some t → length (tableOf r t) ≤ length draft) where
+      -- what was drafted is the table of a tree
+      record Drafted : Type 0 where
+        t : Tree
+        is : definedTree r ≡ some t
+        held : InDraft (tableOf r t) size out
+
+      drafted : Drafted
+      drafted = go (definedTree r) refl (rw z at w)
+        where
+          go : (o : Option Tree) → definedTree r ≡ o → Wrote (mapSome (tableOf r) o) draft 0 (Grown.Next size) out → Drafted
+          go none e v = absurd v
+          go (some t) e v = record { t = t; is = e; held = in-buffer draft (tableOf r t) size out (room t e) v }
+
+      pub fits : size ≤ length out
+      fits = drafted .held .fits
+
+      pub left-drafted : left (good (take size out)) buf ≡ definedLeft r buf
+      left-drafted =
+          let d = drafted in
+          let e : definedTree r ≡ some (d .t) = d .is in
+          let q : take size out ≡ tableOf r (d .t) = d .held .front in
+          rw (e, q) refl
+
+-- ---- the maker: plant, then its own frame's table
 
 module _ (plant buf : List ℕ) where
-  pub left-bad : (e : Refusal) → plantJudged plant ≡ bad e → makerLeft plant buf ≡ refusedWith e buf
+  pub left-bad : (e : Refusal) → plantJudged plant ≡ bad e → refusedWith e buf ≡ makerLeft plant buf
   unfolding makerLeft made
   left-bad e h = rw h refl
 
-  module _ (p : Plant) (h : plantJudged plant ≡ good p) where
-    judged : makerLeft plant buf ≡ left (tableBytes (rulesOf p) (definedTree (rulesOf p))) buf
-    unfolding makerLeft made
-    judged = rw h refl
+  pub left-own : (p : Plant) → plantJudged plant ≡ good p → (f : Frame) → f ≡ frameOf p → definedLeft (rulesIn f (p .coef)) buf ≡ makerLeft plant buf
+  unfolding makerLeft made
+  left-own p h f e = rw (h, e) refl
 
-    module _ (a : Grown) (out : List ℕ) (w : Wrote (definedBytes (rulesOf p)) buf 0 a out) where
-      pub left-none : a ≡ Grown.Nothing → makerLeft plant buf ≡ refusedWith noTable buf
-      left-none z = judged ∙ go (definedTree (rulesOf p)) (rw z at w)
-        where
-          go : (o : Option Tree) → Wrote (mapSome (tableOf (rulesOf p)) o) buf 0 Grown.Nothing out → left (tableBytes (rulesOf p) o) buf ≡ refusedWith noTable buf
-          go (some t) v = absurd v
-          go none v = refl
-
-      module _ (size : ℕ) (z : a ≡ Grown.Next size) where
-        pub left-short : length buf < size → makerLeft plant buf ≡ refusedWith short buf
-        left-short l = judged ∙ go (definedTree (rulesOf p)) (rw z at w)
-          where
-            go : (o : Option Tree) → Wrote (mapSome (tableOf (rulesOf p)) o) buf 0 (Grown.Next size) out → left (tableBytes (rulesOf p) o) buf ≡ refusedWith short buf
-            go none v = absurd v
-            go (some t) v = let g : length buf < length (tableOf (rulesOf p) t) = omega (arith, v .place) in simp (lt-leb _ _ g)
-
-        pub left-done : size ≤ length buf → makerLeft plant buf ≡ record { answer = Written.Length size; buffer = out }
-        left-done l = judged ∙ go (definedTree (rulesOf p)) (rw z at w)
-          where
-            go : (o : Option Tree) → Wrote (mapSome (tableOf (rulesOf p)) o) buf 0 (Grown.Next size) out → left (tableBytes (rulesOf p) o) buf ≡ record { answer = Written.Length size; buffer = out }
-            go none v = absurd v
-            go (some t) v =
-                let g : length (tableOf (rulesOf p) t) ≤ length buf = omega (arith, v .place) in
-                let q : length (tableOf (rulesOf p) t) ≡ size = omega (arith, v .place) in
-                simp (le-leb _ _ g) (rw (q, v .bytes) refl)
+-- the bytes of a frame's defined table, at most
+pub defined-length : (f : Frame) (coef : List ℤ) → FrameSound f coef → (t : Tree) → definedTree (rulesIn f coef) ≡ some t → length (tableOf (rulesIn f coef) t) ≤ 2 + most (2 ^ f .n) 7 (f .d)
+defined-length f coef g t e =
+    table-length (f .n) (f .modes) (f .k) (f .d) (boxOf (f .n) (f .root)) (boxOf (f .n) (f .goal)) (boxOf (f .n) (f .safe)) (stepIn f coef)
+    (g .rooms) (omega (arith, g .modes)) (g .longest) (length-tab (sideAt (f .root .lo) (f .root .hi)) (f .n) 0) t (defined-works (rulesIn f coef) t e)

@@ -1,5 +1,5 @@
--- What the search is lent of a plant, and what it seeks, are the plant's own: tests of sums are the image in S and in R, what is made of them is the
--- image, and the first pattern by them is the defined one. The only page of the search that speaks of a plant and its rules. Assumes nothing.
+-- What the search is lent of a frame, and what it seeks, are the frame's own: tests of sums are the image in S and in the goal, what is made of them is
+-- the image, and the first pattern by them is the defined one. The only page of the search that speaks of a frame and its rules. Assumes nothing.
 use Prim.Native.Nat.{ℕ, zero, suc, _<_}
 use mathlib.Core.Path.{_≡_, refl, sym, ap, _∙_}
 use mathlib.Core.Bool.{Bool, true, false}
@@ -11,106 +11,105 @@ use Rattle.laws.specs.Guards.{guard}
 use Rattle.laws.specs.Lists.{tab, all}
 use Rattle.laws.specs.Tabs.{tab-same}
 use Rattle.laws.specs.Tests.{never}
-use Rattle.meaning.specs.declared.Plant.{Plant}
 use Rattle.meaning.specs.Boxes.{Side, sideAt, covers, within}
 use Rattle.meaning.specs.Images.{image}
-use Rattle.meaning.specs.Plants.{rootOf, safeOf, stepOf}
-use Rattle.meaning.specs.Tables.{rulesOf}
 use Rattle.meaning.specs.Defined.{exactly, shortest}
 use Rattle.promises.specs.Boxes.{within-trans}
+use Rattle.tables.specs.declared.frames.Frame.{Frame}
+use Rattle.tables.specs.Boxes.{boxOf}
+use Rattle.tables.specs.Frames.{stepIn, rulesIn}
 use Rattle.tables.specs.Levels.{sideIn}
-use Rattle.tables.specs.Limits.{limitSide, divided, safeAt, goalAt, bandAt, sumsAt, covered, coveredAt, dividedAt, landsLent, Lent, Ready}
+use Rattle.tables.specs.Limits.{limitSide, divided, safeAt, goalAt, bandAt, sumsAt, covered, coveredAt, dividedAt, landsLent, Lent, LimitsLaid}
 use Rattle.tables.specs.Search.{behind, sought, soughtFrom, movesLent}
-use Rattle.tables.proofs.frames.Laws.{rooms, divisor, divisor-small, band-small, step-sound}
 use Rattle.tables.proofs.boxes.Laws.{lies-tab}
 use Rattle.tables.proofs.images.Laws.{imageSideAt, image-tab, small-image}
 use Rattle.tables.proofs.steps.Laws.{limit-covers}
 use Rattle.tables.proofs.search.Laws.{first-same}
 
--- ---- a plant and its limits
+-- ---- a frame and its limits
 
-module _ (p : Plant) (limits : List ℤ) (g : Ready p limits) (u : ℕ) (b : List Side) where
+module _ (f : Frame) (coef limits : List ℤ) (g : LimitsLaid f coef limits) (u : ℕ) (b : List Side) where
   abbrev sides : ℕ → Side
-  sides = imageSideAt (p .n) (p .q) (p .wlo) (p .whi) (p .coef) u b
+  sides = imageSideAt (f .n) (f .q) (f .band .lo) (f .band .hi) coef u b
 
-  divided-is : (i : ℕ) → i < p .n → dividedAt (p .n) (p .q) (p .coef) limits u b i ≡ sides i
-  divided-is i h = ap (λ (w : Side). divided (p .q) w (sumsAt (p .n) (p .coef) u b i)) (g .laid .in-band i h)
+  divided-is : (i : ℕ) → i < f .n → dividedAt (f .n) (f .q) coef limits u b i ≡ sides i
+  divided-is i h = ap (λ (w : Side). divided (f .q) w (sumsAt (f .n) coef u b i)) (g .laid .in-band i h)
 
-  made-image : tab (dividedAt (p .n) (p .q) (p .coef) limits u b) (p .n) 0 ≡ image (stepOf p u) b
+  made-image : tab (dividedAt (f .n) (f .q) coef limits u b) (f .n) 0 ≡ image (stepIn f coef u) b
   made-image =
-      tab-same (dividedAt (p .n) (p .q) (p .coef) limits u b) sides (p .n) 0 (λ i l h. divided-is i (omega arith))
-      ∙ sym (image-tab (p .n) (p .q) (p .wlo) (p .whi) (p .coef) u b)
+      tab-same (dividedAt (f .n) (f .q) coef limits u b) sides (f .n) 0 (λ i l h. divided-is i (omega arith))
+      ∙ sym (image-tab (f .n) (f .q) (f .band .lo) (f .band .hi) coef u b)
 
   -- the limits at `base` are those of the box with sides t
-  covered-is : (base : ℕ) (t : ℕ → Side) → ((i : ℕ) → i < p .n → sideIn limits base i ≡ limitSide (p .q) (sideAt (p .wlo) (p .whi) i) (t i))
-      → covered (p .n) (p .coef) limits base u b ≡ within (image (stepOf p u) b) (tab t (p .n) 0)
+  covered-is : (base : ℕ) (t : ℕ → Side) → ((i : ℕ) → i < f .n → sideIn limits base i ≡ limitSide (f .q) (sideAt (f .band .lo) (f .band .hi) i) (t i))
+      → covered (f .n) coef limits base u b ≡ within (image (stepIn f coef u) b) (tab t (f .n) 0)
   covered-is base t e =
-      ap all (tab-same (coveredAt (p .n) (p .coef) limits base u b) (λ i. covers (t i) (sides i)) (p .n) 0 (λ i l h. at-side i (omega arith)))
-      ∙ sym (ap all (lies-tab sides t (p .n) 0))
-      ∙ sym (ap (λ (c : List Side). within c (tab t (p .n) 0)) (image-tab (p .n) (p .q) (p .wlo) (p .whi) (p .coef) u b))
+      ap all (tab-same (coveredAt (f .n) coef limits base u b) (λ i. covers (t i) (sides i)) (f .n) 0 (λ i l h. at-side i (omega arith)))
+      ∙ sym (ap all (lies-tab sides t (f .n) 0))
+      ∙ sym (ap (λ (c : List Side). within c (tab t (f .n) 0)) (image-tab (f .n) (f .q) (f .band .lo) (f .band .hi) coef u b))
     where
-      at-side : (i : ℕ) → i < p .n → coveredAt (p .n) (p .coef) limits base u b i ≡ covers (t i) (sides i)
+      at-side : (i : ℕ) → i < f .n → coveredAt (f .n) coef limits base u b i ≡ covers (t i) (sides i)
       at-side i h =
-          ap (λ (s : Side). covers s (sumsAt (p .n) (p .coef) u b i)) (e i h)
-          ∙ limit-covers (p .q) (divisor p (g .sound)) (sideAt (p .wlo) (p .whi) i) (t i) (sumsAt (p .n) (p .coef) u b i)
+          ap (λ (s : Side). covers s (sumsAt (f .n) coef u b i)) (e i h)
+          ∙ limit-covers (f .q) (g .sound .least) (sideAt (f .band .lo) (f .band .hi) i) (t i) (sumsAt (f .n) coef u b i)
 
-  covered-safe : covered (p .n) (p .coef) limits safeAt u b ≡ within (image (stepOf p u) b) (safeOf p)
-  covered-safe = covered-is safeAt (sideAt (p .slo) (p .shi)) (g .laid .in-safe)
+  covered-safe : covered (f .n) coef limits safeAt u b ≡ within (image (stepIn f coef u) b) (boxOf (f .n) (f .safe))
+  covered-safe = covered-is safeAt (sideAt (f .safe .lo) (f .safe .hi)) (g .laid .in-safe)
 
-  covered-goal : covered (p .n) (p .coef) limits goalAt u b ≡ within (image (stepOf p u) b) (rootOf p)
-  covered-goal = covered-is goalAt (sideAt (p .rlo) (p .rhi)) (g .laid .in-goal)
+  covered-goal : covered (f .n) coef limits goalAt u b ≡ within (image (stepIn f coef u) b) (boxOf (f .n) (f .goal))
+  covered-goal = covered-is goalAt (sideAt (f .goal .lo) (f .goal .hi)) (g .laid .in-goal)
 
 -- nothing is left behind a last mode
 abbrev ending : Bool → Option (List ℕ)
 ending t = guard t none λ _. some []
 
-module _ (p : Plant) (limits : List ℤ) (g : Ready p limits) where
-  pub lent : Lent (p .n) (p .modes) (p .q) (p .coef) limits
+module _ (f : Frame) (coef limits : List ℤ) (g : LimitsLaid f coef limits) where
+  pub lent : Lent (f .n) (f .modes) (f .q) coef limits
   lent = record {
-    some = g .sound .n-low;
-    rooms = rooms p (g .sound);
-    few = g .sound .modes-high;
-    least = divisor p (g .sound);
-    most = divisor-small p (g .sound);
-    rows = λ u h. step-sound p (g .sound) u h .rows;
-    band = rw (tab-same (sideIn limits bandAt) (sideAt (p .wlo) (p .whi)) (p .n) 0 (λ i a b. g .laid .in-band i (omega arith))) (band-small p (g .sound));
+    some = g .sound .some;
+    rooms = g .sound .rooms;
+    few = g .sound .modes;
+    least = g .sound .least;
+    most = g .sound .most;
+    rows = λ u h. λ i k. g .sound .rows u i h k;
+    band = rw (tab-same (sideIn limits bandAt) (sideAt (f .band .lo) (f .band .hi)) (f .n) 0 (λ i a b. g .laid .in-band i (omega arith))) (g .sound .band);
     marked = g .marked;
-    small = λ u b h s e. rw (made-image p limits g u b) (small-image p (g .sound) u b s (sym (covered-safe p limits g u b) ∙ e));
+    small = λ u b h s e. rw (made-image f coef limits g u b) (small-image f coef (g .sound) u b s (sym (covered-safe f coef limits g u b) ∙ e));
   }
 
   -- mode u, and behind it the first j that work from the image: none where the image leaves S
   abbrev defined : ℕ → List Side → ℕ → Option (List ℕ)
-  defined j b u = let c = image (stepOf p u) b in guard (within c (safeOf p)) none λ _. exactly (rulesOf p) j c
+  defined j b u = let c = image (stepIn f coef u) b in guard (within c (boxOf (f .n) (f .safe))) none λ _. exactly (rulesIn f coef) j c
 
   abbrev lentBehind : ℕ → List Side → ℕ → Option (List ℕ)
-  lentBehind = behind (movesLent (p .n) (p .modes) (p .q) (p .coef) limits)
+  lentBehind = behind (movesLent (f .n) (f .modes) (f .q) coef limits)
 
-  -- an image in R lies in S, so that the last step asks for R alone
-  last-is : (b : List Side) (u : ℕ) → ending (landsLent (p .n) (p .coef) limits u b) ≡ defined 0 b u
+  -- an image in the goal lies in S, so that the last step asks for the goal alone
+  last-is : (b : List Side) (u : ℕ) → ending (landsLent (f .n) coef limits u b) ≡ defined 0 b u
   unfolding exactly
-  last-is b u = ap ending (covered-goal p limits g u b) ∙ go (within c (safeOf p)) (within c (rootOf p)) refl refl
+  last-is b u = ap ending (covered-goal f coef limits g u b) ∙ go (within c (boxOf (f .n) (f .safe))) (within c (boxOf (f .n) (f .goal))) refl refl
     where
       c : List Side
-      c = image (stepOf p u) b
+      c = image (stepIn f coef u) b
 
-      go : (s r : Bool) → within c (safeOf p) ≡ s → within c (rootOf p) ≡ r → ending r ≡ guard s none (λ _. ending r)
-      go true r e f = refl
-      go false false e f = refl
-      go false true e f = never (sym e ∙ within-trans c (rootOf p) (safeOf p) f (g .sound .root-safe))
+      go : (s r : Bool) → within c (boxOf (f .n) (f .safe)) ≡ s → within c (boxOf (f .n) (f .goal)) ≡ r → ending r ≡ guard s none (λ _. ending r)
+      go true r e k = refl
+      go false false e k = refl
+      go false true e k = never (sym e ∙ within-trans c (boxOf (f .n) (f .goal)) (boxOf (f .n) (f .safe)) k (g .sound .in-safe))
 
   behind-is : (j : ℕ) (b : List Side) (u : ℕ) → lentBehind j b u ≡ defined j b u
   unfolding behind exactly
   behind-is zero b u = last-is b u
   behind-is (suc j) b u =
-      let c = image (stepOf p u) b in
-      rw (covered-safe p limits g u b, made-image p limits g u b, first-same (lentBehind j c) (defined j c) (behind-is j c) (p .modes) 0) refl
+      let c = image (stepIn f coef u) b in
+      rw (covered-safe f coef limits g u b, made-image f coef limits g u b, first-same (lentBehind j c) (defined j c) (behind-is j c) (f .modes) 0) refl
 
-  sought-is : (j : ℕ) (b : List Side) → sought (movesLent (p .n) (p .modes) (p .q) (p .coef) limits) j b ≡ exactly (rulesOf p) (suc j) b
+  sought-is : (j : ℕ) (b : List Side) → sought (movesLent (f .n) (f .modes) (f .q) coef limits) j b ≡ exactly (rulesIn f coef) (suc j) b
   unfolding exactly
-  sought-is j b = first-same (lentBehind j b) (defined j b) (behind-is j b) (p .modes) 0
+  sought-is j b = first-same (lentBehind j b) (defined j b) (behind-is j b) (f .modes) 0
 
   -- the first pattern, by what is lent and by the definition
-  pub shortest-is : (more j : ℕ) (b : List Side) → soughtFrom (movesLent (p .n) (p .modes) (p .q) (p .coef) limits) more j b ≡ shortest (rulesOf p) more (suc j) b
+  pub shortest-is : (more j : ℕ) (b : List Side) → soughtFrom (movesLent (f .n) (f .modes) (f .q) coef limits) more j b ≡ shortest (rulesIn f coef) more (suc j) b
   unfolding soughtFrom shortest
   shortest-is zero j b = refl
   shortest-is (suc more) j b = rw (sought-is j b, shortest-is more (suc j) b) refl

@@ -15,16 +15,16 @@ use Rattle.tables.proofs.limits.lay.Tie as tie
 
 abbrev Inv-loop : tie.InvT-loop
 Inv-loop f coef of₀ u₀ of u =
-    (u ≤ 16) × (length of ≡ room) × Laid (f .n) (f .q) (sideAt (f .root .lo) (f .root .hi)) (sideAt (f .safe .lo) (f .safe .hi)) (sideAt (f .band .lo) (f .band .hi)) of × Marked (f .n) u coef of
+    (u ≤ 16) × (length of ≡ room) × Laid (f .n) (f .q) (sideAt (f .goal .lo) (f .goal .hi)) (sideAt (f .safe .lo) (f .safe .hi)) (sideAt (f .band .lo) (f .band .hi)) of × Marked (f .n) u coef of
 
 abbrev μ-loop : tie.MeasureT-loop
 μ-loop f coef of₀ u₀ of u = f .modes - u
 
 lay-boxes-requires : tie.Need-lay-boxes-requires Inv-loop μ-loop
-lay-boxes-requires c κs = ((c .pre .0 .1, c .pre .0 .2), c .pre .1 .0)
+lay-boxes-requires c κs = let g = c .pre in ((g .rooms, g .most), (g .band, g .goal, g .safe))
 
 few : (t : tie.Then1 Inv-loop μ-loop) → t .before .before .loop .u < 16
-few t = let h = t .if1 .taken in let k = t .before .before .before .before .before .pre .0 .3 in omega arith
+few t = let h = t .if1 .taken in let k = t .before .before .before .before .before .pre .modes in omega arith
 
 loop-holds : tie.Need-loop-holds Inv-loop μ-loop
 loop-holds c = let b = c .before in (omega arith, b .lay-boxes .ensures .1, b .lay-boxes .ensures .0, marked-none (b .before .args .f .n) (now (b .before .args .coef)) (b .lay-boxes .result .of))
@@ -35,7 +35,7 @@ mark-requires c κs =
     let u = c .before .before .loop .u in
     let h = c .if1 .taken in
     let f = few c in
-    (s .pre .0 .0, f, s .pre .1 .1 u h, λ k. s .pre .1 .1 (u - 1) (omega arith))
+    (s .pre .some, f, λ i l. s .pre .rows u i h l, λ k i l. s .pre .rows (u - 1) i (omega arith) l)
 
 add-of : tie.Need-add-of Inv-loop μ-loop
 add-of c = let f = few (c .before) in omega arith
@@ -60,14 +60,14 @@ loop-again c =
     let k = toZ-ofZ (ok64 (c .mark .result) (c .mark .ok)) in (
       omega arith,
       simp length-set (l .inv .1),
-      laid-behind (marksAt + l .u) _ (s .pre .0 .1) (omega arith) (l .inv .2),
+      laid-behind (marksAt + l .u) _ (s .pre .rooms) (omega arith) (l .inv .2),
       marked-more (s .args .f .n) (now (s .args .coef)) (l .of) (l .u) _ (omega (arith, l .inv .1)) (λ z. c .mark .ensures (λ e. z (k ∙ e))) (l .inv .3),
     )
 
 returns : tie.Need-returns Inv-loop μ-loop
 returns c =
     let l = c .before .before .loop in
-    (l .inv .2, λ u h. l .inv .3 u (omega (arith, c .if1 .left)))
+    record { sound = c .before .before .before .before .before .pre; laid = l .inv .2; marked = λ u h. l .inv .3 u (omega (arith, c .if1 .left)) }
 
 pub lay-spec : {M : Type 1} → statement M
 lay-spec =

@@ -14,11 +14,11 @@ use Rattle.tables.proofs.limits.lay_boxes.Statement.{statement}
 use Rattle.tables.proofs.limits.lay_boxes.Tie as tie
 
 abbrev Inv-loop : tie.InvT-loop
-Inv-loop f band safe root of₀ i₀ of i =
-    (i ≤ f .n) × (length of ≡ room) × Laid i (f .q) (sideAt (root .lo) (root .hi)) (sideAt (safe .lo) (safe .hi)) (sideAt (band .lo) (band .hi)) of
+Inv-loop f band safe goal of₀ i₀ of i =
+    (i ≤ f .n) × (length of ≡ room) × Laid i (f .q) (sideAt (goal .lo) (goal .hi)) (sideAt (safe .lo) (safe .hi)) (sideAt (band .lo) (band .hi)) of
 
 abbrev μ-loop : tie.MeasureT-loop
-μ-loop f band safe root of₀ i₀ of i = f .n - i
+μ-loop f band safe goal of₀ i₀ of i = f .n - i
 
 -- the round of dimension i, and its sides
 module _ (t : tie.Then1 Inv-loop μ-loop) where
@@ -37,8 +37,8 @@ module _ (t : tie.Then1 Inv-loop μ-loop) where
   abbrev safe : Side
   safe = let f = began .args .f in sideAt (f .safe .lo) (f .safe .hi) index
 
-  abbrev root : Side
-  root = let f = began .args .f in sideAt (f .root .lo) (f .root .hi) index
+  abbrev goal : Side
+  goal = let f = began .args .f in sideAt (f .goal .lo) (f .goal .hi) index
 
   band-small : Bounded bandLimit band
   band-small = let f = began .args .f in small-side (f .band .lo) (f .band .hi) (f .n) index (began .pre .1 .0) (t .if1 .taken)
@@ -46,8 +46,8 @@ module _ (t : tie.Then1 Inv-loop μ-loop) where
   safe-small : Bounded edgeLimit safe
   safe-small = let f = began .args .f in small-side (f .safe .lo) (f .safe .hi) (f .n) index (began .pre .1 .2) (t .if1 .taken)
 
-  root-small : Bounded edgeLimit root
-  root-small = let f = began .args .f in small-side (f .root .lo) (f .root .hi) (f .n) index (began .pre .1 .1) (t .if1 .taken)
+  goal-small : Bounded edgeLimit goal
+  goal-small = let f = began .args .f in small-side (f .goal .lo) (f .goal .hi) (f .n) index (began .pre .1 .1) (t .if1 .taken)
 
 -- where the round began
 abbrev first : tie.After-put-side Inv-loop μ-loop → tie.Then1 Inv-loop μ-loop
@@ -83,17 +83,17 @@ mul-sh c = let h = few (c .before .before .before) in omega arith
 element-copy-out-sh : tie.Need-element-copy-out-sh Inv-loop μ-loop
 element-copy-out-sh c = few (c .before .before .before)
 
-mul-rl : tie.Need-mul-rl Inv-loop μ-loop
-mul-rl c = let h = few (c .before .before .before .before) in omega arith
+mul-gl : tie.Need-mul-gl Inv-loop μ-loop
+mul-gl c = let h = few (c .before .before .before .before) in omega arith
 
-element-copy-out-rl : tie.Need-element-copy-out-rl Inv-loop μ-loop
-element-copy-out-rl c = few (c .before .before .before .before)
+element-copy-out-gl : tie.Need-element-copy-out-gl Inv-loop μ-loop
+element-copy-out-gl c = few (c .before .before .before .before)
 
-mul-rh : tie.Need-mul-rh Inv-loop μ-loop
-mul-rh c = let h = few (c .before .before .before .before .before) in omega arith
+mul-gh : tie.Need-mul-gh Inv-loop μ-loop
+mul-gh c = let h = few (c .before .before .before .before .before) in omega arith
 
-element-copy-out-rh : tie.Need-element-copy-out-rh Inv-loop μ-loop
-element-copy-out-rh c = few (c .before .before .before .before .before)
+element-copy-out-gh : tie.Need-element-copy-out-gh Inv-loop μ-loop
+element-copy-out-gh c = few (c .before .before .before .before .before)
 
 around-requires : tie.Need-around-requires Inv-loop μ-loop
 around-requires c κs =
@@ -106,7 +106,7 @@ put-side-requires c κs = (omega arith, few (c .before .before .before .before .
 around-requires-2 : tie.Need-around-requires-2 Inv-loop μ-loop
 around-requires-2 c κs =
     let t = first c in
-    (began t .pre .0 .1, rw (band-held (band t) (band-small t)) (band-small t), rw (edge-held (root t) (root-small t)) (root-small t))
+    (began t .pre .0 .1, rw (band-held (band t) (band-small t)) (band-small t), rw (edge-held (goal t) (goal-small t)) (goal-small t))
 
 put-side-requires-2 : tie.Need-put-side-requires-2 Inv-loop μ-loop
 put-side-requires-2 c κs = (omega arith, few (first (c .before .before .before .before)))
@@ -131,10 +131,10 @@ loop-again c =
     let s = p .before .before .before .before .around in
     let o = r .before .before .before .before .around2 in
     let h = t .if1 .taken in
-    let more = laid-more (f .q) (sideAt (f .root .lo) (f .root .hi)) (sideAt (f .safe .lo) (f .safe .hi)) (sideAt (f .band .lo) (f .band .hi)) (l .i) (l .of) _ _ _ (l .inv .1) (few t)
+    let more = laid-more (f .q) (sideAt (f .goal .lo) (f .goal .hi)) (sideAt (f .safe .lo) (f .safe .hi)) (sideAt (f .band .lo) (f .band .hi)) (l .i) (l .of) _ _ _ (l .inv .1) (few t)
     (p .put-side .ensures) (r .put-side2 .ensures) (c .put-side3 .ensures)
     (limit-held (f .q) (band t) (safe t) q (band-small t) (safe-small t) (side (s .result .lo) (s .result .hi)) (s .ensures))
-    (limit-held (f .q) (band t) (root t) q (band-small t) (root-small t) (side (o .result .lo) (o .result .hi)) (o .ensures))
+    (limit-held (f .q) (band t) (goal t) q (band-small t) (goal-small t) (side (o .result .lo) (o .result .hi)) (o .ensures))
     (band-held (band t) (band-small t)) (l .inv .2) in
     (omega arith, more .0, more .1)
 
@@ -160,10 +160,10 @@ lay-boxes-spec =
     element-copy-out-sl
     mul-sh
     element-copy-out-sh
-    mul-rl
-    element-copy-out-rl
-    mul-rh
-    element-copy-out-rh
+    mul-gl
+    element-copy-out-gl
+    mul-gh
+    element-copy-out-gh
     around-requires
     put-side-requires
     around-requires-2

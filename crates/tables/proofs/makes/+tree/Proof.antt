@@ -6,21 +6,21 @@ use mathlib.Core.List.{List, []}
 use mathlib.Core.Option.{Option}
 use native.Mathlib.Omega.{arith}
 use denote.Ref.{now}
+use lib.IntN.{ℤ}
 use lib.ListN.{length, drop}
 use borrow.Author.Needs.{needs}
 use Rattle.laws.specs.Writing.{put-length}
-use Rattle.meaning.specs.declared.Plant.{Plant}
 use Rattle.meaning.specs.Boxes.{Side, children}
 use Rattle.meaning.specs.Plants.{edgeLimit}
-use Rattle.meaning.specs.Tables.{rulesOf}
+use Rattle.meaning.specs.Rules.{Rules}
 use Rattle.meaning.specs.Defined.{firstPattern}
+use Rattle.tables.specs.declared.frames.Frame.{Frame}
 use Rattle.tables.specs.declared.makes.Grown.{Grown}
 use Rattle.tables.specs.Boxes.{boxOf}
-use Rattle.tables.specs.Frames.{plantFrom}
+use Rattle.tables.specs.Frames.{rulesIn}
 use Rattle.tables.specs.Search.{patternBy}
 use Rattle.tables.specs.Makes.{Wrote, treeBytes, treesBytes}
 use Rattle.tables.proofs.boxes.Laws.{small-children}
-use Rattle.tables.proofs.frames.Laws.{rooms, longest}
 use Rattle.tables.proofs.search.Rules.{lent, shortest-is}
 use Rattle.tables.proofs.makes.Laws.{Growing, grow-none, grow-done, grow-more, grow-stopped, node-tile, node-deep, node-stuck, node-split, wrote-length}
 use borrow.Fn.Kinds.{In}
@@ -51,7 +51,7 @@ claims t = (first-reads.Asked, first-reads.Learnt, put-tile-reads.Asked, put-til
 abbrev tree-Inv-loop : tree-lts.InvT-loop
 tree-Inv-loop f coef limits d b buf₀ at n size count place₀ c₀ buf place c =
     (c ≤ count)
-    × Growing buf₀ place₀ (treesBytes (rulesOf (plantFrom f coef)) (d - 1) (children (boxOf (f .n) b))) (treesBytes (rulesOf (plantFrom f coef)) (d - 1) (drop c (children (boxOf (f .n) b)))) place buf
+    × Growing buf₀ place₀ (treesBytes (rulesIn f coef) (d - 1) (children (boxOf (f .n) b))) (treesBytes (rulesIn f coef) (d - 1) (drop c (children (boxOf (f .n) b)))) place buf
 
 abbrev tree-μ-loop : tree-lts.MeasureT-loop
 tree-μ-loop f coef limits d b buf₀ at n size count place₀ c₀ buf place c = count - c
@@ -70,8 +70,14 @@ abbrev Child : ℕ → Type 0
 Child t = tree-lts.After-tree (claims t) (tree-at t) tree.Post tree-Inv-loop tree-μ-loop
 
 module _ (t : ℕ) (s : Call t) where
-  abbrev plant : Plant
-  plant = plantFrom (s .args .f) (now (s .args .coef))
+  abbrev frame : Frame
+  frame = s .args .f
+
+  abbrev coef : List ℤ
+  coef = now (s .args .coef)
+
+  abbrev rules : Rules
+  rules = rulesIn frame coef
 
   abbrev box : List Side
   box = boxOf (s .args .f .n) (s .args .b)
@@ -81,8 +87,8 @@ module _ (t : ℕ) (x : Sought t) where
   abbrev modes : List ℕ
   modes = x .first .last .1 .1 .1 .1 .1 .1 .1 .0
 
-  pattern : let s = x .before .before .before in patternBy (x .first .result) modes ≡ firstPattern (rulesOf (plant t s)) (box t s)
-  pattern = let s = x .before .before .before in x .first .ensures .0 ∙ shortest-is (plant t s) (now (s .args .limits)) (s .pre .1 .0) (s .args .f .k) 0 (box t s)
+  pattern : let s = x .before .before .before in patternBy (x .first .result) modes ≡ firstPattern (rules t s) (box t s)
+  pattern = let s = x .before .before .before in x .first .ensures .0 ∙ shortest-is (frame t s) (coef t s) (now (s .args .limits)) (s .pre .1 .0) (s .args .f .k) 0 (box t s)
 
 -- whoever writes the children of a split has written its tree
 module _ (t : ℕ) (k : Split t) where
@@ -90,16 +96,16 @@ module _ (t : ℕ) (k : Split t) where
   from = k .before .before .before .before .before .before .before .before .before .before .before
 
   abbrev whole : Option (List ℕ)
-  whole = treesBytes (rulesOf (plant t from)) (from .args .d - 1) (children (box t from))
+  whole = treesBytes (rules t from) (from .args .d - 1) (children (box t from))
 
   in-box : {c : ℕ} → c < k .before .before .before .before .before .count .result → c < length (children (box t from))
   in-box h = let e = k .before .before .before .before .before .count .ensures in rw (← e) h
 
   goes : (a : Grown) (out : List ℕ) → Wrote whole (k .before .before .put-number .last .0) (k .before .before .put-number .result) a out
-      → Wrote (treeBytes (rulesOf (plant t from)) (from .args .d) (box t from)) (now (from .args .buf)) (from .args .at) a out
+      → Wrote (treeBytes (rules t from) (from .args .d) (box t from)) (now (from .args .buf)) (from .args .at) a out
   goes a out w =
       let x = k .before .before .before .before .before .before .before .before in
-      node-split (plant t from) (from .args .d) (box t from) (x .first .result) (modes t x) (pattern t x) (now (from .args .buf)) (from .args .at) (k .before .before .before .before .before .before .before .if1 .left) (k .before .before .before .before .before .before .if2 .left)
+      node-split (frame t from) (coef t from) (from .args .d) (box t from) (x .first .result) (modes t x) (pattern t x) (now (from .args .buf)) (from .args .at) (k .before .before .before .before .before .before .before .if1 .left) (k .before .before .before .before .before .before .if2 .left)
       (λ z. k .before .before .before .before .if3 .left (k .before .before .before .before .before .count .ensures ∙ z)) (k .before .before .put-number .result) (k .before .before .put-number .last .0) (k .before .before .put-number .ensures) a out w
 
   same : length (k .before .before .put-number .last .0) ≡ length (now (from .args .buf))
@@ -125,20 +131,20 @@ module _ (t : ℕ) (w : Child t) where
   stopped : w .tree .result ≡ Grown.Nothing → Wrote (whole t parent) (parent .before .before .put-number .last .0) (parent .before .before .put-number .result) Grown.Nothing left
   stopped e =
       let l = w .before .before .before .before .loop in
-      grow-stopped (rulesOf (plant t (from t parent))) (from t parent .args .d - 1) (children (box t (from t parent))) done (parent .before .before .put-number .last .0) (parent .before .before .put-number .result) (whole t parent) (l .place)
+      grow-stopped (rules t (from t parent)) (from t parent .args .d - 1) (children (box t (from t parent))) done (parent .before .before .put-number .last .0) (parent .before .before .put-number .result) (whole t parent) (l .place)
       (l .buf) (l .inv .1) [] in-count kid (w .before .before .child .ensures) (w .tree .result) left (w .tree .ensures) e
 
   goes-on : (m : ℕ) → w .tree .result ≡ Grown.Next m
-      → Growing (parent .before .before .put-number .last .0) (parent .before .before .put-number .result) (whole t parent) (treesBytes (rulesOf (plant t (from t parent))) (from t parent .args .d - 1) (drop (done + 1) (children (box t (from t parent))))) m left
+      → Growing (parent .before .before .put-number .last .0) (parent .before .before .put-number .result) (whole t parent) (treesBytes (rules t (from t parent)) (from t parent .args .d - 1) (drop (done + 1) (children (box t (from t parent))))) m left
   goes-on m e =
       let l = w .before .before .before .before .loop in
-      grow-more (rulesOf (plant t (from t parent))) (from t parent .args .d - 1) (children (box t (from t parent))) done (parent .before .before .put-number .last .0) (parent .before .before .put-number .result) (whole t parent) (l .place)
+      grow-more (rules t (from t parent)) (from t parent .args .d - 1) (children (box t (from t parent))) done (parent .before .before .put-number .last .0) (parent .before .before .put-number .result) (whole t parent) (l .place)
       (l .buf) (l .inv .1) [] in-count kid (w .before .before .child .ensures) (w .tree .result) left (w .tree .ensures) m e
 
 tree-first-requires : (t : ℕ) → tree-lts.Need-first-requires (claims t) (tree-at t) tree.Post tree-Inv-loop tree-μ-loop
 tree-first-requires t c κs =
     let s = c .before .before in
-    (lent (plant t s) (now (s .args .limits)) (s .pre .1 .0), longest (plant t s) (s .pre .1 .0 .sound), s .pre .1 .1)
+    (lent (frame t s) (coef t s) (now (s .args .limits)) (s .pre .1 .0), s .pre .1 .0 .sound .longest, s .pre .1 .1)
 
 tree-put-tile-requires : (t : ℕ) → tree-lts.Need-put-tile-requires (claims t) (tree-at t) tree.Post tree-Inv-loop tree-μ-loop
 tree-put-tile-requires t c κs = c .before .before .before .first .ensures .1 .0
@@ -151,22 +157,22 @@ tree-returns t c =
     let x = c .before .before .before .before .before .before in
     let s = x .before .before .before in
     let w = c .before .before .put-tile in
-    node-tile (plant t s) (s .args .d) (box t s) (x .first .result) (modes t x) (pattern t x) (now (s .args .buf)) (s .args .at) (c .before .before .before .before .before .if1 .taken) (w .result) (w .last .0) (w .ensures)
+    node-tile (frame t s) (coef t s) (s .args .d) (box t s) (x .first .result) (modes t x) (pattern t x) (now (s .args .buf)) (s .args .at) (c .before .before .before .before .before .if1 .taken) (w .result) (w .last .0) (w .ensures)
 
 tree-returns-2 : (t : ℕ) → tree-lts.Need-returns-2 (claims t) (tree-at t) tree.Post tree-Inv-loop tree-μ-loop
 tree-returns-2 t c =
     let x = c .before .before in
     let s = x .before .before .before in
-    node-deep (plant t s) (s .args .d) (box t s) (x .first .result) (modes t x) (pattern t x) (now (s .args .buf)) (s .args .at) (c .before .if1 .left) (c .if2 .taken)
+    node-deep (frame t s) (coef t s) (s .args .d) (box t s) (x .first .result) (modes t x) (pattern t x) (now (s .args .buf)) (s .args .at) (c .before .if1 .left) (c .if2 .taken)
 
 tree-count-requires : (t : ℕ) → tree-lts.Need-count-requires (claims t) (tree-at t) tree.Post tree-Inv-loop tree-μ-loop
-tree-count-requires t c κs = let s = c .before .before .before .before .before in rooms (plant t s) (s .pre .1 .0 .sound)
+tree-count-requires t c κs = let s = c .before .before .before .before .before in s .pre .1 .0 .sound .rooms
 
 tree-returns-3 : (t : ℕ) → tree-lts.Need-returns-3 (claims t) (tree-at t) tree.Post tree-Inv-loop tree-μ-loop
 tree-returns-3 t c =
     let x = c .before .before .before .before in
     let s = x .before .before .before in
-    node-stuck (plant t s) (s .args .d) (box t s) (x .first .result) (modes t x) (pattern t x) (now (s .args .buf)) (s .args .at) (c .before .before .before .if1 .left) (sym (c .before .count .ensures) ∙ c .if3 .taken)
+    node-stuck (frame t s) (coef t s) (s .args .d) (box t s) (x .first .result) (modes t x) (pattern t x) (now (s .args .buf)) (s .args .at) (c .before .before .before .if1 .left) (sym (c .before .count .ensures) ∙ c .if3 .taken)
 
 tree-put-number-requires : (t : ℕ) → tree-lts.Need-put-number-requires (claims t) (tree-at t) tree.Post tree-Inv-loop tree-μ-loop
 tree-put-number-requires t c κs = tt
@@ -180,7 +186,7 @@ tree-child-requires : (t : ℕ) → tree-lts.Need-child-requires (claims t) (tre
 tree-child-requires t c κs =
     let k = c .before .before in
     let s = from t k in
-    (rooms (plant t s) (s .pre .1 .0 .sound), s .pre .1 .1, in-box t k (c .loop-test .taken))
+    (s .pre .1 .0 .sound .rooms, s .pre .1 .1, in-box t k (c .loop-test .taken))
 
 tree-sub-tree : (t : ℕ) → tree-lts.Need-sub-tree (claims t) (tree-at t) tree.Post tree-Inv-loop tree-μ-loop
 tree-sub-tree t c = let z = c .before .before .before .before .before .before .before .before .before .if2 .left in omega arith
@@ -203,7 +209,7 @@ tree-enum-told t c = search needs
 tree-same-length-2 : (t : ℕ) → tree-lts.Need-same-length-2 (claims t) (tree-at t) tree.Post tree-Inv-loop tree-μ-loop
 tree-same-length-2 t c =
     let w = c .before .before .before .before in
-    wrote-length (treeBytes (rulesOf (plant t (from t (parent t w)))) (from t (parent t w) .args .d - 1) (kid t w)) _ _ (w .tree .result) (left t w) (w .tree .ensures) ∙ w .before .before .before .before .loop .inv .1 .long ∙ same t (parent t w)
+    wrote-length (treeBytes (rules t (from t (parent t w))) (from t (parent t w) .args .d - 1) (kid t w)) _ _ (w .tree .result) (left t w) (w .tree .ensures) ∙ w .before .before .before .before .loop .inv .1 .long ∙ same t (parent t w)
 
 tree-returns-4 : (t : ℕ) → tree-lts.Need-returns-4 (claims t) (tree-at t) tree.Post tree-Inv-loop tree-μ-loop
 tree-returns-4 t c =
@@ -233,7 +239,7 @@ tree-returns-5 t c =
     let l = c .before .loop in
     let n = k .before .before .before .before .before .count .ensures in
     let h = c .loop-test .left in
-    goes t k (Grown.Next (l .place)) (l .buf) (grow-done (rulesOf (plant t s)) (s .args .d - 1) (children (box t s)) (l .c) (k .before .before .put-number .last .0) (k .before .before .put-number .result) (whole t k) (l .place) (l .buf) (l .inv .1) (rw (← n) h))
+    goes t k (Grown.Next (l .place)) (l .buf) (grow-done (rules t s) (s .args .d - 1) (children (box t s)) (l .c) (k .before .before .put-number .last .0) (k .before .before .put-number .result) (whole t k) (l .place) (l .buf) (l .inv .1) (rw (← n) h))
 
 pub +tree-spec : {M : Type 1} → statement M
 +tree-spec = close μ-tree λ t. tree-lts.spec (claims t)

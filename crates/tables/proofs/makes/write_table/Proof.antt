@@ -1,68 +1,99 @@
+-- `makes::write_table`: the draft has room for the table, so that its front is the table; where there is none, 9. Assumes nothing.
+use Prim.Native.Nat.{ℕ, _≤_}
+use mathlib.Core.Path.{_≡_, sym, ap, _∙_}
+use mathlib.Core.List.{List}
+use mathlib.Core.Option.{some}
+use native.Mathlib.Omega.{arith}
+use denote.Ref.{now}
+use lib.ListN.{length}
+use lib.Seq.{length-take-le}
 use borrow.Author.Needs.{needs}
+use Rattle.meaning.specs.declared.Refusal.{Refusal}
+use Rattle.meaning.specs.Buffers.{Left, refusedWith}
+use Rattle.meaning.specs.Defined.{definedTree}
+use Rattle.meaning.specs.Rules.{Rules}
+use Rattle.meaning.specs.Trees.{Tree, tableOf}
+use Rattle.tables.specs.declared.makes.Grown.{Grown}
+use Rattle.tables.specs.Frames.{rulesIn}
+use Rattle.tables.specs.Makes.{definedLeft}
+use Rattle.tables.proofs.makes.Laws.{left-none, fits, left-drafted, defined-length}
 use Rattle.tables.proofs.makes.write_table.Statement.{statement}
 use Rattle.tables.proofs.makes.write_table.Tie as tie
-use Rattle.tables.proofs.makes.write_table.Reads as reads
-use Rattle.tables.proofs.makes.write_table.Lts as lts
-use Rattle.files.proofs.buffers.leave.Reads as leave-reads
-use Rattle.files.proofs.buffers.refuse.Reads as refuse-reads
-use Rattle.tables.proofs.makes.table.Reads as table-reads
-use Rattle.tables.proofs.refusals.no_table.Reads as no-table-reads
 
--- src/makes.rt:119:31
+-- the table was drafted
+module _ (x : tie.After-table) where
+  abbrev from : tie.Start
+  from = x .before .before .before .before
+
+  abbrev rules : Rules
+  rules = rulesIn (from .args .f) (now (from .args .coef))
+
+  abbrev buffer : List ℕ
+  buffer = now (from .args .buf)
+
+  abbrev draft : List ℕ
+  draft = x .table .last .1 .1 .0
+
+  room : (t : Tree) → definedTree rules ≡ some t → length (tableOf rules t) ≤ length (now (from .args .draft))
+  room t e = omega (arith, defined-length (from .args .f) (now (from .args .coef)) (from .pre .0) t e, from .pre .1)
+
+  inside : (size : ℕ) → x .table .result ≡ Grown.Next size → size ≤ length draft
+  inside size z = fits rules (now (from .args .draft)) buffer (x .table .result) draft (x .table .ensures) size z room
+
 table-requires : tie.Need-table-requires
 table-requires c κs = search needs
 
--- src/makes.rt:119:21
 enum-known-length : tie.Need-enum-known-length
 enum-known-length c = search needs
 
--- src/makes.rt:120:32
 enum-told : tie.Need-enum-told
 enum-told c = search needs
 
--- src/makes.rt:120:32
 no-table-requires : tie.Need-no-table-requires
 no-table-requires c κs = search needs
 
--- src/makes.rt:120:9
 refuse-requires : tie.Need-refuse-requires
 refuse-requires c κs = search needs
 
--- src/makes.rt:120:9
 same-length : tie.Need-same-length
 same-length c = search needs
 
--- src/makes.rt:120:9
 same-length-2 : tie.Need-same-length-2
 same-length-2 c = search needs
 
--- src/makes.rt:120:9
 returns : tie.Need-returns
-returns c = ?
+returns c =
+    let x = c .before .before .before .before .before .before .before .before .before in
+    let w = c .before .before .refuse in
+    let z = left-none (rules x) (now (from x .args .draft)) (buffer x) (x .table .result) (draft x) (x .table .ensures) (c .before .before .before .before .before .enum-told .given .1) in
+    let e = ap (λ (f : Refusal). refusedWith f (buffer x)) (c .before .before .before .before .no-table .ensures) ∙ z in
+    (w .ensures .0 ∙ ap (λ (l : Left). l .answer) e, w .ensures .1 ∙ ap (λ (l : Left). l .buffer) e)
 
--- src/makes.rt:122:39
 slice-reshare-prefix-leave : tie.Need-slice-reshare-prefix-leave
-slice-reshare-prefix-leave c = ?
+slice-reshare-prefix-leave c = inside (c .before .before .before .before .before) (c .before .length .given .0 .0) (c .before .length .given .1)
 
--- src/makes.rt:122:39
 slice-aggregate-leave : tie.Need-slice-aggregate-leave
-slice-aggregate-leave c = ?
+slice-aggregate-leave c =
+    let g = c .before .before .length .given in
+    let x = c .before .before .before .before .before .before in
+    sym (length-take-le (g .0 .0) (draft x) (inside x (g .0 .0) (g .1)))
 
--- src/makes.rt:122:5
 leave-requires : tie.Need-leave-requires
 leave-requires c κs = search needs
 
--- src/makes.rt:113:1
 same-length-3 : tie.Need-same-length-3
 same-length-3 c = search needs
 
--- src/makes.rt:113:1
 same-length-4 : tie.Need-same-length-4
 same-length-4 c = search needs
 
--- src/makes.rt:113:1
 returns-2 : tie.Need-returns-2
-returns-2 c = ?
+returns-2 c =
+    let x = c .before .before .before .before .before .before .before .before .before .before in
+    let g = c .before .before .before .before .before .before .length .given in
+    let w = c .before .before .leave in
+    let e = left-drafted (rules x) (now (from x .args .draft)) (buffer x) (x .table .result) (draft x) (x .table .ensures) (g .0 .0) (g .1) (room x) in
+    (w .ensures .0 ∙ ap (λ (l : Left). l .answer) e, w .ensures .1 ∙ ap (λ (l : Left). l .buffer) e)
 
 pub write-table-spec : {M : Type 1} → statement M
 write-table-spec =
