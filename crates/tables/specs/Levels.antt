@@ -8,7 +8,7 @@ use lib.IntN.{ℤ}
 use Rattle.laws.specs.Lists.{at, tab}
 use Rattle.meaning.specs.Boxes.{Side, side}
 
--- numbers of a box, and of an array: six boxes, one for each mode of the longest pattern
+-- numbers of a box, and of an array: a box for each mode of the longest pattern
 abbrev pub wide : ℕ
 wide = 8
 

@@ -45,6 +45,10 @@ bandAt = 16
 abbrev pub marksAt : ℕ
 marksAt = 24
 
+-- as many modes as there may be
+abbrev pub mostModes : ℕ
+mostModes = 16
+
 pub record Laid (n q : ℕ) (goal safe band : ℕ → Side) (limits : List ℤ) : Type 0 where
   pub in-safe : (i : ℕ) → i < n → sideIn limits safeAt i ≡ limitSide q (band i) (safe i)
   pub in-goal : (i : ℕ) → i < n → sideIn limits goalAt i ≡ limitSide q (band i) (goal i)
@@ -87,12 +91,12 @@ staysLent n coef limits u b = covered n coef limits safeAt u b
 abbrev pub landsLent : ℕ → List ℤ → List ℤ → ℕ → List Side → Bool
 landsLent n coef limits u b = covered n coef limits goalAt u b
 
+abbrev pub imageLent : ℕ → ℕ → List ℤ → List ℤ → ℕ → List Side → List Side
+imageLent n q coef limits u b = tab (dividedAt n q coef limits u b) n 0
+
 -- the rest of a pattern behind a last mode: none is left, where the image lands
 abbrev pub landing : ℕ → List ℤ → List ℤ → List Side → ℕ → Option (List ℕ)
 landing n coef limits b u = guard (landsLent n coef limits u b) none λ _. some []
-
-abbrev pub imageLent : ℕ → ℕ → List ℤ → List ℤ → ℕ → List Side → List Side
-imageLent n q coef limits u b = tab (dividedAt n q coef limits u b) n 0
 
 -- ---- what is asked
 
@@ -108,7 +112,7 @@ addLimit = 90_000_000_000
 pub record Lent (n modes q : ℕ) (coef limits : List ℤ) : Type 0 where
   pub some : 1 ≤ n
   pub rooms : n ≤ 4
-  pub few : modes ≤ 16
+  pub few : modes ≤ mostModes
   pub least : 1 ≤ q
   pub most : q ≤ 10_000
   pub rows : (u : ℕ) → u < modes → RowsSound n coef u

@@ -1,5 +1,6 @@
--- The search of a box's first pattern as loops do it, over what the modes do to boxes, whatever that is. What is left to find is said of the levels of a beginning, each a box and the mode that is tried on it; and how many turns
--- are left at most. Then the same at limits and rows. Definitions alone.
+-- The search of a box's first pattern as loops do it, over what the modes do to boxes, whatever that is. What is left to find is said of the levels
+-- of a path, each a box and the mode that is tried on it; and how many turns are left at most. Then the path in two arrays, and the same at limits
+-- and rows. Definitions alone.
 use Prim.Native.Nat.{ℕ, zero, suc, _+_, _-_, _*_, _≤_, _<_}
 use mathlib.Core.Path.{_≡_}
 use mathlib.Core.Bool.{Bool, true, false}
@@ -14,7 +15,7 @@ use Rattle.meaning.specs.Defined.{orElse, mapSome, firstMode}
 use Rattle.meaning.specs.Plants.{edgeLimit}
 use Rattle.tables.specs.Boxes.{Small}
 use Rattle.tables.specs.Levels.{room, levelIn}
-use Rattle.tables.specs.Tiles.{modeAt, patternOf}
+use Rattle.tables.specs.Tiles.{longestPattern, modeAt, patternOf}
 use Rattle.tables.specs.Limits.{staysLent, landsLent, imageLent}
 
 pub record Level : Type 0 where
@@ -117,6 +118,6 @@ module _ (n modes q : ℕ) (coef limits : List ℤ) where
   -- a level behind a mode below N is the image of the one before it, and lies in S
   pub record Standing (boxes : List ℤ) (us : List ℕ) : Type 0 where
     pub roomy : length boxes ≡ room
-    pub long : length us ≡ 6
-    pub stands : (j : ℕ) → j < 5 → modeAt us j < modes
+    pub long : length us ≡ longestPattern
+    pub stands : (j : ℕ) → suc j < longestPattern → modeAt us j < modes
         → (staysLent n coef limits (modeAt us j) (levelIn n boxes j) ≡ true) × (levelIn n boxes (suc j) ≡ imageLent n q coef limits (modeAt us j) (levelIn n boxes j))

@@ -16,7 +16,9 @@ ghost use Rattle.tables.specs.Boxes.{boxOf, Bounded, Small};
 ghost use Rattle.tables.specs.Images.{rowLimit, entriesOf, RowSound, Extremes};
 ghost use Rattle.tables.specs.Levels.{wide, room, sideIn, boxIn, stored};
 
-// The numbers of a box, and of six: one for each mode of the longest pattern.
+// The modes of the longest pattern; the numbers of a box, and of a box for each of those modes.
+pub const LONGEST: usize = 6;
+
 pub const WIDE: usize = 8;
 
 pub const ROOM: usize = 48;

@@ -18,7 +18,7 @@ ghost use Rattle.tables.specs.Boxes.{boxOf, Bounded, Small};
 ghost use Rattle.tables.specs.Frames.{FrameSound};
 ghost use Rattle.tables.specs.Images.{entriesOf, RowSound};
 ghost use Rattle.tables.specs.Levels.{room};
-ghost use Rattle.tables.specs.Limits.{limitSide, Laid, lastEntries, RowsSound, LimitsLaid};
+ghost use Rattle.tables.specs.Limits.{limitSide, mostModes, Laid, lastEntries, RowsSound, LimitsLaid};
 
 // Where the limits of S stand in the array, those of the goal, the band, and the marks.
 pub const SAFE: usize = 0;
@@ -94,7 +94,7 @@ fn same_row(n: usize, coef: &[i64; 320], a: usize, b: usize) -> bool
 
 // The mark of mode u: 1 where its last row has the entries of that of the mode before it, else 0.
 fn mark(n: usize, coef: &[i64; 320], u: usize) -> i64
-    requires { ⌜ (1 ≤ n) × (u < 16) × RowsSound n (now coef) u × (1 ≤ u → RowsSound n (now coef) (u - 1)) ⌝ }
+    requires { ⌜ (1 ≤ n) × (u < mostModes) × RowsSound n (now coef) u × (1 ≤ u → RowsSound n (now coef) (u - 1)) ⌝ }
     ensures { λ r. ⌜ ((r ≡ pos 0 → ⊥) → (1 ≤ u) × (lastEntries n (now (coef .entry)) (u - 1) ≡ lastEntries n (now (coef .entry)) u)) ⌝ }
 {
     if u == 0 {

@@ -6,6 +6,7 @@ use crate::boxes;
 use crate::boxes::Bx;
 use crate::frames;
 use crate::frames::Frame;
+use crate::levels::LONGEST;
 use crate::levels::ROOM;
 use crate::limits;
 use crate::refusals;
@@ -26,7 +27,7 @@ ghost use Rattle.promises.specs.TableLengths.{most};
 ghost use Rattle.tables.specs.Boxes.{boxOf, Small};
 ghost use Rattle.tables.specs.Frames.{rulesIn, FrameSound};
 ghost use Rattle.tables.specs.Limits.{LimitsLaid};
-ghost use Rattle.tables.specs.Tiles.{patternOf};
+ghost use Rattle.tables.specs.Tiles.{longestPattern, patternOf};
 ghost use Rattle.tables.specs.Makes.{Wrote, treeBytes, definedBytes, definedLeft};
 
 // No table has more bytes; and none of at most sixteen tiles has more than FEW, which most rooms have: zeros of 30,039 bytes would cost more than their
@@ -42,8 +43,8 @@ enum Grown {
 }
 
 // A tile of k modes: its number, then its modes, the first k of us.
-fn put_tile(buf: &mut [u8], at: usize, k: usize, us: &[usize; 6]) -> usize
-    requires { ⌜ k ≤ 6 ⌝ }
+fn put_tile(buf: &mut [u8], at: usize, k: usize, us: &[usize; LONGEST]) -> usize
+    requires { ⌜ k ≤ longestPattern ⌝ }
     ensures { λ r. ⌜ Put (now (buf .entry)) at (layout (tile (patternOf k (now (us .entry))))) r (now (buf .exit)) ⌝ }
 {
     let mut place = numbers::put_number(buf, at, k);
@@ -70,7 +71,7 @@ fn tree(
     ensures { λ r. ⌜ Wrote (treeBytes (rulesIn f (now (coef .entry))) d (boxOf (f .n) b)) (now (buf .entry)) at r (now (buf .exit)) ⌝ }
 {
     let n = f.n;
-    let mut us = [0usize; 6];
+    let mut us = [0usize; LONGEST];
     let size = search::first(n, f.modes, f.q, f.k, coef, limits, b, &mut us);
     if size != 0 {
         return Grown::Next(put_tile(buf, at, size, &us));

@@ -5,6 +5,7 @@
 // none stands there. What stands is not made again, at the next length either, and where an image leaves S nothing behind it is tried.
 use crate::boxes::Bx;
 use crate::levels;
+use crate::levels::LONGEST;
 use crate::levels::ROOM;
 use crate::levels::WIDE;
 use crate::steps;
@@ -16,7 +17,7 @@ ghost use Rattle.meaning.specs.Plants.{edgeLimit};
 ghost use Rattle.tables.specs.Boxes.{boxOf, Small};
 ghost use Rattle.tables.specs.Levels.{levelIn};
 ghost use Rattle.tables.specs.Limits.{staysLent, imageLent, Lent};
-ghost use Rattle.tables.specs.Tiles.{modeAt};
+ghost use Rattle.tables.specs.Tiles.{longestPattern, modeAt};
 ghost use Rattle.tables.specs.Search.{patternBy, shortestLent, Standing, SameTo};
 
 // Whether the image of level l under mode u lies in S; where it does it stands at level l + 1, and the modes up to u are us[0..=l].
@@ -28,10 +29,10 @@ fn descend(
     limits: &[i64; ROOM],
     l: usize,
     u: usize,
-    us: &mut [usize; 6],
+    us: &mut [usize; LONGEST],
     boxes: &mut [i64; ROOM],
 ) -> bool
-    requires lent { ⌜ Lent n count q (now coef) (now limits) × (l < 5) × (u < count) ⌝ }
+    requires lent { ⌜ Lent n count q (now coef) (now limits) × (suc l < longestPattern) × (u < count) ⌝ }
     requires level { ⌜ Standing n count q (now coef) (now limits) (now boxes) (now us) × Small edgeLimit (levelIn n (now boxes) l) ⌝ }
     ensures stays { λ r. ⌜ r ≡ staysLent n (now (coef .entry)) (now (limits .entry)) u (levelIn n (now (boxes .entry)) l) ⌝ }
     ensures standing { λ r. ⌜ Standing n count q (now (coef .entry)) (now (limits .entry)) (now (boxes .exit)) (now (us .exit)) ⌝ }
@@ -60,15 +61,15 @@ pub fn first(
     coef: &[i64; 320],
     limits: &[i64; ROOM],
     b: Bx,
-    us: &mut [usize; 6],
+    us: &mut [usize; LONGEST],
 ) -> usize
-    requires { ⌜ Lent n count q (now coef) (now limits) × (k ≤ 6) × Small edgeLimit (boxOf n b) ⌝ }
+    requires { ⌜ Lent n count q (now coef) (now limits) × (k ≤ longestPattern) × Small edgeLimit (boxOf n b) ⌝ }
     ensures pattern { λ r. ⌜ patternBy r (now (us .exit)) ≡ shortestLent n count q (now (coef .entry)) (now (limits .entry)) k (boxOf n b) ⌝ }
-    ensures size { λ r. ⌜ (r ≤ 6) × (length (now (us .exit)) ≡ 6) ⌝ }
+    ensures size { λ r. ⌜ (r ≤ longestPattern) × (length (now (us .exit)) ≡ longestPattern) ⌝ }
 {
     let mut boxes = [0i64; ROOM];
     levels::begin(n, b, &mut boxes);
-    *us = [count; 6];
+    *us = [count; LONGEST];
     let mut size: usize = 0;
     let mut m: usize = 0;
     'search: while m < k {

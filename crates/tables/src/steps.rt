@@ -25,7 +25,7 @@ ghost use Rattle.meaning.specs.Plants.{edgeLimit, bandLimit};
 ghost use Rattle.tables.specs.Boxes.{Small};
 ghost use Rattle.tables.specs.Images.{RowSound, Extremes};
 ghost use Rattle.tables.specs.Levels.{wide, room, sideIn, boxIn, Beside};
-ghost use Rattle.tables.specs.Limits.{addLimit, bandAt, marksAt, sumSide, sumsAt, covered, staysLent, landsLent, imageLent, landing, dividedIn, Within, RowsSound, lastEntries, Marked};
+ghost use Rattle.tables.specs.Limits.{addLimit, bandAt, marksAt, mostModes, sumSide, sumsAt, covered, staysLent, landsLent, imageLent, landing, dividedIn, Within, RowsSound, lastEntries, Marked};
 ghost use Rattle.tables.specs.Search.{oneOf};
 
 // The least and the greatest of A·x + b over the box at `place`, by the row that starts at `start`.
@@ -154,7 +154,7 @@ fn shared(
     boxes: &[i64; ROOM],
     place: usize,
 ) -> Span
-    requires row { ⌜ (u < 16) × (1 ≤ n) × RowsSound n (now coef) u × (place + wide ≤ room) × Small edgeLimit (boxIn n (now boxes) place) ⌝ }
+    requires row { ⌜ (u < mostModes) × (1 ≤ n) × RowsSound n (now coef) u × (place + wide ≤ room) × Small edgeLimit (boxIn n (now boxes) place) ⌝ }
     requires kept { ⌜ ((at (now limits) (marksAt + u) ≡ pos 0 → ⊥) → Extremes (lastEntries n (now coef) u) (boxIn n (now boxes) place) (e .lo) (e .hi)) ⌝ }
     ensures { λ r. ⌜ Extremes (lastEntries n (now (coef .entry)) u) (boxIn n (now (boxes .entry)) place) (r .lo) (r .hi) ⌝ }
 {
@@ -199,7 +199,7 @@ pub fn last(
     boxes: &[i64; ROOM],
     place: usize,
 ) -> usize
-    requires rows { ⌜ (1 ≤ n) × ((u : ℕ) → u < count → RowsSound n (now coef) u) × (count ≤ 16) × Marked n count (now coef) (now limits) ⌝ }
+    requires rows { ⌜ (1 ≤ n) × ((u : ℕ) → u < count → RowsSound n (now coef) u) × (count ≤ mostModes) × Marked n count (now coef) (now limits) ⌝ }
     requires edges { ⌜ (place + wide ≤ room) × Small edgeLimit (boxIn n (now boxes) place) ⌝ }
     ensures first { λ r. ⌜ oneOf count r ≡ firstMode (landing n (now (coef .entry)) (now (limits .entry)) (boxIn n (now (boxes .entry)) place)) count 0 ⌝ }
     ensures size { λ r. ⌜ r ≤ count ⌝ }

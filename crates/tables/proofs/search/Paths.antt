@@ -18,7 +18,7 @@ use Rattle.meaning.specs.Plants.{edgeLimit}
 use Rattle.tables.specs.Boxes.{Small}
 use Rattle.tables.specs.Levels.{wide, room, sideIn, levelIn, Beside}
 use Rattle.tables.specs.Limits.{staysLent, imageLent, landing, Lent}
-use Rattle.tables.specs.Tiles.{modeAt, patternOf}
+use Rattle.tables.specs.Tiles.{longestPattern, modeAt, patternOf}
 use Rattle.tables.specs.Search.{level, behind, turnsLeft, levelsBelow, Open, SameTo, oneOf, sought, rest, movesLent, Standing}
 use Rattle.tables.proofs.search.Laws.{first-same, rest-all, rest-done, rest-over, rest-pass, rest-enter, rest-found, rest-none, turns-over, turns-pass, turns-enter, turns-last, pattern-behind, below-same}
 
@@ -52,11 +52,11 @@ module _ (us : List ℕ) (N l u : ℕ) where
 
 module _ (n N q : ℕ) (coef limits : List ℤ) where
   -- at first none stands
-  pub standing-none : (boxes : List ℤ) → length boxes ≡ room → Standing n N q coef limits boxes (replicate 6 N)
-  standing-none boxes e = record { roomy = e; long = refl; stands = λ j o h. absurd (omega (arith, getD-replicate 6 j N 0 (omega arith))) }
+  pub standing-none : (boxes : List ℤ) → length boxes ≡ room → Standing n N q coef limits boxes (replicate longestPattern N)
+  standing-none boxes e = record { roomy = e; long = refl; stands = λ j o h. absurd (omega (arith, getD-replicate longestPattern j N 0 (omega arith))) }
 
   -- a level that is made stands, and those behind it no longer do
-  module _ (h : n ≤ 4) (boxes₀ : List ℤ) (us : List ℕ) (g : Standing n N q coef limits boxes₀ us) (l u : ℕ) (k : l < 5) (boxes : List ℤ) (s : Beside (wide * l + wide) boxes₀ boxes) where
+  module _ (h : n ≤ 4) (boxes₀ : List ℤ) (us : List ℕ) (g : Standing n N q coef limits boxes₀ us) (l u : ℕ) (k : suc l < longestPattern) (boxes : List ℤ) (s : Beside (wide * l + wide) boxes₀ boxes) where
     pub standing-new : staysLent n coef limits u (levelIn n boxes₀ l) ≡ true → levelIn n boxes (suc l) ≡ imageLent n q coef limits u (levelIn n boxes₀ l) → Standing n N q coef limits boxes (entered us N l u)
     standing-new e i = record {
       roomy = s .long ∙ g .roomy;
@@ -64,7 +64,7 @@ module _ (n N q : ℕ) (coef limits : List ℤ) where
       stands = λ j o m. go j o m (ℕ-discrete j l) (ℕ-discrete j (l + 1));
     }
       where
-        go : (j : ℕ) → j < 5 → modeAt (entered us N l u) j < N → Dec (j ≡ l) → Dec (j ≡ l + 1)
+        go : (j : ℕ) → suc j < longestPattern → modeAt (entered us N l u) j < N → Dec (j ≡ l) → Dec (j ≡ l + 1)
             → (staysLent n coef limits (modeAt (entered us N l u) j) (levelIn n boxes j) ≡ true)
             × (levelIn n boxes (suc j) ≡ imageLent n q coef limits (modeAt (entered us N l u) j) (levelIn n boxes j))
         go j o m (yes y) z =
@@ -152,7 +152,7 @@ module _ (n N q : ℕ) (coef limits : List ℤ) where
         from-first : rest (movesLent n N q coef limits) 0 (levelIn n boxes l) 0 (levelsBelow n boxes us l) ≡ whole
         from-first = let y : u ≡ 0 = a .fresh z h in rw (last, y) at (a .left)
 
-        pub along-found : l < 6 → v < N → some (patternOf (m + 1) (set us l v)) ≡ whole
+        pub along-found : l < longestPattern → v < N → some (patternOf (m + 1) (set us l v)) ≡ whole
         along-found few k =
             ap (λ (i : ℕ). some (patternOf (i + 1) (set us l v))) (sym z)
             ∙ ap some (sym (pattern-behind n boxes us l v (omega (arith, a .standing .long))))

@@ -8,14 +8,14 @@ use mir.Facts.{toZ-ofZ}
 use Rattle.laws.specs.Integers.{ok64}
 use Rattle.meaning.specs.Boxes.{sideAt}
 use Rattle.tables.specs.Levels.{room}
-use Rattle.tables.specs.Limits.{marksAt, Laid, Marked}
+use Rattle.tables.specs.Limits.{marksAt, mostModes, Laid, Marked}
 use Rattle.tables.proofs.limits.Laws.{laid-behind, marked-none, marked-more}
 use Rattle.tables.proofs.limits.lay.Statement.{statement}
 use Rattle.tables.proofs.limits.lay.Tie as tie
 
 abbrev Inv-loop : tie.InvT-loop
 Inv-loop f coef of₀ u₀ of u =
-    (u ≤ 16) × (length of ≡ room) × Laid (f .n) (f .q) (sideAt (f .goal .lo) (f .goal .hi)) (sideAt (f .safe .lo) (f .safe .hi)) (sideAt (f .band .lo) (f .band .hi)) of × Marked (f .n) u coef of
+    (u ≤ mostModes) × (length of ≡ room) × Laid (f .n) (f .q) (sideAt (f .goal .lo) (f .goal .hi)) (sideAt (f .safe .lo) (f .safe .hi)) (sideAt (f .band .lo) (f .band .hi)) of × Marked (f .n) u coef of
 
 abbrev μ-loop : tie.MeasureT-loop
 μ-loop f coef of₀ u₀ of u = f .modes - u
@@ -23,7 +23,7 @@ abbrev μ-loop : tie.MeasureT-loop
 lay-boxes-requires : tie.Need-lay-boxes-requires Inv-loop μ-loop
 lay-boxes-requires c κs = let g = c .pre in ((g .rooms, g .most), (g .band, g .goal, g .safe))
 
-few : (t : tie.Then1 Inv-loop μ-loop) → t .before .before .loop .u < 16
+few : (t : tie.Then1 Inv-loop μ-loop) → t .before .before .loop .u < mostModes
 few t = let h = t .if1 .taken in let k = t .before .before .before .before .before .pre .modes in omega arith
 
 loop-holds : tie.Need-loop-holds Inv-loop μ-loop

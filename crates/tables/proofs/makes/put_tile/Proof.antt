@@ -6,13 +6,13 @@ use denote.Ref.{now}
 use Rattle.laws.specs.Tabs.{tab-all}
 use Rattle.laws.specs.Writing.{Under, under-none, under-more, under-done, put-length}
 use Rattle.meaning.specs.Trees.{modesBytes}
-use Rattle.tables.specs.Tiles.{modeAt, patternOf}
+use Rattle.tables.specs.Tiles.{longestPattern, modeAt, patternOf}
 use Rattle.tables.proofs.makes.Laws.{modesFrom, tile-whole, tile-mode, tile-end}
 use Rattle.tables.proofs.makes.put_tile.Statement.{statement}
 use Rattle.tables.proofs.makes.put_tile.Tie as tie
 
 abbrev Inv-loop : tie.InvT-loop
-Inv-loop buf₀ at k us place₀ j₀ buf place j = (j ≤ 6) × Under buf₀ place₀ (modesBytes (patternOf k us)) (modesFrom k us j) place buf
+Inv-loop buf₀ at k us place₀ j₀ buf place j = (j ≤ longestPattern) × Under buf₀ place₀ (modesBytes (patternOf k us)) (modesFrom k us j) place buf
 
 abbrev μ-loop : tie.MeasureT-loop
 μ-loop buf₀ at k us place₀ j₀ buf place j = k - j
@@ -26,7 +26,7 @@ loop-holds c =
     let a = c .before .before .before .before .before .args in
     (omega arith, rw (tab-all (modeAt (now (a .us))) (a .k)) (under-none (w .last .0) (w .result) (modesBytes (patternOf (a .k) (now (a .us)))) (omega (arith, w .ensures .place, put-length (w .ensures)))))
 
-few : (c : tie.In-loop Inv-loop μ-loop) → c .before .loop .j < 6
+few : (c : tie.In-loop Inv-loop μ-loop) → c .before .loop .j < longestPattern
 few c = let h = c .loop-test .taken in let k = c .before .before .before .before .before .before .before .pre in omega arith
 
 mul-u : tie.Need-mul-u Inv-loop μ-loop

@@ -13,7 +13,7 @@ use Rattle.meaning.specs.Plants.{edgeLimit}
 use Rattle.tables.specs.Boxes.{boxOf, Small}
 use Rattle.tables.specs.Levels.{levelIn}
 use Rattle.tables.specs.Search.{Moves, movesLent, sought, soughtFrom, shortestLent, Standing}
-use Rattle.tables.specs.Tiles.{modeAt}
+use Rattle.tables.specs.Tiles.{longestPattern, modeAt}
 use Rattle.tables.proofs.search.Laws.{lengths-all, lengths-done, lengths-found, lengths-next}
 use Rattle.tables.proofs.search.Paths.{standing-none, Along, turnsAlong, along-start, along-done, along-up, along-found, along-none, along-on, along-down}
 use Rattle.tables.proofs.search.first.Statement.{statement}
@@ -57,7 +57,7 @@ module _ (c : tie.At-loop Inv-loop μ-loop Inv-search μ-search) where
   abbrev from : tie.Start Inv-loop μ-loop Inv-search μ-search
   from = call outer
 
-  few : outer .search .m < 6
+  few : outer .search .m < longestPattern
   few = let h = c .before .search-test .taken in let k = from .pre .1 in omega arith
 
   low : c .loop .l ≤ outer .search .m
