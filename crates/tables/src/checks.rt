@@ -37,8 +37,7 @@ fn judge(f: Frame, coef: &[i64; 320], table: &[u8]) -> Verdict
     }
 }
 
-// The verdict on a table's file for a plant's file: number, place and step of the first fault, or accepted. The coefficients are copied out of the
-// plant once, and lent from then on.
+// The verdict on a table's file for a plant's file: number, place and step of the first fault, or accepted.
 pub fn check(plant: &[u8], table: &[u8]) -> Verdict
     ensures { λ r. ⌜ r ≡ checked (now (plant .entry)) (now (table .entry)) ⌝ }
 {
@@ -48,8 +47,7 @@ pub fn check(plant: &[u8], table: &[u8]) -> Verdict
         Verdict::Refused(e) => Verdict::Refused(e),
         Verdict::Accepted => {
             let p = read.plant;
-            let coef = p.coef;
-            judge(frames::framed(p), &coef, table)
+            judge(frames::framed(p), &p.coef, table)
         }
     }
 }

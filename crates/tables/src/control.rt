@@ -109,8 +109,7 @@ pub fn control(plant: &[u8], table: &[u8], st: State, x: [i64; 4]) -> Answer
         Verdict::Refused(e) => Answer::Refused(e),
         Verdict::Accepted => {
             let p = read.plant;
-            let coef = p.coef;
-            call(frames::framed(p), &coef, table, st, x)
+            call(frames::framed(p), &p.coef, table, st, x)
         }
     }
 }

@@ -123,7 +123,7 @@ fn write_table(f: Frame, coef: &[i64; 320], draft: &mut [u8], buf: &mut [u8]) ->
     buffers::leave(Verdict::Accepted, &draft[..length], buf)
 }
 
-// The table's file for a plant's file: plant, 9, 10. The coefficients are copied out of the plant once, and lent from then on.
+// The table's file for a plant's file: plant, 9, 10.
 pub fn make(plant: &[u8], buf: &mut [u8]) -> Written
     ensures answer { λ r. ⌜ r ≡ makerLeft (now (plant .entry)) (now (buf .entry)) .answer ⌝ }
     ensures bytes { λ r. ⌜ now (buf .exit) ≡ makerLeft (now (plant .entry)) (now (buf .entry)) .buffer ⌝ }
@@ -134,14 +134,13 @@ pub fn make(plant: &[u8], buf: &mut [u8]) -> Written
         Verdict::Refused(e) => buffers::refuse(e, buf),
         Verdict::Accepted => {
             let p = read.plant;
-            let coef = p.coef;
             let f = frames::framed(p);
             if f.n * f.d <= 4 {
                 let mut few = [0u8; FEW];
-                return write_table(f, &coef, &mut few, buf);
+                return write_table(f, &p.coef, &mut few, buf);
             }
             let mut draft = [0u8; MOST];
-            write_table(f, &coef, &mut draft, buf)
+            write_table(f, &p.coef, &mut draft, buf)
         }
     }
 }

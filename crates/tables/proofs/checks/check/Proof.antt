@@ -35,7 +35,7 @@ judge-requires : tie.Need-judge-requires
 judge-requires c κs =
     let t = c .before .before .before .before in
     let p = t .before .before .read-plant .result .plant in
-    framed-sound p (judged-sound (now (t .before .before .before .before .before .args .plant)) p (taken t)) (c .before .framed .result) (c .before .framed .ensures)
+    framed-sound p (judged-sound (now (t .before .before .before .before .before .args .plant)) p (taken t)) (c .before .before .framed .result) (c .before .before .framed .ensures)
 
 returns : tie.Need-returns
 returns c =
@@ -49,7 +49,7 @@ returns-2 c =
     let t = c .before .before .before .before .before in
     let a = t .before .before .before .before .before .args in
     let p = t .before .before .read-plant .result .plant in
-    c .judge .ensures ∙ ap (λ (f : Frame). verdict (rulesIn f (p .coef)) (now (a .table))) (c .before .before .framed .ensures)
+    c .judge .ensures ∙ ap (λ (f : Frame). verdict (rulesIn f (p .coef)) (now (a .table))) (c .before .before .before .framed .ensures)
     ∙ sym (checked-as (now (a .plant)) p (taken t) (now (a .table)))
 
 pub check-spec : {M : Type 1} → statement M

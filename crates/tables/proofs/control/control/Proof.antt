@@ -35,7 +35,7 @@ call-requires : tie.Need-call-requires
 call-requires c κs =
     let t = c .before .before .before .before in
     let p = t .before .before .read-plant .result .plant in
-    framed-sound p (judged-sound (now (t .before .before .before .before .before .args .plant)) p (taken t)) (c .before .framed .result) (c .before .framed .ensures)
+    framed-sound p (judged-sound (now (t .before .before .before .before .before .args .plant)) p (taken t)) (c .before .before .framed .result) (c .before .before .framed .ensures)
 
 returns : tie.Need-returns
 returns c =
@@ -49,7 +49,7 @@ returns-2 c =
     let t = c .before .before .before .before .before in
     let a = t .before .before .before .before .before .args in
     let p = t .before .before .read-plant .result .plant in
-    c .call .ensures ∙ ap (λ (f : Frame). call (rulesIn f (p .coef)) (now (a .table)) (a .st) (a .x)) (c .before .before .framed .ensures)
+    c .call .ensures ∙ ap (λ (f : Frame). call (rulesIn f (p .coef)) (now (a .table)) (a .st) (a .x)) (c .before .before .before .framed .ensures)
     ∙ sym (controlled-as (now (a .plant)) p (taken t) (now (a .table)) (a .st) (a .x))
 
 pub control-spec : {M : Type 1} → statement M

@@ -25,19 +25,19 @@ use Rattle.tables.proofs.makes.make.Tie as tie
 -- the plant was taken apart
 module _ (x : tie.After-framed) where
   abbrev file : List ℕ
-  file = now (x .before .before .before .before .before .before .before .before .args .plant)
+  file = now (x .before .before .before .before .before .before .before .args .plant)
 
   abbrev buffer : List ℕ
-  buffer = now (x .before .before .before .before .before .before .before .before .args .buf)
+  buffer = now (x .before .before .before .before .before .before .before .args .buf)
 
   abbrev plant : Plant
-  plant = x .before .before .before .before .before .read-plant .result .plant
+  plant = x .before .before .before .before .read-plant .result .plant
 
   abbrev frame : Frame
   frame = x .framed .result
 
   good-plant : plantJudged file ≡ good plant
-  good-plant = let y = x .before .before .before .before .before .read-plant in read-good (plantJudged file) (y .result) (y .ensures) (x .before .before .before .enum-told .given .1)
+  good-plant = let y = x .before .before .before .before .read-plant in read-good (plantJudged file) (y .result) (y .ensures) (x .before .before .enum-told .given .1)
 
   sound : FrameSound frame (plant .coef)
   sound = framed-sound plant (judged-sound file plant good-plant) frame (x .framed .ensures)
@@ -69,9 +69,9 @@ slice-aggregate-write-table c = search needs
 
 write-table-requires : tie.Need-write-table-requires
 write-table-requires c κs =
-    let x = c .before .before .before .before .before in
+    let x = c .before .before .before .before .before .before in
     let g = sound x in
-    (g, omega (arith, cap-few (frame x .n) (frame x .d) (g .some) (g .rooms) (c .before .before .before .if1 .taken)))
+    (g, omega (arith, cap-few (frame x .n) (frame x .d) (g .some) (g .rooms) (c .before .before .before .before .if1 .taken)))
 
 same-length : tie.Need-same-length
 same-length c = search needs
@@ -79,7 +79,7 @@ same-length c = search needs
 returns : tie.Need-returns
 returns c =
     let w = c .before .before .before .write-table in
-    let e = own (c .before .before .before .before .before .before .before .before .before) in
+    let e = own (c .before .before .before .before .before .before .before .before .before .before) in
     (w .ensures .0 ∙ ap (λ (l : Left). l .answer) e, w .ensures .1 ∙ ap (λ (l : Left). l .buffer) e)
 
 slice-aggregate-write-table-2 : tie.Need-slice-aggregate-write-table-2
@@ -87,7 +87,7 @@ slice-aggregate-write-table-2 c = search needs
 
 write-table-requires-2 : tie.Need-write-table-requires-2
 write-table-requires-2 c κs =
-    let x = c .before .before .before .before .before in
+    let x = c .before .before .before .before .before .before in
     let g = sound x in
     (g, omega (arith, cap (frame x .n) (frame x .d) (g .some) (g .rooms) (g .depth) (g .tiles)))
 
@@ -109,7 +109,7 @@ same-length-3 c = search needs
 returns-3 : tie.Need-returns-3
 returns-3 c =
     let w = c .before .before .before .write-table2 in
-    let e = own (c .before .before .before .before .before .before .before .before .before) in
+    let e = own (c .before .before .before .before .before .before .before .before .before .before) in
     (w .ensures .0 ∙ ap (λ (l : Left). l .answer) e, w .ensures .1 ∙ ap (λ (l : Left). l .buffer) e)
 
 pub make-spec : {M : Type 1} → statement M
