@@ -3,8 +3,9 @@
 use Prim.Native.Nat.{ℕ, _*_, _≤_, _<_}
 use mathlib.Core.Path.{_≡_}
 use mathlib.Core.Bool.{true}
-use mathlib.Core.List.{List}
+use mathlib.Core.List.{List, [], _∷_}
 use lib.IntN.{ℤ, pos, _-ℤ_}
+use lib.ListN.{getD}
 use lib.Signed.{_≤ℤ_}
 use Rattle.laws.specs.Lists.{at}
 use Rattle.meaning.specs.declared.Plant.{Plant}
@@ -15,6 +16,7 @@ use Rattle.meaning.specs.Rules.{Rules}
 use Rattle.meaning.specs.Tables.{rulesFrom}
 use Rattle.tables.specs.declared.boxes.Bx.{Bx}
 use Rattle.tables.specs.declared.frames.Frame.{Frame}
+use Rattle.tables.specs.declared.frames.Counts.{Counts}
 use Rattle.tables.specs.Boxes.{boxOf, Small}
 use Rattle.tables.specs.Images.{stepFrom, RowSound}
 
@@ -33,6 +35,27 @@ frameOf p = record {
   goal = boxFrom (p .rlo) (p .rhi);
   safe = boxFrom (p .slo) (p .shi);
   band = boxFrom (p .wlo) (p .whi);
+}
+
+-- a frame taken apart: its numbers, and the edges of its boxes, lows and highs of each
+abbrev pub countsOf : Frame → Counts
+countsOf f = record { n = f .n; modes = f .modes; q = f .q; k = f .k; d = f .d }
+
+abbrev pub edgesOf : Frame → List (List ℤ)
+edgesOf f = f .root .lo ∷ f .root .hi ∷ f .goal .lo ∷ f .goal .hi ∷ f .safe .lo ∷ f .safe .hi ∷ f .band .lo ∷ f .band .hi ∷ []
+
+-- and put together again
+abbrev pub frameFrom : Counts → List (List ℤ) → Frame
+frameFrom c edges = record {
+  n = c .n;
+  modes = c .modes;
+  q = c .q;
+  k = c .k;
+  d = c .d;
+  root = boxFrom (getD edges 0 []) (getD edges 1 []);
+  goal = boxFrom (getD edges 2 []) (getD edges 3 []);
+  safe = boxFrom (getD edges 4 []) (getD edges 5 []);
+  band = boxFrom (getD edges 6 []) (getD edges 7 []);
 }
 
 -- what mode u does

@@ -23,7 +23,17 @@ fn judge(f: Frame, coef: &[i64; 320], table: &[u8]) -> Verdict
         Walk::Refused(e) => Verdict::Refused(e),
         Walk::Next(at) => {
             let root = f.root;
-            match walks::walk(f, coef, true, table, f.d, at, root) {
+            let edges = frames::edges_of(f);
+            match walks::walk(
+                frames::counts_of(f),
+                &edges,
+                coef,
+                true,
+                table,
+                f.d,
+                at,
+                root,
+            ) {
                 Walk::Refused(e) => Verdict::Refused(e),
                 Walk::Next(next) => {
                     if next == table.len() {

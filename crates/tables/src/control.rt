@@ -56,10 +56,22 @@ fn idle_call(
 {
     match admit(place == 0, f.n, f.root, x) {
         Verdict::Refused(e) => Answer::Refused(e),
-        Verdict::Accepted => match finds::find(f, coef, table, f.d, at, f.root, x) {
-            Found::Refused(e) => Answer::Refused(e),
-            Found::Tile(from, k) => states::answer(table, from, k),
-        },
+        Verdict::Accepted => {
+            let edges = frames::edges_of(f);
+            match finds::find(
+                frames::counts_of(f),
+                &edges,
+                coef,
+                table,
+                f.d,
+                at,
+                f.root,
+                x,
+            ) {
+                Found::Refused(e) => Answer::Refused(e),
+                Found::Tile(from, k) => states::answer(table, from, k),
+            }
+        }
     }
 }
 
@@ -107,9 +119,6 @@ pub fn control(plant: &[u8], table: &[u8], st: State, x: [i64; 4]) -> Answer
     let verdict = read.verdict;
     match verdict {
         Verdict::Refused(e) => Answer::Refused(e),
-        Verdict::Accepted => {
-            let p = read.plant;
-            call(frames::framed(p), &p.coef, table, st, x)
-        }
+        Verdict::Accepted => { call(frames::framed(read.plant), &read.plant.coef, table, st, x) }
     }
 }

@@ -3,7 +3,7 @@
 // Relies on walks, modes and boxes, and on crate files for numbers. Leaves out whether R holds the reading, and what the tile's modes answer.
 use crate::boxes;
 use crate::boxes::Bx;
-use crate::frames::Frame;
+use crate::frames::Counts;
 use crate::modes;
 use crate::refusals;
 use crate::walks;
@@ -17,7 +17,7 @@ ghost use Rattle.meaning.specs.Control.{find, tileFound};
 ghost use Rattle.meaning.specs.Plants.{edgeLimit};
 ghost use Rattle.meaning.specs.Verdicts.{modesAt};
 ghost use Rattle.tables.specs.Boxes.{boxOf, Small};
-ghost use Rattle.tables.specs.Frames.{rulesIn, FrameSound};
+ghost use Rattle.tables.specs.Frames.{frameFrom, rulesIn, FrameSound};
 
 // A tile of k modes at `from`: found, once they are all read.
 fn tile(modes: usize, k: usize, table: &[u8], from: usize) -> Found
@@ -34,7 +34,8 @@ fn tile(modes: usize, k: usize, table: &[u8], from: usize) -> Found
 
 // The tile in the tree at `at`, over box b with depth d left.
 pub fn find(
-    f: Frame,
+    f: Counts,
+    edges: &[[i64; 4]; 8],
     coef: &[i64; 320],
     table: &[u8],
     d: usize,
@@ -42,8 +43,8 @@ pub fn find(
     b: Bx,
     x: [i64; 4],
 ) -> Found
-    requires { ⌜ FrameSound f (now coef) × Small edgeLimit (boxOf (f .n) b) ⌝ }
-    ensures { λ r. ⌜ r ≡ find (rulesIn f (now (coef .entry))) d (now (table .entry)) at (boxOf (f .n) b) x ⌝ }
+    requires { ⌜ FrameSound (frameFrom f (now edges)) (now coef) × Small edgeLimit (boxOf (f .n) b) ⌝ }
+    ensures { λ r. ⌜ r ≡ find (rulesIn (frameFrom f (now (edges .entry))) (now (coef .entry))) d (now (table .entry)) at (boxOf (f .n) b) x ⌝ }
 {
     let Number::Value(k, next) = numbers::number(table, at) else {
         return Found::Refused(files::refusals::broken(at));
@@ -64,9 +65,9 @@ pub fn find(
     while c < count {
         let child = boxes::child(n, b, c);
         if n <= boxes::missed(n, child, x) {
-            return find(f, coef, table, d - 1, place, child, x);
+            return find(f, edges, coef, table, d - 1, place, child, x);
         }
-        match walks::walk(f, coef, false, table, d - 1, place, child) {
+        match walks::walk(f, edges, coef, false, table, d - 1, place, child) {
             Walk::Refused(e) => {
                 return Found::Refused(e);
             }

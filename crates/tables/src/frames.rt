@@ -3,7 +3,7 @@
 use crate::boxes::Bx;
 use meaning::Plant;
 ghost use mathlib.Core.Path.{_≡_};
-ghost use Rattle.tables.specs.Frames.{frameOf};
+ghost use Rattle.tables.specs.Frames.{frameOf, countsOf, edgesOf};
 
 // The box that is tiled, the box that patterns end in, the box that nothing may leave; the band as a box; the rest as in a plant.
 pub struct Frame {
@@ -39,4 +39,44 @@ pub fn framed(p: Plant) -> Frame
         safe: Bx { lo: slo, hi: shi },
         band: Bx { lo: wlo, hi: whi },
     }
+}
+
+// A frame taken apart, for the functions that call themselves: its numbers by value, and its boxes lent, so that no call copies a box.
+pub struct Counts {
+    pub n: usize,
+    pub modes: usize,
+    pub q: usize,
+    pub k: usize,
+    pub d: usize,
+}
+
+pub fn counts_of(f: Frame) -> Counts
+    ensures { λ r. ⌜ r ≡ countsOf f ⌝ }
+{
+    Counts {
+        n: f.n,
+        modes: f.modes,
+        q: f.q,
+        k: f.k,
+        d: f.d,
+    }
+}
+
+// Lows and highs of the box that is tiled, of the box that patterns end in, of the box that nothing may leave, and of the band.
+pub fn edges_of(f: Frame) -> [[i64; 4]; 8]
+    ensures { λ r. ⌜ r ≡ edgesOf f ⌝ }
+{
+    let root = f.root;
+    let goal = f.goal;
+    let safe = f.safe;
+    let band = f.band;
+    let rlo = root.lo;
+    let rhi = root.hi;
+    let glo = goal.lo;
+    let ghi = goal.hi;
+    let slo = safe.lo;
+    let shi = safe.hi;
+    let wlo = band.lo;
+    let whi = band.hi;
+    [rlo, rhi, glo, ghi, slo, shi, wlo, whi]
 }

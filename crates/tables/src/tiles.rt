@@ -3,43 +3,51 @@
 // An image that lies in S is a box of small edges again, so the next one is in range.
 use crate::boxes;
 use crate::boxes::Bx;
-use crate::frames::Frame;
+use crate::frames::Counts;
 use crate::images;
 use meaning::Rule;
 ghost use mathlib.Core.Path.{_≡_};
 ghost use Rattle.meaning.specs.Plants.{edgeLimit};
 ghost use Rattle.meaning.specs.Rules.{rule};
 ghost use Rattle.tables.specs.Boxes.{boxOf, Small};
-ghost use Rattle.tables.specs.Frames.{rulesIn, FrameSound};
+ghost use Rattle.tables.specs.Frames.{frameFrom, rulesIn, FrameSound};
 ghost use Rattle.tables.specs.Tiles.{patternOf, Pattern};
 
 // The first k modes of us, tried on box b. Leaving S is told before missing R.
-pub fn tile_rule(f: Frame, coef: &[i64; 320], k: usize, us: [usize; 6], b: Bx) -> Rule
-    requires plant { ⌜ FrameSound f (now coef) × Small edgeLimit (boxOf (f .n) b) ⌝ }
+pub fn tile_rule(
+    f: Counts,
+    edges: &[[i64; 4]; 8],
+    coef: &[i64; 320],
+    k: usize,
+    us: [usize; 6],
+    b: Bx,
+) -> Rule
+    requires plant { ⌜ FrameSound (frameFrom f (now edges)) (now coef) × Small edgeLimit (boxOf (f .n) b) ⌝ }
     requires pattern { ⌜ Pattern (f .modes) k us ⌝ }
-    ensures { λ r. ⌜ r ≡ rule (rulesIn f (now (coef .entry))) (boxOf (f .n) b) (patternOf k us) ⌝ }
+    ensures { λ r. ⌜ r ≡ rule (rulesIn (frameFrom f (now (edges .entry))) (now (coef .entry))) (boxOf (f .n) b) (patternOf k us) ⌝ }
 {
-    let n = f.n;
-    let q = f.q;
-    let band = f.band;
-    let wlo = band.lo;
-    let whi = band.hi;
-    let safe = f.safe;
+    let glo = edges[2];
+    let ghi = edges[3];
+    let slo = edges[4];
+    let shi = edges[5];
+    let wlo = edges[6];
+    let whi = edges[7];
+    let goal = Bx { lo: glo, hi: ghi };
+    let safe = Bx { lo: slo, hi: shi };
     let mut c = b;
     let mut i: usize = 0;
     while i < k {
         let u = us[i];
         let lo = c.lo;
         let hi = c.hi;
-        c = images::image(n, q, &wlo, &whi, coef, u, &lo, &hi);
-        if boxes::within(n, c, safe) {
+        c = images::image(f.n, f.q, &wlo, &whi, coef, u, &lo, &hi);
+        if boxes::within(f.n, c, safe) {
             i += 1;
         } else {
             return Rule::Leaves(i + 1);
         }
     }
-    let goal = f.goal;
-    if boxes::within(n, c, goal) {
+    if boxes::within(f.n, c, goal) {
         Rule::Works
     } else {
         Rule::Misses(k)

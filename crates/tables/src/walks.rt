@@ -4,7 +4,7 @@
 // stands behind it.
 use crate::boxes;
 use crate::boxes::Bx;
-use crate::frames::Frame;
+use crate::frames::Counts;
 use crate::modes;
 use crate::refusals;
 use crate::tiles;
@@ -17,12 +17,13 @@ ghost use Prim.Native.Nat.{_≤_};
 ghost use Rattle.meaning.specs.Plants.{edgeLimit};
 ghost use Rattle.meaning.specs.Verdicts.{onModes, modesAt};
 ghost use Rattle.tables.specs.Boxes.{boxOf, Small};
-ghost use Rattle.tables.specs.Frames.{rulesIn, FrameSound};
+ghost use Rattle.tables.specs.Frames.{frameFrom, rulesIn, FrameSound};
 ghost use Rattle.tables.specs.Walks.{judgeBy, walkBy};
 
 // The tile at `at`, whose k modes begin at `from`: all of them are read before an image is tested. A fault of the pattern is told at the tile.
 fn tile(
-    f: Frame,
+    f: Counts,
+    edges: &[[i64; 4]; 8],
     coef: &[i64; 320],
     judged: bool,
     table: &[u8],
@@ -31,9 +32,9 @@ fn tile(
     from: usize,
     b: Bx,
 ) -> Walk
-    requires frame { ⌜ FrameSound f (now coef) × Small edgeLimit (boxOf (f .n) b) ⌝ }
+    requires frame { ⌜ FrameSound (frameFrom f (now edges)) (now coef) × Small edgeLimit (boxOf (f .n) b) ⌝ }
     requires size { ⌜ k ≤ f .k ⌝ }
-    ensures { λ r. ⌜ r ≡ onModes (modesAt (f .modes) k (now (table .entry)) from) at (judgeBy judged (rulesIn f (now (coef .entry))) (boxOf (f .n) b)) ⌝ }
+    ensures { λ r. ⌜ r ≡ onModes (modesAt (f .modes) k (now (table .entry)) from) at (judgeBy judged (rulesIn (frameFrom f (now (edges .entry))) (now (coef .entry))) (boxOf (f .n) b)) ⌝ }
 {
     let read = modes::read_modes(f.modes, k, table, from);
     let past = read.answer;
@@ -42,7 +43,7 @@ fn tile(
     };
     if judged {
         let us = read.us;
-        match tiles::tile_rule(f, coef, k, us, b) {
+        match tiles::tile_rule(f, edges, coef, k, us, b) {
             Rule::Works => Walk::Next(next),
             Rule::Leaves(i) => Walk::Refused(refusals::leaves(at, i)),
             Rule::Misses(i) => Walk::Refused(refusals::misses(at, i)),
@@ -54,7 +55,8 @@ fn tile(
 
 // The tree at `at`, over box b with depth d left: the place behind it, or the first fault in file order.
 pub fn walk(
-    f: Frame,
+    f: Counts,
+    edges: &[[i64; 4]; 8],
     coef: &[i64; 320],
     judged: bool,
     table: &[u8],
@@ -62,8 +64,8 @@ pub fn walk(
     at: usize,
     b: Bx,
 ) -> Walk
-    requires { ⌜ FrameSound f (now coef) × Small edgeLimit (boxOf (f .n) b) ⌝ }
-    ensures { λ r. ⌜ r ≡ walkBy judged (rulesIn f (now (coef .entry))) d (now (table .entry)) at (boxOf (f .n) b) ⌝ }
+    requires { ⌜ FrameSound (frameFrom f (now edges)) (now coef) × Small edgeLimit (boxOf (f .n) b) ⌝ }
+    ensures { λ r. ⌜ r ≡ walkBy judged (rulesIn (frameFrom f (now (edges .entry))) (now (coef .entry))) d (now (table .entry)) at (boxOf (f .n) b) ⌝ }
 {
     let Number::Value(k, next) = numbers::number(table, at) else {
         return Walk::Refused(files::refusals::broken(at));
@@ -72,7 +74,7 @@ pub fn walk(
         return Walk::Refused(refusals::bad_table(at));
     }
     if 0 < k {
-        return tile(f, coef, judged, table, at, k, next, b);
+        return tile(f, edges, coef, judged, table, at, k, next, b);
     }
     if d == 0 {
         return Walk::Refused(refusals::bad_table(at));
@@ -86,7 +88,7 @@ pub fn walk(
     let mut c: usize = 0;
     while c < count {
         let child = boxes::child(n, b, c);
-        let past = walk(f, coef, judged, table, d - 1, place, child);
+        let past = walk(f, edges, coef, judged, table, d - 1, place, child);
         let Walk::Next(m) = past else {
             return past;
         };

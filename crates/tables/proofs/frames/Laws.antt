@@ -1,18 +1,19 @@
--- What a sound frame gives, each mode's step in its ranges; and that a sound plant's own frame is sound. The only page that looks into `Sound`. Assumes
--- nothing.
+-- What a sound frame gives, each mode's step in its ranges; that a frame taken apart is the frame; and that a sound plant's own frame is sound. The only
+-- page that looks into `Sound`. Assumes nothing.
 use Prim.Native.Nat.{ℕ, _+_, _*_, _≤_, _<_}
-use mathlib.Core.Path.{_≡_}
+use mathlib.Core.Path.{_≡_, refl}
 use mathlib.Core.List.{List}
 use native.Mathlib.Omega.{arith}
 use native.Mathlib.Nat.{mul-le-mul}
 use lib.IntN.{ℤ}
 use Rattle.meaning.specs.declared.Plant.{Plant}
 use Rattle.meaning.specs.Boxes.{sideAt, sidesOf}
-use Rattle.meaning.specs.Plants.{rowStart}
+use Rattle.meaning.specs.Plants.{edgeLimit, rowStart}
 use Rattle.tables.specs.declared.frames.Frame.{Frame}
-use Rattle.tables.specs.Boxes.{Small}
+use Rattle.tables.specs.declared.frames.Counts.{Counts}
+use Rattle.tables.specs.Boxes.{boxOf, Small}
 use Rattle.tables.specs.Images.{RowSound, StepSound}
-use Rattle.tables.specs.Frames.{frameOf, FrameSound}
+use Rattle.tables.specs.Frames.{frameOf, countsOf, edgesOf, frameFrom, FrameSound}
 use Rattle.promises.specs.Sound.{Edges, Sound}
 use Rattle.tables.proofs.boxes.Laws.{small-tab}
 
@@ -20,6 +21,15 @@ use Rattle.tables.proofs.boxes.Laws.{small-tab}
 
 pub step-in : (f : Frame) (coef : List ℤ) → FrameSound f coef → (u : ℕ) → u < f .modes → StepSound (f .n) (f .q) (f .band .lo) (f .band .hi) coef u
 step-in f coef g u h = record { rooms = g .rooms; least = g .least; most = g .most; bands = g .band; rows = λ i k. g .rows u i h k }
+
+-- ---- a frame taken apart: what is asked of it over the box that it tiles, and what is answered for it, are those of the frame
+
+module _ (f : Frame) (c : Counts) (edges : List (List ℤ)) (p : c ≡ countsOf f) (q : edges ≡ edgesOf f) where
+  pub lent-sound : (coef : List ℤ) → FrameSound f coef → FrameSound (frameFrom c edges) coef × Small edgeLimit (boxOf (c .n) (f .root))
+  lent-sound coef g = rw (p, q) (g, g .root)
+
+  pub lent-same : {A : Type 0} (answer : Counts → List (List ℤ) → A) → answer c edges ≡ answer (countsOf f) (edgesOf f)
+  lent-same answer = rw (p, q) refl
 
 -- ---- a plant's own frame
 

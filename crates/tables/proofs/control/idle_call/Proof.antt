@@ -1,12 +1,15 @@
 -- `control::idle_call`: each answer cites its law. Assumes nothing.
 use Prim.Native.Nat.{ℕ}
-use mathlib.Core.Path.{sym, ap, _∙_}
+use mathlib.Core.Path.{_≡_, sym, ap, _∙_}
 use mathlib.Core.List.{List}
 use denote.Ref.{now}
 use borrow.Author.Needs.{needs}
-use Rattle.meaning.specs.Control.{onFound}
+use Rattle.meaning.specs.declared.Found.{Found}
+use Rattle.meaning.specs.Control.{onFound, find, idleCall}
 use Rattle.meaning.specs.Rules.{Rules}
-use Rattle.tables.specs.Frames.{rulesIn}
+use Rattle.tables.specs.Boxes.{boxOf}
+use Rattle.tables.specs.Frames.{frameFrom, rulesIn}
+use Rattle.tables.proofs.frames.Laws.{lent-sound, lent-same}
 use Rattle.tables.proofs.control.Laws.{idle-refused, idle-finds}
 use Rattle.tables.proofs.control.idle_call.Statement.{statement}
 use Rattle.tables.proofs.control.idle_call.Tie as tie
@@ -18,6 +21,26 @@ module _ (s : tie.Start) where
   abbrev bytes : List ℕ
   bytes = now (s .args .table)
 
+-- the tile was looked for
+module _ (c : tie.After-find) where
+  abbrev start : tie.Start
+  start = c .before .before .before .before .before .before .before .before
+
+  -- what was answered for the frame taken apart
+  sought : c .find .result ≡ find (rules start) (start .args .f .d) (bytes start) (start .args .at) (boxOf (start .args .f .n) (start .args .f .root)) (start .args .x)
+  sought =
+      let k = c .before .before .counts-of in
+      let e = c .before .before .before .edges-of in
+      c .find .ensures
+      ∙ lent-same (start .args .f) (k .result) (e .result) (k .ensures) (e .ensures)
+      (λ k e. find (rulesIn (frameFrom k e) (now (start .args .coef))) (start .args .f .d) (bytes start) (start .args .at) (boxOf (k .n) (start .args .f .root)) (start .args .x))
+
+  found : (o : Found) → c .find .result ≡ o → onFound (bytes start) o ≡ idleCall (rules start) (bytes start) (start .args .at) (start .args .place) (start .args .x)
+  found o e =
+      let v = c .before .before .before .before .before .before .admit in
+      ap (onFound (bytes start)) (sym e ∙ sought)
+      ∙ idle-finds (rules start) (bytes start) (start .args .x) (start .args .at) (start .args .place) (v .result) (v .ensures) (c .before .before .before .before .enum-told .given .1)
+
 admit-requires : tie.Need-admit-requires
 admit-requires c κs = c .before .pre .rooms
 
@@ -27,8 +50,18 @@ enum-known-e c = search needs
 enum-told : tie.Need-enum-told
 enum-told c = search needs
 
+edges-of-requires : tie.Need-edges-of-requires
+edges-of-requires c κs = search needs
+
+counts-of-requires : tie.Need-counts-of-requires
+counts-of-requires c κs = search needs
+
 find-requires : tie.Need-find-requires
-find-requires c κs = let g = c .before .before .before .before .pre in (g, g .root)
+find-requires c κs =
+    let s = c .before .before .before .before .before .before .before in
+    let k = c .before .counts-of in
+    let e = c .before .before .edges-of in
+    lent-sound (s .args .f) (k .result) (e .result) (k .ensures) (e .ensures) (now (s .args .coef)) (s .pre)
 
 enum-known-e-2 : tie.Need-enum-known-e-2
 enum-known-e-2 c = search needs
@@ -47,18 +80,10 @@ returns c =
     idle-refused (rules s) (bytes s) (s .args .x) (s .args .at) (s .args .place) (v .result) (v .ensures) (e .0 .0) (e .1)
 
 returns-2 : tie.Need-returns-2
-returns-2 c =
-    let s = c .before .before .before .before .before .before .before .before in
-    let v = c .before .before .before .before .before .before .admit in
-    ap (onFound (bytes s)) (sym (c .before .e2 .given .1) ∙ c .before .before .before .find .ensures)
-    ∙ idle-finds (rules s) (bytes s) (s .args .x) (s .args .at) (s .args .place) (v .result) (v .ensures) (c .before .before .before .before .enum-told .given .1)
+returns-2 c = found (c .before .before .before) _ (c .before .e2 .given .1)
 
 returns-3 : tie.Need-returns-3
-returns-3 c =
-    let s = c .before .before .before .before .before .before .before .before .before in
-    let v = c .before .before .before .before .before .before .before .admit in
-    c .answer .ensures ∙ ap (onFound (bytes s)) (sym (c .before .before .from .given .1) ∙ c .before .before .before .before .find .ensures)
-    ∙ idle-finds (rules s) (bytes s) (s .args .x) (s .args .at) (s .args .place) (v .result) (v .ensures) (c .before .before .before .before .before .enum-told .given .1)
+returns-3 c = c .answer .ensures ∙ found (c .before .before .before .before) _ (c .before .before .from .given .1)
 
 pub idle-call-spec : {M : Type 1} → statement M
 idle-call-spec =
@@ -67,6 +92,8 @@ idle-call-spec =
     admit-requires
     enum-known-e
     enum-told
+    edges-of-requires
+    counts-of-requires
     find-requires
     enum-known-e-2
     enum-known-from

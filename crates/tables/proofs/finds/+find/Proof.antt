@@ -19,7 +19,7 @@ use Rattle.meaning.specs.Tables.{readingOf}
 use Rattle.tables.specs.declared.boxes.Bx.{Bx}
 use Rattle.tables.specs.declared.frames.Frame.{Frame}
 use Rattle.tables.specs.Boxes.{boxOf, Small}
-use Rattle.tables.specs.Frames.{rulesIn}
+use Rattle.tables.specs.Frames.{frameFrom, rulesIn}
 use Rattle.tables.proofs.boxes.Laws.{small-children}
 use Rattle.tables.proofs.finds.Laws.{held, not-held, lookFrom, node-broken, node-over, node-tile, node-deep, node-split, look-none, look-here, look-more, look-refused}
 use borrow.Fn.Kinds.{In}
@@ -38,24 +38,24 @@ use Rattle.tables.proofs.walks.walk.Reads as walk-reads
 use Rattle.tables.proofs.finds.+find.{statement}
 use Rattle.tables.proofs.finds.+find.Tie.{close}
 
-abbrev μ-find : Measures 2 find-kinds.ps ℕ
-μ-find κs a = a .1 .1 .1 .0
+abbrev μ-find : Measures 3 find-kinds.ps ℕ
+μ-find κs a = a .1 .1 .1 .1 .0
 
-abbrev find-at : ℕ → In 2 find-kinds.ps
-find-at t = and 2 find-kinds.ps (is 2 find-kinds.ps μ-find t) reads.Pre
+abbrev find-at : ℕ → In 3 find-kinds.ps
+find-at t = and 3 find-kinds.ps (is 3 find-kinds.ps μ-find t) reads.Pre
 
-abbrev find-below : ℕ → In 2 find-kinds.ps
-find-below t = and 2 find-kinds.ps (falls 2 find-kinds.ps _<_ μ-find t) reads.Pre
+abbrev find-below : ℕ → In 3 find-kinds.ps
+find-below t = and 3 find-kinds.ps (falls 3 find-kinds.ps _<_ μ-find t) reads.Pre
 
 abbrev claims : ℕ → find-lts.Claims
 claims t = (number-reads.Asked, number-reads.Learnt, broken-reads.Asked, broken-reads.Learnt, bad-table-reads.Asked, bad-table-reads.Learnt, tile-reads.Asked, tile-reads.Learnt, count-reads.Asked, count-reads.Learnt, child-reads.Asked, child-reads.Learnt, missed-reads.Asked, missed-reads.Learnt, find-below t, reads.Post, walk-reads.Asked, walk-reads.Learnt)
 
 abbrev find-Inv-loop : find-lts.InvT-loop
-find-Inv-loop f coef table d at b x k next n count place₀ c₀ place c =
-    (c ≤ count) × (lookFrom f coef x (d - 1) table at (boxOf (f .n) b) c place ≡ find (rulesIn f coef) d table at (boxOf (f .n) b) x)
+find-Inv-loop f edges coef table d at b x k next n count place₀ c₀ place c =
+    (c ≤ count) × (lookFrom (frameFrom f edges) coef x (d - 1) table at (boxOf (f .n) b) c place ≡ find (rulesIn (frameFrom f edges) coef) d table at (boxOf (f .n) b) x)
 
 abbrev find-μ-loop : find-lts.MeasureT-loop
-find-μ-loop f coef table d at b x k next n count place₀ c₀ place c = count - c
+find-μ-loop f edges coef table d at b x k next n count place₀ c₀ place c = count - c
 
 abbrev Begin : ℕ → Type 0
 Begin t = find-lts.Start (claims t) (find-at t) reads.Post find-Inv-loop find-μ-loop
@@ -70,7 +70,7 @@ Tried t = find-lts.After-missed (claims t) (find-at t) reads.Post find-Inv-loop 
 
 module _ {t : ℕ} (s : Begin t) where
   abbrev frame : Frame
-  frame = s .args .f
+  frame = frameFrom (s .args .f) (now (s .args .edges))
 
   abbrev coef : List ℤ
   coef = now (s .args .coef)

@@ -4,6 +4,7 @@ use mathlib.Core.List.{List}
 use Prim.Native.Nat.{ℕ, _≤_, _<_, _-_}
 use native.Mathlib.Omega.{arith}
 use denote.Ref.{now}
+use borrow.Author.Needs.{needs}
 use lib.IntN.{ℤ}
 use Rattle.laws.specs.Lists.{tab}
 use Rattle.laws.specs.Tabs.{tab-all}
@@ -12,9 +13,10 @@ use Rattle.meaning.specs.Boxes.{Side}
 use Rattle.meaning.specs.Plants.{edgeLimit}
 use Rattle.meaning.specs.Rules.{Rules, rule, ruleFrom}
 use Rattle.tables.specs.declared.boxes.Bx.{Bx}
+use Rattle.tables.specs.declared.frames.Frame.{Frame}
 use Rattle.tables.specs.Boxes.{boxOf, Small}
 use Rattle.tables.specs.Images.{StepSound}
-use Rattle.tables.specs.Frames.{rulesIn}
+use Rattle.tables.specs.Frames.{frameFrom, rulesIn}
 use Rattle.tables.specs.Tiles.{modeAt, patternOf}
 use Rattle.tables.proofs.frames.Laws.{step-in}
 use Rattle.tables.proofs.tiles.Laws.{rule-works, rule-misses, tile-leaves, tile-more, tile-small}
@@ -22,41 +24,62 @@ use Rattle.tables.proofs.tiles.tile_rule.Statement.{statement}
 use Rattle.tables.proofs.tiles.tile_rule.Tie as tie
 
 abbrev Inv-loop : tie.InvT-loop
-Inv-loop f coef k us n q wlo whi safe c₀ i₀ c i =
+Inv-loop f edges coef k us wlo whi goal safe c₀ i₀ c i =
     (i ≤ k) × Small edgeLimit (boxOf (f .n) c)
-    × (ruleFrom (rulesIn f coef) i (boxOf (f .n) c) (tab (modeAt us) (k - i) i) ≡ rule (rulesIn f coef) (boxOf (f .n) c₀) (patternOf k us))
+    × (ruleFrom (rulesIn (frameFrom f edges) coef) i (boxOf (f .n) c) (tab (modeAt us) (k - i) i) ≡ rule (rulesIn (frameFrom f edges) coef) (boxOf (f .n) c₀) (patternOf k us))
 
 abbrev μ-loop : tie.MeasureT-loop
-μ-loop f coef k us n q wlo whi safe c₀ i₀ c i = k - i
+μ-loop f edges coef k us wlo whi goal safe c₀ i₀ c i = k - i
 
 -- the rules, the pattern, a box, and the step of mode i
 module _ (s : tie.Start Inv-loop μ-loop) where
   abbrev coef : List ℤ
   coef = now (s .args .coef)
 
+  abbrev frame : Frame
+  frame = frameFrom (s .args .f) (now (s .args .edges))
+
   abbrev rules : Rules
-  rules = rulesIn (s .args .f) coef
+  rules = rulesIn frame coef
 
   abbrev modes : ℕ → ℕ
-  modes = modeAt (s .args .t4)
+  modes = modeAt (s .args .t5)
 
   abbrev box : Bx → List Side
   box b = boxOf (s .args .f .n) b
 
-  sound : (i : ℕ) → i < s .args .k → StepSound (s .args .f .n) (s .args .f .q) (s .args .f .band .lo) (s .args .f .band .hi) coef (modes i)
-  sound i h = step-in (s .args .f) coef (s .pre .0 .0) (modes i) (s .pre .1 .each i h)
+  sound : (i : ℕ) → i < s .args .k → StepSound (frame .n) (frame .q) (frame .band .lo) (frame .band .hi) coef (modes i)
+  sound i h = step-in frame coef (s .pre .0 .0) (modes i) (s .pre .1 .each i h)
 
 -- where a round began: the call, and the loop's test
 abbrev start : tie.At-loop Inv-loop μ-loop → tie.Start Inv-loop μ-loop
-start l = l .before .before .before .before .before
+start l = l .before .before .before .before .before .before .before
 
 abbrev round : tie.After-image Inv-loop μ-loop → tie.In-loop Inv-loop μ-loop
 round c = c .before .before .before .before .before .before .before
 
+element-copy-out-glo : tie.Need-element-copy-out-glo Inv-loop μ-loop
+element-copy-out-glo c = search needs
+
+element-copy-out-ghi : tie.Need-element-copy-out-ghi Inv-loop μ-loop
+element-copy-out-ghi c = search needs
+
+element-copy-out-slo : tie.Need-element-copy-out-slo Inv-loop μ-loop
+element-copy-out-slo c = search needs
+
+element-copy-out-shi : tie.Need-element-copy-out-shi Inv-loop μ-loop
+element-copy-out-shi c = search needs
+
+element-copy-out-wlo : tie.Need-element-copy-out-wlo Inv-loop μ-loop
+element-copy-out-wlo c = search needs
+
+element-copy-out-whi : tie.Need-element-copy-out-whi Inv-loop μ-loop
+element-copy-out-whi c = search needs
+
 loop-holds : tie.Need-loop-holds Inv-loop μ-loop
 loop-holds c =
-    let s = c .before .before .before .before in
-    (omega arith, s .pre .0 .1, rw (tab-all (modeAt (s .args .t4)) (s .args .k)) refl)
+    let s = c .before .before .before .before .before .before in
+    (omega arith, s .pre .0 .1, rw (tab-all (modeAt (s .args .t5)) (s .args .k)) refl)
 
 mul-u : tie.Need-mul-u Inv-loop μ-loop
 mul-u c = omega (arith, start (c .before) .pre .1 .longest)
@@ -88,12 +111,12 @@ loop-again c =
     let h = t .loop-test .taken in
     let e = sym (c .before .within .ensures) ∙ c .if1 .taken in (
       omega arith,
-      tile-small (s .args .f) (coef s) (modes s) (s .args .k) (l .i) (box s (l .c)) (box s (g .image .result)) h (g .image .ensures) e (s .pre .0 .0) (l .inv .1),
-      sym (tile-more (s .args .f) (coef s) (modes s) (s .args .k) (l .i) (box s (l .c)) (box s (g .image .result)) h (g .image .ensures) e) ∙ l .inv .2,
+      tile-small (frame s) (coef s) (modes s) (s .args .k) (l .i) (box s (l .c)) (box s (g .image .result)) h (g .image .ensures) e (s .pre .0 .0) (l .inv .1),
+      sym (tile-more (frame s) (coef s) (modes s) (s .args .k) (l .i) (box s (l .c)) (box s (g .image .result)) h (g .image .ensures) e) ∙ l .inv .2,
     )
 
-add-t29 : tie.Need-add-t29 Inv-loop μ-loop
-add-t29 c = let t = round (c .before .before) in let h = t .loop-test .taken in let k = start (t .before) .pre .1 .longest in omega arith
+add-t44 : tie.Need-add-t44 Inv-loop μ-loop
+add-t44 c = let t = round (c .before .before) in let h = t .loop-test .taken in let k = start (t .before) .pre .1 .longest in omega arith
 
 returns : tie.Need-returns Inv-loop μ-loop
 returns c =
@@ -102,21 +125,21 @@ returns c =
     let l = t .before .loop in
     let s = start (t .before) in
     let e = sym (c .before .within .ensures) ∙ c .if1 .left in
-    sym (tile-leaves (s .args .f) (coef s) (modes s) (s .args .k) (l .i) (box s (l .c)) (box s (g .image .result)) (t .loop-test .taken) (g .image .ensures) e) ∙ l .inv .2
+    sym (tile-leaves (frame s) (coef s) (modes s) (s .args .k) (l .i) (box s (l .c)) (box s (g .image .result)) (t .loop-test .taken) (g .image .ensures) e) ∙ l .inv .2
 
 within-requires-2 : tie.Need-within-requires-2 Inv-loop μ-loop
-within-requires-2 c κs = let s = start (c .before .before) in s .pre .0 .0 .rooms
+within-requires-2 c κs = let s = start (c .before) in s .pre .0 .0 .rooms
 
 returns-2 : tie.Need-returns-2 Inv-loop μ-loop
 returns-2 c =
-    let t = c .before .before .before in
+    let t = c .before .before in
     let l = t .before .loop in
     let s = start (t .before) in
     sym (rule-works (rules s) (modes s) (s .args .k) (l .i) (box s (l .c)) (t .loop-test .left) (sym (c .before .within2 .ensures) ∙ c .if2 .taken)) ∙ l .inv .2
 
 returns-3 : tie.Need-returns-3 Inv-loop μ-loop
 returns-3 c =
-    let t = c .before .before .before in
+    let t = c .before .before in
     let l = t .before .loop in
     let s = start (t .before) in
     let q : s .args .k ≡ l .i = omega arith in
@@ -128,6 +151,12 @@ tile-rule-spec =
     (tie.spec
     Inv-loop
     μ-loop
+    element-copy-out-glo
+    element-copy-out-ghi
+    element-copy-out-slo
+    element-copy-out-shi
+    element-copy-out-wlo
+    element-copy-out-whi
     loop-holds
     mul-u
     array-read-u
@@ -136,7 +165,7 @@ tile-rule-spec =
     add-i
     loop-less
     loop-again
-    add-t29
+    add-t44
     returns
     within-requires-2
     returns-2

@@ -19,6 +19,7 @@ use Rattle.meaning.specs.Plants.{edgeLimit}
 use Rattle.meaning.specs.Verdicts.{each}
 use Rattle.tables.specs.Boxes.{boxOf}
 use Rattle.tables.specs.declared.frames.Frame.{Frame}
+use Rattle.tables.specs.Frames.{frameFrom}
 use Rattle.tables.proofs.boxes.Laws.{small-children}
 use Rattle.tables.proofs.walks.Laws.{tree, tree-broken, tree-over, tree-tile, tree-deep, tree-stuck, tree-split, children-done, children-more, children-stopped}
 use borrow.Fn.Kinds.{In}
@@ -35,24 +36,24 @@ use Rattle.tables.proofs.refusals.bad_table.Reads as bad-table-reads
 use Rattle.tables.proofs.walks.+walk.{statement}
 use Rattle.tables.proofs.walks.+walk.Tie.{close}
 
-abbrev μ-walk : Measures 2 walk-kinds.ps ℕ
-μ-walk κs a = a .1 .1 .1 .1 .0
+abbrev μ-walk : Measures 3 walk-kinds.ps ℕ
+μ-walk κs a = a .1 .1 .1 .1 .1 .0
 
-abbrev walk-at : ℕ → In 2 walk-kinds.ps
-walk-at t = and 2 walk-kinds.ps (is 2 walk-kinds.ps μ-walk t) walk.Pre
+abbrev walk-at : ℕ → In 3 walk-kinds.ps
+walk-at t = and 3 walk-kinds.ps (is 3 walk-kinds.ps μ-walk t) walk.Pre
 
-abbrev walk-below : ℕ → In 2 walk-kinds.ps
-walk-below t = and 2 walk-kinds.ps (falls 2 walk-kinds.ps _<_ μ-walk t) walk.Pre
+abbrev walk-below : ℕ → In 3 walk-kinds.ps
+walk-below t = and 3 walk-kinds.ps (falls 3 walk-kinds.ps _<_ μ-walk t) walk.Pre
 
 abbrev claims : ℕ → walk-lts.Claims
 claims t = (number-reads.Asked, number-reads.Learnt, broken-reads.Asked, broken-reads.Learnt, bad-table-reads.Asked, bad-table-reads.Learnt, tile-reads.Asked, tile-reads.Learnt, count-reads.Asked, count-reads.Learnt, child-reads.Asked, child-reads.Learnt, walk-below t, walk.Post)
 
 abbrev walk-Inv-loop : walk-lts.InvT-loop
-walk-Inv-loop f coef judged table d at b k next n count place₀ c₀ place c =
-    (c ≤ count) × (each (tree f coef judged (d - 1) table) (drop c (children (boxOf (f .n) b))) place ≡ tree f coef judged d table at (boxOf (f .n) b))
+walk-Inv-loop f edges coef judged table d at b k next n count place₀ c₀ place c =
+    (c ≤ count) × (each (tree (frameFrom f edges) coef judged (d - 1) table) (drop c (children (boxOf (f .n) b))) place ≡ tree (frameFrom f edges) coef judged d table at (boxOf (f .n) b))
 
 abbrev walk-μ-loop : walk-lts.MeasureT-loop
-walk-μ-loop f coef judged table d at b k next n count place₀ c₀ place c = count - c
+walk-μ-loop f edges coef judged table d at b k next n count place₀ c₀ place c = count - c
 
 -- a call with that measure: at its start, with its node's number read, with a child walked over
 abbrev Call : ℕ → Type 0
@@ -67,7 +68,7 @@ Child t = walk-lts.After-walk (claims t) (walk-at t) walk.Post walk-Inv-loop wal
 -- the frame, the coefficients, the flag, the table, the box, and the answer that is asked for
 module _ (t : ℕ) (s : Call t) where
   abbrev frame : Frame
-  frame = s .args .f
+  frame = frameFrom (s .args .f) (now (s .args .edges))
 
   abbrev coef : List ℤ
   coef = now (s .args .coef)

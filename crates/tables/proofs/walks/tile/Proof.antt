@@ -12,7 +12,7 @@ use Rattle.meaning.specs.declared.Walk.{Walk}
 use Rattle.meaning.specs.Files.{Read}
 use Rattle.meaning.specs.Verdicts.{onRule, onModes, modesAt}
 use Rattle.tables.specs.Boxes.{boxOf}
-use Rattle.tables.specs.Frames.{rulesIn}
+use Rattle.tables.specs.Frames.{frameFrom, rulesIn}
 use Rattle.tables.specs.Modes.{told}
 use Rattle.tables.specs.Tiles.{patternOf, Pattern}
 use Rattle.tables.specs.Walks.{judgeBy}
@@ -36,7 +36,7 @@ module _ (c : tie.After-read-modes) where
   pattern = patternOf (from .args .k) (c .read-modes .result .us)
 
   abbrev judge : Bool → List ℕ → Rule
-  judge flag us = judgeBy flag (rulesIn (from .args .f) (now (from .args .coef))) (boxOf (from .args .f .n) (from .args .b)) us
+  judge flag us = judgeBy flag (rulesIn (frameFrom (from .args .f) (now (from .args .edges))) (now (from .args .coef))) (boxOf (from .args .f .n) (from .args .b)) us
 
   read-as : told (c .read-modes .result .answer) pattern ≡ modes
   read-as = c .read-modes .ensures
