@@ -66,8 +66,7 @@ pub fn child(n: usize, b: Bx, x: usize) -> Bx
     requires { ⌜ (n ≤ 4) × Small edgeLimit (boxOf n b) × (x < length (children (boxOf n b))) ⌝ }
     ensures { λ r. ⌜ boxOf n r ≡ getD (children (boxOf n b)) x [] ⌝ }
 {
-    let mut lo = b.lo;
-    let mut hi = b.hi;
+    let mut kid = b;
     let mut bits = x;
     let mut left = n;
     while 0 < left {
@@ -77,12 +76,12 @@ pub fn child(n: usize, b: Bx, x: usize) -> Bx
         let e = half(l, h, bits);
         let el = e.lo;
         let eh = e.hi;
-        lo[j] = el;
-        hi[j] = eh;
+        kid.lo[j] = el;
+        kid.hi[j] = eh;
         bits = e.bits;
         left -= 1;
     }
-    Bx { lo, hi }
+    kid
 }
 
 // How many children a box has: 2 to the number of its long sides, and none where there is no long side.

@@ -38,18 +38,20 @@ fn tile(
 {
     let read = modes::read_modes(f.modes, k, table, from);
     let past = read.answer;
-    let Walk::Next(next) = past else {
-        return past;
-    };
-    if judged {
-        let us = read.us;
-        match tiles::tile_rule(f, edges, coef, k, us, b) {
-            Rule::Works => Walk::Next(next),
-            Rule::Leaves(i) => Walk::Refused(refusals::leaves(at, i)),
-            Rule::Misses(i) => Walk::Refused(refusals::misses(at, i)),
+    match past {
+        Walk::Refused(e) => Walk::Refused(e),
+        Walk::Next(next) => {
+            if judged {
+                let us = read.us;
+                match tiles::tile_rule(f, edges, coef, k, us, b) {
+                    Rule::Works => Walk::Next(next),
+                    Rule::Leaves(i) => Walk::Refused(refusals::leaves(at, i)),
+                    Rule::Misses(i) => Walk::Refused(refusals::misses(at, i)),
+                }
+            } else {
+                Walk::Next(next)
+            }
         }
-    } else {
-        Walk::Next(next)
     }
 }
 

@@ -25,7 +25,7 @@ use Rattle.tables.specs.Walks.{judgeBy, walkBy}
 -- ---- a tile: what its modes were told as, and what its judge says of them
 
 module _ (modes : Read (List ℕ)) (at : ℕ) (judge : List ℕ → Rule) (a : Walk) (us : List ℕ) (q : told a us ≡ modes) where
-  pub tile-stopped : (e : Refusal) → a ≡ Walk.Refused e → a ≡ onModes modes at judge
+  pub tile-stopped : (e : Refusal) → a ≡ Walk.Refused e → Walk.Refused e ≡ onModes modes at judge
   tile-stopped e h = rw (← q, h) refl
 
   pub tile-judged : (m : ℕ) → a ≡ Walk.Next m → (v : Rule) → v ≡ judge us → onRule v at m ≡ onModes modes at judge

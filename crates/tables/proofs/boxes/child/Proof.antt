@@ -17,11 +17,11 @@ use Rattle.tables.proofs.boxes.child.Statement.{statement}
 use Rattle.tables.proofs.boxes.child.Tie as tie
 
 abbrev Inv-loop : tie.InvT-loop
-Inv-loop n x b lo₀ hi₀ bits₀ left₀ lo hi bits left =
-    (left ≤ n) × (length lo ≡ 4) × (length hi ≡ 4) × Cut (b .lo) (b .hi) lo hi n left bits (childAt (boxOf n b) x)
+Inv-loop n x b kid₀ bits₀ left₀ kid bits left =
+    (left ≤ n) × (length (kid .lo) ≡ 4) × (length (kid .hi) ≡ 4) × Cut (b .lo) (b .hi) (kid .lo) (kid .hi) n left bits (childAt (boxOf n b) x)
 
 abbrev μ-loop : tie.MeasureT-loop
-μ-loop n x b lo₀ hi₀ bits₀ left₀ lo hi bits left = left
+μ-loop n x b kid₀ bits₀ left₀ kid bits left = left
 
 -- the edges of side j
 module _ (s : tie.Start Inv-loop μ-loop) (j : ℕ) (h : j < s .args .n) where
@@ -33,7 +33,7 @@ module _ (s : tie.Start Inv-loop μ-loop) (j : ℕ) (h : j < s .args .n) where
 
 -- what the call says of the side `here`, the first of those that are left, its edges read from bits
 abbrev from : tie.After-half Inv-loop μ-loop → tie.Start Inv-loop μ-loop
-from c = c .before .before .before .before .before .before .before
+from c = c .before .before .before .before .before
 
 abbrev here : tie.After-half Inv-loop μ-loop → ℕ
 here c = from c .args .n - c .before .before .before .before .loop .left
@@ -52,7 +52,7 @@ gave c k =
 
 loop-holds : tie.Need-loop-holds Inv-loop μ-loop
 loop-holds c =
-    let a = c .before .before .args in
+    let a = c .args in
     (omega arith, search needs, search needs, cut-none (a .t2 .lo) (a .t2 .hi) (a .t2 .lo) (a .t2 .hi) (a .n) (a .x))
 
 sub-j : tie.Need-sub-j Inv-loop μ-loop
@@ -72,20 +72,20 @@ element-copy-out-h c = omega arith
 
 half-requires : tie.Need-half-requires Inv-loop μ-loop
 half-requires c κs =
-    let s = c .before .before .before .before .before .before in
+    let s = c .before .before .before .before in
     (under (low s _ (omega arith)) edgeLimit tt, under (high s _ (omega arith)) edgeLimit tt)
 
-mul-lo : tie.Need-mul-lo Inv-loop μ-loop
-mul-lo c = omega arith
+mul-el : tie.Need-mul-el Inv-loop μ-loop
+mul-el c = omega arith
 
-array-set-from-lo : tie.Need-array-set-from-lo Inv-loop μ-loop
-array-set-from-lo c = omega arith
+element-set-from-el : tie.Need-element-set-from-el Inv-loop μ-loop
+element-set-from-el c = omega arith
 
-mul-hi : tie.Need-mul-hi Inv-loop μ-loop
-mul-hi c = omega arith
+mul-eh : tie.Need-mul-eh Inv-loop μ-loop
+mul-eh c = omega arith
 
-array-set-from-hi : tie.Need-array-set-from-hi Inv-loop μ-loop
-array-set-from-hi c = omega arith
+element-set-from-eh : tie.Need-element-set-from-eh Inv-loop μ-loop
+element-set-from-eh c = omega arith
 
 sub-left : tie.Need-sub-left Inv-loop μ-loop
 sub-left c = omega arith
@@ -96,23 +96,23 @@ loop-less c = omega arith
 loop-again : tie.Need-loop-again Inv-loop μ-loop
 loop-again c =
     let l = c .before .before .before .before .before .before .loop in
-    let s = c .before .before .before .before .before .before .before .before .before in
+    let s = c .before .before .before .before .before .before .before in
     let a = s .args in
     let e = c .before .before .half in
     let g = gave (c .before .before) (omega arith) in (
       omega arith,
       simp length-set (l .inv .1),
       simp length-set (l .inv .2),
-      cut-more (a .t2 .lo) (a .t2 .hi) (l .lo) (l .hi) (a .n) (l .left) (l .bits) _ _ _ _ (c .before .before .before .before .before .loop-test .taken) (l .inv .0) (omega arith) (omega arith)
+      cut-more (a .t2 .lo) (a .t2 .hi) (l .kid .lo) (l .kid .hi) (a .n) (l .left) (l .bits) _ _ _ _ (c .before .before .before .before .before .loop-test .taken) (l .inv .0) (omega arith) (omega arith)
           (rw (toZ-ofZ (ok64 (e .result .lo) (omega arith)), toZ-ofZ (ok64 (e .result .hi) (omega arith))) (g .0)) (g .1) (l .inv .3),
     )
 
 returns : tie.Need-returns Inv-loop μ-loop
 returns c =
     let l = c .before .loop in
-    let a = c .before .before .before .before .args in
-    cut-done (a .t2 .lo) (a .t2 .hi) (l .lo) (l .hi) (a .n) (l .left) (l .bits) _ (omega arith) (l .inv .3)
-    ∙ sym (children-at (boxOf (a .n) (a .t2)) (a .x) (c .before .before .before .before .pre .2))
+    let a = c .before .before .args in
+    cut-done (a .t2 .lo) (a .t2 .hi) (l .kid .lo) (l .kid .hi) (a .n) (l .left) (l .bits) _ (omega arith) (l .inv .3)
+    ∙ sym (children-at (boxOf (a .n) (a .t2)) (a .x) (c .before .before .pre .2))
 
 pub child-spec : {M : Type 1} → statement M
 child-spec =
@@ -127,10 +127,10 @@ child-spec =
     mul-h
     element-copy-out-h
     half-requires
-    mul-lo
-    array-set-from-lo
-    mul-hi
-    array-set-from-hi
+    mul-el
+    element-set-from-el
+    mul-eh
+    element-set-from-eh
     sub-left
     loop-less
     loop-again

@@ -42,7 +42,7 @@ module _ (c : tie.After-read-modes) where
   read-as = c .read-modes .ensures
 
 -- and each is a mode
-module _ (c : tie.After-known-told) where
+module _ (c : tie.After-known-told2) where
   abbrev past : tie.After-read-modes
   past = c .before .before .before
 
@@ -50,10 +50,10 @@ module _ (c : tie.After-known-told) where
   start = from past
 
   abbrev next : ℕ
-  next = c .before .past .given .0 .0
+  next = c .before .past2 .given .0 .0
 
   went : past .read-modes .result .answer ≡ Walk.Next next
-  went = c .before .past .given .1
+  went = c .before .past2 .given .1
 
   below-modes : Pattern (start .args .f .modes) (start .args .k) (past .read-modes .result .us)
   below-modes = modes-pattern (start .args .f .modes) (start .args .k) (now (start .args .table)) (start .args .from) (past .read-modes .result .us) next (few start)
@@ -77,20 +77,14 @@ read-modes-requires c κs = few (c .before)
 enum-known-past : tie.Need-enum-known-past
 enum-known-past c = search needs
 
-enum-told : tie.Need-enum-told
-enum-told c = search needs
-
-returns : tie.Need-returns
-returns c =
-    let m = c .before .before in
-    let g = c .enum-told .given in
-    tile-stopped (modes m) (from m .args .at) (judge m (from m .args .judged)) (m .read-modes .result .answer) (pattern m) (read-as m) (g .0 .0) (g .1)
+enum-known-past-2 : tie.Need-enum-known-past-2
+enum-known-past-2 c = search needs
 
 tile-rule-requires : tie.Need-tile-rule-requires
 tile-rule-requires c κs = let k = c .before .before in (start k .pre .0, below-modes k)
 
-enum-told-2 : tie.Need-enum-told-2
-enum-told-2 c = search needs
+enum-told : tie.Need-enum-told
+enum-told c = search needs
 
 enum-known-i : tie.Need-enum-known-i
 enum-known-i c = search needs
@@ -104,8 +98,14 @@ enum-known-i-2 c = search needs
 misses-requires : tie.Need-misses-requires
 misses-requires c κs = search needs
 
+returns : tie.Need-returns
+returns c =
+    let m = c .before .before .before in
+    let g = c .before .past .given in
+    tile-stopped (modes m) (from m .args .at) (judge m (from m .args .judged)) (m .read-modes .result .answer) (pattern m) (read-as m) (g .0 .0) (g .1)
+
 returns-2 : tie.Need-returns-2
-returns-2 c = ruled (c .before .before) _ (c .enum-told2 .given .1)
+returns-2 c = ruled (c .before .before) _ (c .enum-told .given .1)
 
 returns-3 : tie.Need-returns-3
 returns-3 c = ap Walk.Refused (c .leaves .ensures) ∙ ruled (c .before .before .before .before) _ (c .before .before .i .given .1)
@@ -122,14 +122,14 @@ tile-spec =
     (tie.spec
     read-modes-requires
     enum-known-past
-    enum-told
-    returns
+    enum-known-past-2
     tile-rule-requires
-    enum-told-2
+    enum-told
     enum-known-i
     leaves-requires
     enum-known-i-2
     misses-requires
+    returns
     returns-2
     returns-3
     returns-4
