@@ -55,9 +55,6 @@ pub fn check(plant: &[u8], table: &[u8]) -> Verdict
     let verdict = read.verdict;
     match verdict {
         Verdict::Refused(e) => Verdict::Refused(e),
-        Verdict::Accepted => {
-            let p = read.plant;
-            judge(frames::framed(p), &p.coef, table)
-        }
+        Verdict::Accepted => { judge(frames::framed(read.plant), &read.plant.coef, table) }
     }
 }

@@ -132,14 +132,13 @@ pub fn make(plant: &[u8], buf: &mut [u8]) -> Written
     match verdict {
         Verdict::Refused(e) => buffers::refuse(e, buf),
         Verdict::Accepted => {
-            let p = read.plant;
-            let f = frames::framed(p);
+            let f = frames::framed(read.plant);
             if f.n * f.d <= 4 {
                 let mut few = [0u8; FEW];
-                return write_table(f, &p.coef, &mut few, buf);
+                return write_table(f, &read.plant.coef, &mut few, buf);
             }
             let mut draft = [0u8; MOST];
-            write_table(f, &p.coef, &mut draft, buf)
+            write_table(f, &read.plant.coef, &mut draft, buf)
         }
     }
 }
