@@ -40,7 +40,7 @@ middle-requires : tie.Need-middle-requires
 middle-requires c κs = (under (low (c .before)) edgeLimit tt, under (high (c .before)) edgeLimit tt)
 
 add-up : tie.Need-add-up
-add-up c = need (mid c ⊕ lit (pos 1)) tt
+add-up c = need (mid c ⊕ lit _) tt
 
 returns : tie.Need-returns
 returns c =
