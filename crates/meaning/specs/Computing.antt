@@ -11,9 +11,10 @@ use Rattle.meaning.specs.Verdicts.{each, modesAt, walk, header, verdict}
 use Rattle.meaning.specs.Defined.{firstMode, allOf, exactly, shortest, treeOf}
 use Rattle.meaning.specs.Control.{among, find, call}
 use Rattle.meaning.specs.Tables.{checked, made, makerLeft, controlled}
+use Rattle.meaning.specs.Starts.{chainForm, partsOf, tablesAt, startChecked, tablesFrom, startMade, startLeft, onPart, startControlled}
 use Rattle.meaning.specs.Sheets.{finite, roomForm, sheetForm, roomsOf, sheetOf, sheetValues, sumFrom, coefficient, emitters, offset, wholeOf, unitsOf, largestEdge, widening, madeNumbers, sheetJudged, sheetLeft, madeLeft}
 use lib.Ieee.{add, sub, mul, lt, ofBits, toBits}
 
 unfoldable pub computing : Unit {0}
-unfolding tab tabs all firstFalse groupsAt groupsOf little lowFirst valuesAt fileOf fits lies inFront pieces anyLong children dot reachedAll extreme image times edgesAndBands row headed plantForm plantOf numbersOf plantJudged plantLeft ruleFrom modesBytes layout longest tilesOf each modesAt walk header verdict firstMode allOf exactly shortest treeOf among find call checked made makerLeft controlled finite roomForm sheetForm roomsOf sheetOf sheetValues sumFrom coefficient emitters offset wholeOf unitsOf largestEdge widening madeNumbers sheetJudged sheetLeft madeLeft add sub mul lt ofBits toBits
+unfolding tab tabs all firstFalse groupsAt groupsOf little lowFirst valuesAt fileOf fits lies inFront pieces anyLong children dot reachedAll extreme image times edgesAndBands row headed plantForm plantOf numbersOf plantJudged plantLeft ruleFrom modesBytes layout longest tilesOf each modesAt walk header verdict firstMode allOf exactly shortest treeOf among find call checked made makerLeft controlled chainForm partsOf tablesAt startChecked tablesFrom startMade startLeft onPart startControlled finite roomForm sheetForm roomsOf sheetOf sheetValues sumFrom coefficient emitters offset wholeOf unitsOf largestEdge widening madeNumbers sheetJudged sheetLeft madeLeft add sub mul lt ofBits toBits
 computing = tt

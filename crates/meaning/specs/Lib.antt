@@ -12,5 +12,6 @@ pub mod Defined
 pub mod Control
 pub mod Runs
 pub mod Tables
+pub mod Starts
 pub mod Sheets
 pub mod Computing

@@ -1,7 +1,9 @@
 -- What each number says: document 01's table of refusals, one definition a row, and what each answer shows of it.
 -- A place or step that the table does not name is 0.
-use Prim.Native.Nat.{ℕ}
+use Prim.Native.Nat.{ℕ, _+_}
+use mathlib.Core.Bool.{Bool, _||_, cond}
 use mathlib.Core.List.{List, [], _∷_}
+use lib.Dec.{eqb}
 use lib.IntN.{ℤ, pos}
 use Rattle.meaning.specs.declared.Refusal.{Refusal}
 use Rattle.meaning.specs.declared.Number.{Number}
@@ -13,6 +15,7 @@ use Rattle.meaning.specs.declared.Whole.{Whole}
 use Rattle.meaning.specs.declared.Verdict.{Verdict}
 use Rattle.meaning.specs.declared.Written.{Written}
 use Rattle.meaning.specs.declared.Answer.{Answer}
+use Rattle.meaning.specs.declared.StartAnswer.{StartAnswer}
 
 abbrev pub refusal : ℕ → ℕ → ℕ → Refusal
 refusal n p i = record { number = n; place = p; step = i }
@@ -49,9 +52,9 @@ leaves at i = refusal 7 at i
 abbrev pub misses : ℕ → ℕ → Refusal
 misses at i = refusal 8 at i
 
--- 9: no table
-abbrev pub noTable : Refusal
-noTable = refusal 9 0 0
+-- 9: no table; the index of the first box without one, 0 where there is one box
+abbrev pub noTable : ℕ → Refusal
+noTable i = refusal 9 i 0
 
 -- 10: buffer too short
 abbrev pub short : Refusal
@@ -72,6 +75,18 @@ badFloat at = refusal 13 at 0
 -- 14: sheet result not finite or outside the plant's range; which number of the plant file, its form being 0
 abbrev pub badResult : ℕ → Refusal
 badResult k = refusal 14 k 0
+
+-- 15: a box of a chain does not hold the one before or is not in S; the first index, from 1
+abbrev pub notHeld : ℕ → Refusal
+notHeld i = refusal 15 i 0
+
+-- whether a refusal's place is a byte of the file
+abbrev pub atByte : ℕ → Bool
+atByte number = eqb number 1 || eqb number 2 || eqb number 3 || eqb number 6 || eqb number 7 || eqb number 8 || eqb number 13
+
+-- what is told of a file that stands at `from` in another
+abbrev pub moved : ℕ → Refusal → Refusal
+moved from r = cond (atByte (r .number)) (refusal (r .number) (from + r .place) (r .step)) r
 
 -- ---- number (0: done), place, step and values of each case of each answer
 
@@ -129,3 +144,8 @@ writtenShown (Written.Refused r) = told r []
 abbrev pub answerShown : Answer → Shown
 answerShown (Answer.Mode u s) = done (pos u ∷ pos (s .place) ∷ pos (s .left) ∷ [])
 answerShown (Answer.Refused r) = told r (pos 255 ∷ pos 0 ∷ pos 0 ∷ [])
+
+-- the same of a start file: the next index stands before place and left
+abbrev pub startAnswerShown : StartAnswer → Shown
+startAnswerShown (StartAnswer.Mode u s) = done (pos u ∷ pos (s .index) ∷ pos (s .state .place) ∷ pos (s .state .left) ∷ [])
+startAnswerShown (StartAnswer.Refused r) = told r (pos 255 ∷ pos 0 ∷ pos 0 ∷ pos 0 ∷ [])

@@ -62,13 +62,17 @@ onPlant (good p) refuse rest = rest p
 unfoldable pub checked : List ℕ → List ℕ → Verdict
 checked plant table = onPlant (plantJudged plant) Verdict.Refused λ p. verdict (rulesOf p) table
 
--- Maker: plant, 9, 10
-abbrev pub tableBytes : Rules → Option Tree → Judged (List ℕ)
-tableBytes r none = bad noTable
-tableBytes r (some t) = good (tableOf r t)
+-- Maker: plant, 9, 10. A box is told by its index: R's is 0.
+abbrev pub tableBytes : ℕ → Rules → Option Tree → Judged (List ℕ)
+tableBytes i r none = bad (noTable i)
+tableBytes i r (some t) = good (tableOf r t)
+
+-- the defined table of box i
+abbrev pub definedTable : ℕ → Rules → Judged (List ℕ)
+definedTable i r = tableBytes i r (definedTree r)
 
 unfoldable pub made : List ℕ → Judged (List ℕ)
-made plant = onPlant (plantJudged plant) bad λ p. tableBytes (rulesOf p) (definedTree (rulesOf p))
+made plant = onPlant (plantJudged plant) bad λ p. definedTable 0 (rulesOf p)
 
 unfoldable pub makerLeft : List ℕ → List ℕ → Left
 makerLeft plant buf = left (made plant) buf

@@ -86,9 +86,12 @@ module _ (r : Rules) where
       (λ next. splitAt (children b) (Walk.Refused (badTable at)) λ cs. each (λ p c. walk judge d s p c) cs next)
       (λ k next. onModes (modesAt N k s next) at (judge b))
 
+  -- the place behind a table: the header and the tree
+  abbrev pub tableEnd : List ℕ → Walk
+  tableEnd s = onWalk (header n s) Walk.Refused λ at. walk (rule r) D s at root
+
   unfoldable pub verdict : List ℕ → Verdict
   verdict s =
-      onWalk (header n s) Verdict.Refused λ at.
-      onWalk (walk (rule r) D s at root) Verdict.Refused λ next.
+      onWalk (tableEnd s) Verdict.Refused λ next.
       guard (eqb next (length s)) (Verdict.Refused (badTable next)) λ _.
       Verdict.Accepted

@@ -87,6 +87,18 @@ pub enum Answer {
     Refused(Refusal),
 }
 
+// The start controller between two calls: the index of the box whose table is run, and the state in that table; idle is 0, 0, 0.
+pub struct StartState {
+    pub index: usize,
+    pub state: State,
+}
+
+// Its answer.
+pub enum StartAnswer {
+    Mode(usize, StartState),
+    Refused(Refusal),
+}
+
 // What heats a room. Each kind carries only its own values.
 pub enum Emitter {
     None,
