@@ -20,8 +20,8 @@ use Rattle.meaning.specs.Computing.{computing}
 abbrev plantIn : ℕ → ℕ → ℕ → List ℕ
 plantIn a b d =
     fileOf plantForm (
-      pos 1 ∷ pos 1 ∷ pos 2 ∷ pos 10 ∷ pos 2 ∷ pos d ∷ pos 195 ∷ pos 225 ∷ pos a ∷ pos b ∷ negℤ (pos 5) ∷ pos 4
-      ∷ pos 9 ∷ pos 100 ∷ pos 9 ∷ pos 300 ∷ []
+    pos 1 ∷ pos 1 ∷ pos 2 ∷ pos 10 ∷ pos 2 ∷ pos d ∷ pos 195 ∷ pos 225 ∷ pos a ∷ pos b ∷ negℤ (pos 5) ∷ pos 4
+    ∷ pos 9 ∷ pos 100 ∷ pos 9 ∷ pos 300 ∷ []
     )
 
 abbrev P : List ℕ

@@ -21,13 +21,13 @@ use Rattle.meaning.specs.Refusals.{broken, unfit, outside, badState, not
 use Rattle.meaning.specs.Numbers.{numberAt, bytesOf}
 use Rattle.meaning.specs.Files.{Form, end, Read, read, refused, valuesAt, valuesOf, fileOf, Judged, good, bad}
 use Rattle.meaning.specs.Buffers.{Left, left}
-use Rattle.meaning.specs.Boxes.{Side, side, within}
-use Rattle.meaning.specs.Plants.{edgeLimit, formOne, counted, from, span, times, plantJudged, rootOf, safeOf, stepOf}
+use Rattle.meaning.specs.Boxes.{Side, side, fits, within}
+use Rattle.meaning.specs.Plants.{edgeLimit, formOne, counted, from, span, times, plantJudged, rootOf, safeOf}
 use Rattle.meaning.specs.Rules.{Rules, holds, missed}
 use Rattle.meaning.specs.Verdicts.{onNumber, onWalk, tableEnd}
 use Rattle.meaning.specs.Control.{idle, call}
 use Rattle.meaning.specs.Runs.{Run, Samples}
-use Rattle.meaning.specs.Tables.{rulesFrom, onPlant, definedTable, mayFollow}
+use Rattle.meaning.specs.Tables.{readingOf, tableRules, onPlant, definedTable, mayFollow}
 
 -- ---- the chain: a start file's beginning
 
@@ -43,37 +43,42 @@ above vs = natAbs (at vs 1)
 abbrev pub chainSide : ℕ → List ℤ → ℕ → ℕ → Side
 chainSide n vs i j = let e = 2 + 2 * (i * n + j) in side (at vs e) (at vs (e + 1))
 
-module _ (p : Plant) (vs : List ℤ) where
+-- in n dimensions, R being root
+module _ (n : ℕ) (root : List Side) (vs : List ℤ) where
   -- Ri, and the box that the patterns of its table end in
   abbrev pub boxAt : ℕ → List Side
-  boxAt zero = rootOf p
-  boxAt (suc i) = tab (chainSide (p .n) vs i) (p .n) 0
+  boxAt zero = root
+  boxAt (suc i) = tab (chainSide n vs i) n 0
 
   abbrev pub boxBelow : ℕ → List Side
-  boxBelow zero = boxAt zero
+  boxBelow zero = root
   boxBelow (suc i) = boxAt i
 
   -- R(i+1) holds Ri and lies in S
-  abbrev pub held : ℕ → Bool
-  held i = within (boxAt i) (boxAt (suc i)) && within (boxAt (suc i)) (safeOf p)
+  abbrev pub held : List Side → ℕ → Bool
+  held safe i = within (boxAt i) (boxAt (suc i)) && within (boxAt (suc i)) safe
 
-  -- the rules of Ri's table
-  abbrev pub boxRules : ℕ → Rules
-  boxRules i = rulesFrom (p .n) (p .modes) (p .k) (p .d) (boxAt i) (boxBelow i) (safeOf p) (stepOf p)
-
-  -- whether Ri holds a reading; the lowest index of those that do
-  abbrev pub boxHolds : List ℤ → ℕ → Bool
-  boxHolds x i = holds (boxRules i) (boxAt i) x
-
+  -- the lowest index of the boxes that hold a reading; m + 1 where none does
   abbrev pub chosen : List ℤ → ℕ
-  chosen x = firstFalse (tab (λ i. not (boxHolds x i)) (above vs + 1) 0)
+  chosen x = firstFalse (tab (λ i. not (all (fits (boxAt i) (readingOf n x)))) (above vs + 1) 0)
 
 -- a chain that was read, and the place behind it: then 15
-abbrev pub onChain : {A : Type 0} → Plant → Read (List ℤ) → (Refusal → A) → (List ℤ → ℕ → A) → A
-onChain p (refused e) refuse rest = refuse e
-onChain p (read vs next) refuse rest =
-    let kept = tab (held p vs) (above vs) 0 in
+abbrev pub onChain : {A : Type 0} → ℕ → List Side → List Side → Read (List ℤ) → (Refusal → A) → (List ℤ → ℕ → A) → A
+onChain n root safe (refused e) refuse rest = refuse e
+onChain n root safe (read vs next) refuse rest =
+    let kept = tab (held n root vs safe) (above vs) 0 in
     guard (all kept) (refuse (notHeld (firstFalse kept + 1))) λ _. rest vs next
+
+-- a start file's, and one with nothing behind it, for a plant
+abbrev pub onStart : {A : Type 0} → Plant → List ℕ → (Refusal → A) → (List ℤ → ℕ → A) → A
+onStart p s = onChain (p .n) (rootOf p) (safeOf p) (valuesAt (chainForm (p .n)) s 0)
+
+abbrev pub onWhole : {A : Type 0} → Plant → List ℕ → (Refusal → A) → (List ℤ → ℕ → A) → A
+onWhole p s = onChain (p .n) (rootOf p) (safeOf p) (valuesOf (chainForm (p .n)) s)
+
+-- the rules of Ri's table
+abbrev pub boxRules : Plant → List ℤ → ℕ → Rules
+boxRules p vs i = tableRules p (boxAt (p .n) (rootOf p) vs i) (boxBelow (p .n) (rootOf p) vs i)
 
 -- ---- the tables behind it, each with its byte length in front
 
@@ -110,7 +115,7 @@ module _ (r : ℕ → Rules) (s : List ℕ) where
 unfoldable pub startChecked : List ℕ → List ℕ → Verdict
 startChecked plant start =
     onPlant (plantJudged plant) Verdict.Refused λ p.
-    onChain p (valuesAt (chainForm (p .n)) start 0) Verdict.Refused λ vs next.
+    onStart p start Verdict.Refused λ vs next.
     tablesAt (boxRules p vs) start (above vs + 1) 0 next
 
 -- ---- Maker: plant; the chain, with nothing behind it; 15; 9 with the first index that has no table; 10
@@ -136,7 +141,7 @@ startBytes n vs (good ts) = good (startOf n vs ts)
 unfoldable pub startMade : List ℕ → List ℕ → Judged (List ℕ)
 startMade plant chain =
     onPlant (plantJudged plant) bad λ p.
-    onChain p (valuesOf (chainForm (p .n)) chain) bad λ vs _.
+    onWhole p chain bad λ vs _.
     startBytes (p .n) vs (tablesFrom (boxRules p vs) (above vs + 1) 0)
 
 unfoldable pub startLeft : List ℕ → List ℕ → List ℕ → Left
@@ -173,9 +178,9 @@ module _ (p : Plant) (vs : List ℤ) (s : List ℕ) (at : ℕ) where
   -- idle: the smallest box that holds the reading, of equal ones the lowest index; outside Rm it is 11
   abbrev pub idleStart : List ℤ → StartAnswer
   idleStart x =
-      let m = above vs in
-      guard (boxHolds p vs x m) (StartAnswer.Refused (outside (missed (boxRules p vs m) (boxAt p vs m) x))) λ _.
-      callIn (chosen p vs x) idle x
+      let r = boxRules p vs (above vs) in
+      guard (holds r (r .root) x) (StartAnswer.Refused (outside (missed r (r .root) x))) λ _.
+      callIn (chosen (p .n) (rootOf p) vs x) idle x
 
   -- an index over m, or one kept when idle, cannot be
   abbrev pub canIndex : ℕ → State → Bool
@@ -189,7 +194,7 @@ module _ (p : Plant) (vs : List ℤ) (s : List ℕ) (at : ℕ) where
 unfoldable pub startControlled : List ℕ → List ℕ → StartState → List ℤ → StartAnswer
 startControlled plant start st x =
     onPlant (plantJudged plant) StartAnswer.Refused λ p.
-    onChain p (valuesAt (chainForm (p .n)) start 0) StartAnswer.Refused λ vs next.
+    onStart p start StartAnswer.Refused λ vs next.
     startCall p vs start next st x
 
 -- ---- the runs of a start file on a plant, from idle on a reading in Ri: none where plant or chain is refused
@@ -197,8 +202,8 @@ startControlled plant start st x =
 abbrev pub inBox : List ℕ → List ℕ → ℕ → List ℤ → Bool
 inBox plant start i x =
     onPlant (plantJudged plant) (λ _. false) λ p.
-    onChain p (valuesAt (chainForm (p .n)) start 0) (λ _. false) λ vs _.
-    leb i (above vs) && boxHolds p vs x i
+    onStart p start (λ _. false) λ vs _.
+    leb i (above vs) && holds (boxRules p vs i) (boxRules p vs i .root) x
 
 -- a call gives a mode and the next state
 abbrev pub startGives : List ℕ → List ℕ → StartState → List ℤ → ℕ → StartState → Type 0

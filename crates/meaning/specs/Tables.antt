@@ -50,9 +50,12 @@ rulesFrom n N K D root goal safe step = record {
   follows = λ u x y. follows (step u) (readingOf n x) (readingOf n y);
 }
 
--- those of a plant's own table: R is tiled, and patterns end in R
+-- those of a plant's table over a box, into a goal; and of its own table: R is tiled, and patterns end in R
+abbrev pub tableRules : Plant → List Side → List Side → Rules
+tableRules p root goal = rulesFrom (p .n) (p .modes) (p .k) (p .d) root goal (safeOf p) (stepOf p)
+
 abbrev pub rulesOf : Plant → Rules
-rulesOf p = rulesFrom (p .n) (p .modes) (p .k) (p .d) (rootOf p) (rootOf p) (safeOf p) (stepOf p)
+rulesOf p = tableRules p (rootOf p) (rootOf p)
 
 abbrev pub onPlant : {A : Type 0} → Judged Plant → (Refusal → A) → (Plant → A) → A
 onPlant (bad e) refuse rest = refuse e

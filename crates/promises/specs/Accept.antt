@@ -18,7 +18,7 @@ use Rattle.meaning.specs.Refusals.{badTable}
 use Rattle.meaning.specs.Numbers.{bytesOf}
 use Rattle.meaning.specs.Rules.{Rules, rule}
 use Rattle.meaning.specs.Trees.{Tree, layout, tableOf}
-use Rattle.meaning.specs.Verdicts.{onWalk, walk, header, verdict}
+use Rattle.meaning.specs.Verdicts.{walk, header, tableEnd, verdict}
 use Rattle.promises.specs.Laws.{Sizes}
 use Rattle.promises.specs.Shapes.{Working}
 use Rattle.promises.specs.Walking.{walk-went}
@@ -36,17 +36,25 @@ module _ (r : Rules) where
       let head = bytesOf 1 ++ bytesOf n in
       stand-join h p .bytes ∙ rw (drop-length s, append-nil (head ++ layout t)) (append-assoc (bytesOf 1) (bytesOf n) (layout t))
 
-  accepted-is : (s : List ℕ) → verdict r s ≡ Verdict.Accepted → (t : Tree) × Working r t × (s ≡ tableOf r t)
+  -- a table is accepted exactly where it ends with its file
+  pub accepted-end : (s : List ℕ) → (verdict r s ≡ Verdict.Accepted) ↔ (tableEnd r s ≡ Walk.Next (length s))
   unfolding verdict
-  accepted-is s e =
-      let h = walk-went (header n s) Verdict.Refused (λ at. onWalk (walk r (rule r) D s at root) Verdict.Refused ended) (λ _. refused-accepted) e in
-      let w = walk-went (walk r (rule r) D s (h .0) root) Verdict.Refused ended (λ _. refused-accepted) (h .2) in
-      let g = guard-passed (eqb (w .0) (length s)) (λ _. Verdict.Accepted) refused-accepted (w .2) in
-      let t = walk-stands r (rule r) D s (h .0) root (length s) (w .1 ∙ ap (λ (m : ℕ). Walk.Next m) (eqb-true (w .0) (length s) (g .0))) in
-      (t .tree, t .over, filled s (h .0) (t .tree) (header-stands n s (h .0) (h .1)) (t .stand))
+  accepted-end s = (
+    λ e.
+        let w = walk-went (tableEnd r s) Verdict.Refused ended (λ _. refused-accepted) e in
+        let g = guard-passed (eqb (w .0) (length s)) (λ _. Verdict.Accepted) refused-accepted (w .2) in
+        w .1 ∙ ap (λ (m : ℕ). Walk.Next m) (eqb-true (w .0) (length s) (g .0)),
+    λ e. simp (e, eq-eqb (length s) (length s) refl),
+  )
     where
       ended : ℕ → Verdict
       ended m = guard (eqb m (length s)) (Verdict.Refused (badTable m)) λ _. Verdict.Accepted
+
+  accepted-is : (s : List ℕ) → verdict r s ≡ Verdict.Accepted → (t : Tree) × Working r t × (s ≡ tableOf r t)
+  accepted-is s e =
+      let h = walk-went (header n s) Walk.Refused (λ at. walk r (rule r) D s at root) (λ _ z. never cc) (accepted-end s .0 e) in
+      let t = walk-stands r (rule r) D s (h .0) root (length s) (h .2) in
+      (t .tree, t .over, filled s (h .0) (t .tree) (header-stands n s (h .0) (h .1)) (t .stand))
 
   module _ (sizes : Sizes r) where
     is-accepted : (t : Tree) → Working r t → verdict r (tableOf r t) ≡ Verdict.Accepted

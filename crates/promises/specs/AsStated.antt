@@ -141,7 +141,7 @@ pub record Makes (make : Maker) : Type 0 where
   -- where the defined table fits, its bytes stand in front, their number is answered, and the rest of the buffer is as it was
   pub writes : (plant buf bytes : List ℕ) → DefinedTable plant bytes → length bytes ≤ length buf → make plant buf ≡ wrote bytes buf
   -- 9 exactly where the plant is good and no table at all is accepted; 10 exactly where the defined table does not fit; and before them the plant's own refusal
-  pub nine : (plant buf : List ℕ) → (make plant buf .answer ≡ Written.Refused noTable)
+  pub nine : (plant buf : List ℕ) → (make plant buf .answer ≡ Written.Refused (noTable 0))
       ↔ ((p : Plant) × (plantJudged plant ≡ good p) × ((table : List ℕ) → checked plant table ≡ Verdict.Accepted → ⊥))
   pub ten : (plant buf : List ℕ) → (make plant buf .answer ≡ Written.Refused short) ↔ ((bytes : List ℕ) × DefinedTable plant bytes × (length buf < length bytes))
   pub plant-first : (plant buf : List ℕ) (e : Refusal) → plantJudged plant ≡ bad e → make plant buf .answer ≡ Written.Refused e
@@ -207,7 +207,7 @@ module _ (f g : Maker) (F : Makes f) (G : Makes g) (plant buf : List ℕ) where
           of-table bytes (record { p = p; judged = e; tree = t; defined = q; is = refl }) (decLt (length buf) (length bytes))
       of-tree p e none q =
           let no = nine-exactly plant p e .0 (made-as plant p e ∙ rw q refl) in
-          refused-alike noTable (F .nine plant buf .1 (p, e, no)) (G .nine plant buf .1 (p, e, no))
+          refused-alike (noTable 0) (F .nine plant buf .1 (p, e, no)) (G .nine plant buf .1 (p, e, no))
 
       of-plant : (j : Judged Plant) → plantJudged plant ≡ j → f plant buf ≡ g plant buf
       of-plant (bad e) q = refused-alike e (F .plant-first plant buf e q) (G .plant-first plant buf e q)

@@ -63,6 +63,7 @@ pub mod ShutOut
 pub mod Sound
 pub mod Splits
 pub mod Starred
+pub mod starts
 pub mod TableLengths
 pub mod TableTrips
 pub mod Telling

@@ -26,7 +26,7 @@ use Rattle.meaning.specs.Files.{Judged, good, bad}
 use Rattle.meaning.specs.Plants.{plantJudged}
 use Rattle.meaning.specs.Rules.{Rules}
 use Rattle.meaning.specs.Tables as T
-use Rattle.meaning.specs.Tables.{rulesOf, onPlant, checked, tableBytes, made, makerLeft}
+use Rattle.meaning.specs.Tables.{rulesOf, onPlant, checked, tableBytes, definedTable, made, makerLeft}
 use Rattle.meaning.specs.Trees.{Tree, tableOf}
 use Rattle.meaning.specs.Verdicts.{verdict}
 use Rattle.promises.specs.Buffers.{wrote, left-fits, left-short}
@@ -43,11 +43,11 @@ refusal-told q = cc
 -- ---- the bytes of a tree that may not be there
 
 module _ (r : Rules) where
-  none-bytes : (o : Option Tree) → (tableBytes r o ≡ bad noTable) ↔ (o ≡ none)
+  none-bytes : (o : Option Tree) → (tableBytes 0 r o ≡ bad (noTable 0)) ↔ (o ≡ none)
   none-bytes none = (λ e. refl, λ e. refl)
   none-bytes (some t) = (λ e. never cc, λ e. never cc)
 
-  some-bytes : (o : Option Tree) (bytes : List ℕ) → (tableBytes r o ≡ good bytes) ↔ ((t : Tree) × (o ≡ some t) × (bytes ≡ tableOf r t))
+  some-bytes : (o : Option Tree) (bytes : List ℕ) → (tableBytes 0 r o ≡ good bytes) ↔ ((t : Tree) × (o ≡ some t) × (bytes ≡ tableOf r t))
   some-bytes none bytes = (λ e. never cc, λ w. let e : none ≡ some (w .0) = w .1 in never cc)
   some-bytes (some t) bytes = (λ e. (t, refl, cc), λ w. same (w .0) (w .1) (w .2))
     where
@@ -69,16 +69,16 @@ module _ (buf : List ℕ) where
       go false q e = leb-false (length bytes) (length buf) q
 
   -- bytes that are there are not answered by 9
-  not-nine : (bytes : List ℕ) → left (good bytes) buf .answer ≡ Written.Refused noTable → ⊥
+  not-nine : (bytes : List ℕ) → left (good bytes) buf .answer ≡ Written.Refused (noTable 0) → ⊥
   not-nine bytes = go (leb (length bytes) (length buf))
     where
-      go : (c : Bool) → fitted bytes c .answer ≡ Written.Refused noTable → ⊥
+      go : (c : Bool) → fitted bytes c .answer ≡ Written.Refused (noTable 0) → ⊥
       go true e = never cc
       go false e = let q = ap (λ (f : Refusal). f .number) (refusal-told e) in omega (arith, q)
 
-  nine-answered : (j : Judged (List ℕ)) → (left j buf .answer ≡ Written.Refused noTable) ↔ (j ≡ bad noTable)
+  nine-answered : (j : Judged (List ℕ)) → (left j buf .answer ≡ Written.Refused (noTable 0)) ↔ (j ≡ bad (noTable 0))
   nine-answered (good bytes) = (λ e. absurd (not-nine bytes e), λ e. never cc)
-  nine-answered (bad f) = (λ e. ap (λ (g : Refusal). bad g) (refusal-told e), λ e. let z : f ≡ noTable = cc in rw z refl)
+  nine-answered (bad f) = (λ e. ap (λ (g : Refusal). bad g) (refusal-told e), λ e. let z : f ≡ noTable 0 = cc in rw z refl)
 
 -- ---- S7
 
@@ -87,7 +87,7 @@ pub made-accepted : (plant bytes : List ℕ) → made plant ≡ good bytes → c
 unfolding T.made
 made-accepted plant bytes = go (plantJudged plant) refl
   where
-    go : (j : Judged Plant) → plantJudged plant ≡ j → onPlant j bad (λ p. tableBytes (rulesOf p) (definedTree (rulesOf p))) ≡ good bytes
+    go : (j : Judged Plant) → plantJudged plant ≡ j → onPlant j bad (λ p. definedTable 0 (rulesOf p)) ≡ good bytes
         → checked plant bytes ≡ Verdict.Accepted
     go (bad f) e a = never cc
     go (good p) e a =
@@ -102,7 +102,7 @@ module _ (plant : List ℕ) (p : Plant) (e : plantJudged plant ≡ good p) where
       (λ a. w .0 (sym (made-as plant p e) ∙ a), λ t. made-as plant p e ∙ w .1 t)
 
   -- and 9 exactly where no table at all is accepted
-  pub nine-exactly : (made plant ≡ bad noTable) ↔ ((table : List ℕ) → checked plant table ≡ Verdict.Accepted → ⊥)
+  pub nine-exactly : (made plant ≡ bad (noTable 0)) ↔ ((table : List ℕ) → checked plant table ≡ Verdict.Accepted → ⊥)
   nine-exactly =
       let w = none-bytes (rulesOf p) (definedTree (rulesOf p)) in
       let k = no-table-exactly (rulesOf p) (judged-sizes plant p e) in (
@@ -117,27 +117,27 @@ pub made-told : (plant : List ℕ) (f : Refusal) → made plant ≡ bad f → Te
 unfolding T.made
 made-told plant f = go (plantJudged plant) refl
   where
-    tree : (r : Rules) (o : Option Tree) → tableBytes r o ≡ bad f → Telling (9 ∷ plantNumbers) (length plant) f
-    tree r none a = let z : f ≡ noTable = cc in rw z (record { number = refl; place = refl; step = refl })
+    tree : (r : Rules) (o : Option Tree) → tableBytes 0 r o ≡ bad f → Telling (9 ∷ plantNumbers) (length plant) f
+    tree r none a = let z : f ≡ noTable 0 = cc in rw z (record { number = refl; place = refl; step = refl })
     tree r (some t) a = never cc
 
-    go : (j : Judged Plant) → plantJudged plant ≡ j → onPlant j bad (λ p. tableBytes (rulesOf p) (definedTree (rulesOf p))) ≡ bad f → Telling (9 ∷ plantNumbers) (length plant) f
+    go : (j : Judged Plant) → plantJudged plant ≡ j → onPlant j bad (λ p. definedTable 0 (rulesOf p)) ≡ bad f → Telling (9 ∷ plantNumbers) (length plant) f
     go (bad e) q a = let z : f ≡ e = cc in rw z (told-more (plant-told plant e q) (9 ∷ plantNumbers) refl)
     go (good p) q a = tree (rulesOf p) (definedTree (rulesOf p)) a
 
 -- 9 is said of a plant that was judged good
-nine-judged : (plant : List ℕ) → made plant ≡ bad noTable → (p : Plant) × (plantJudged plant ≡ good p)
+nine-judged : (plant : List ℕ) → made plant ≡ bad (noTable 0) → (p : Plant) × (plantJudged plant ≡ good p)
 unfolding T.made
 nine-judged plant = go (plantJudged plant) refl
   where
-    go : (j : Judged Plant) → plantJudged plant ≡ j → onPlant j bad (λ p. tableBytes (rulesOf p) (definedTree (rulesOf p))) ≡ bad noTable
+    go : (j : Judged Plant) → plantJudged plant ≡ j → onPlant j bad (λ p. definedTable 0 (rulesOf p)) ≡ bad (noTable 0)
         → (p : Plant) × (plantJudged plant ≡ good p)
     go (bad e) q a = let z : e .number ≡ 9 = cc in absurd (not-told (plant-told plant e q) 9 refl z)
     go (good p) q a = (p, q)
 
 module _ (plant buf : List ℕ) where
   -- 9 exactly where the plant is good and no table at all is accepted
-  pub maker-nine : (makerLeft plant buf .answer ≡ Written.Refused noTable)
+  pub maker-nine : (makerLeft plant buf .answer ≡ Written.Refused (noTable 0))
       ↔ ((p : Plant) × (plantJudged plant ≡ good p) × ((table : List ℕ) → checked plant table ≡ Verdict.Accepted → ⊥))
   unfolding T.makerLeft
   maker-nine =

@@ -20,7 +20,7 @@ use Rattle.meaning.specs.Files.{Judged, good, bad}
 use Rattle.meaning.specs.Numbers.{bytesOf}
 use Rattle.meaning.specs.Plants.{plantJudged, readOf}
 use Rattle.meaning.specs.Tables as T
-use Rattle.meaning.specs.Tables.{rulesOf, checked, tableBytes, made, controlled}
+use Rattle.meaning.specs.Tables.{rulesOf, checked, definedTable, made, controlled}
 use Rattle.meaning.specs.Trees.{Tree, layout, tableOf}
 use Rattle.meaning.specs.Verdicts.{verdict}
 use Rattle.promises.specs.Bytes.{one-byte}
@@ -88,7 +88,7 @@ module _ (plant : List ℕ) (p : Plant) (e : plantJudged plant ≡ good p) where
   unfolding T.checked
   checked-as table = rw e refl
 
-  pub made-as : made plant ≡ tableBytes (rulesOf p) (definedTree (rulesOf p))
+  pub made-as : made plant ≡ definedTable 0 (rulesOf p)
   unfolding T.made
   made-as = rw e refl
 

@@ -125,7 +125,7 @@ module _ (plant table : List ℕ) where
 module _ (plant buf : List ℕ) where
   pub nine-shown : (writtenShown (makerLeft plant buf .answer) ≡ shows 9 0 0 [])
       ↔ ((p : Plant) × (plantJudged plant ≡ good p) × ((table : List ℕ) → checked plant table ≡ Verdict.Accepted → ⊥))
-  nine-shown = Iff·trans (written-exactly (makerLeft plant buf .answer) (Written.Refused noTable)) (maker-nine plant buf)
+  nine-shown = Iff·trans (written-exactly (makerLeft plant buf .answer) (Written.Refused (noTable 0))) (maker-nine plant buf)
 
   pub ten-shown : (writtenShown (makerLeft plant buf .answer) ≡ shows 10 0 0 []) ↔ ((bytes : List ℕ) × (made plant ≡ good bytes) × (length buf < length bytes))
   ten-shown = Iff·trans (written-exactly (makerLeft plant buf .answer) (Written.Refused short)) (maker-ten plant buf)

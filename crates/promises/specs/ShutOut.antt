@@ -107,7 +107,7 @@ defined₅ : DefinedTable P′ table₅
 unfolding computing
 defined₅ = let t = made-exactly P′ plantP′ judged′ table₅ .0 refl in record { p = plantP′; judged = judged′; tree = t .0; defined = t .1; is = t .2 }
 
-pub always-nine : (make : Maker) → ((plant buf : List ℕ) → make plant buf .answer ≡ Written.Refused noTable) → Makes make → ⊥
+pub always-nine : (make : Maker) → ((plant buf : List ℕ) → make plant buf .answer ≡ Written.Refused (noTable 0)) → Makes make → ⊥
 always-nine make nine demand = let w = demand .nine P [] .0 (nine P []) in w .2 table₁ accepted₁
 
 -- the buffer's first byte was not 1

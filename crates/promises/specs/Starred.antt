@@ -102,7 +102,7 @@ pub record StarredLines : Type 0 where
   pub line1 : (makerLeft P (lent 9) ≡ wrote table₁ 2)
       × (makerLeft P (lent 7) ≡ wrote table₁ 0)
       × (makerLeft P (lent 6) ≡ refusedWith short (lent 6))
-      × (makerLeft P₀ (lent 6) ≡ refusedWith noTable (lent 6))
+      × (makerLeft P₀ (lent 6) ≡ refusedWith (noTable 0) (lent 6))
   pub line2 : (imageBy 1 195 225 ≡ one (pos 205) (pos 232)) × (imageBy 0 195 225 ≡ one (pos 185) (pos 212))
   pub line3 : (imageBy 1 195 210 ≡ one (pos 205) (pos 219)) × (imageBy 0 211 225 ≡ one (pos 200) (pos 212))
   pub line4 : (checked P table₄ ≡ Verdict.Refused (leaves 2 1))

@@ -21,6 +21,7 @@ use Rattle.meaning.specs.declared.Plant.{Plant}
 use Rattle.meaning.specs.declared.Sheet.{Sheet}
 use Rattle.meaning.specs.declared.Refusal.{Refusal}
 use Rattle.meaning.specs.declared.Found.{Found}
+use Rattle.meaning.specs.declared.Walk.{Walk}
 use Rattle.meaning.specs.declared.Verdict.{Verdict}
 use Rattle.meaning.specs.declared.Written.{Written}
 use Rattle.meaning.specs.declared.State.{State}
@@ -37,7 +38,7 @@ use Rattle.meaning.specs.Sheets.{plantFileMade, sheetJudged, sheetRead, sheetRe
 use Rattle.meaning.specs.Tables as T
 use Rattle.meaning.specs.Tables.{readingOf, rulesOf, onPlant, checked, made, makerLeft, controlled}
 use Rattle.meaning.specs.Verdicts as W
-use Rattle.meaning.specs.Verdicts.{walk, header, verdict}
+use Rattle.meaning.specs.Verdicts.{walk, header, tableEnd, verdict}
 use Rattle.meaning.specs.Control as C
 use Rattle.meaning.specs.Control.{stateAt, modeAt, onFound, find, canRun, inside, stateCall, call}
 use Rattle.promises.specs.Boxes.{points, points-fit}
@@ -48,7 +49,7 @@ use Rattle.promises.specs.PlantFiles.{plantFile}
 use Rattle.promises.specs.SheetFiles.{sheetFile}
 use Rattle.promises.specs.Shows.{refusing, noMode, Some}
 use Rattle.promises.specs.Telling.{oneOf, areOf, Telling, guard-keeps, told-more, not-told}
-use Rattle.promises.specs.WalkTold.{number-keeps, FoundTells, walk-keeps, table-told, header-tells, walk-tells, find-tells, rule-tells}
+use Rattle.promises.specs.WalkTold.{number-keeps, FoundTells, WalkTells, walk-keeps, table-told, header-tells, walk-tells, find-tells, rule-tells}
 
 -- ---- the numbers, besides those of a plant and of a sheet (page Faults); those of checker and controller are about the table
 
@@ -78,13 +79,16 @@ module _ (r : Rules) (s : List ℕ) where
   VerdictTells Verdict.Accepted = Unit {0}
   VerdictTells (Verdict.Refused e) = Telling checkerNumbers (length s) e
 
+  pub end-tells : r .K ≤ 6 → WalkTells checkerNumbers (length s) (tableEnd r s)
+  end-tells most =
+      walk-keeps checkerNumbers (length s) (WalkTells checkerNumbers (length s)) (header (r .n) s) Walk.Refused _ (header-tells checkerNumbers s refl refl refl (r .n)) (λ e t. t)
+      (λ at l. walk-tells checkerNumbers s refl refl r (rule r) (rule-tells r checkerNumbers s refl refl most) (r .D) at (r .root) l)
+
   verdict-tells : r .K ≤ 6 → VerdictTells (verdict r s)
   unfolding W.verdict
   verdict-tells most =
-      walk-keeps checkerNumbers (length s) VerdictTells (header (r .n) s) Verdict.Refused _ (header-tells checkerNumbers s refl refl refl (r .n)) (λ e t. t)
-      (λ at l. walk-keeps checkerNumbers (length s) VerdictTells (walk r (rule r) (r .D) s at (r .root)) Verdict.Refused _
-      (walk-tells checkerNumbers s refl refl r (rule r) (rule-tells r checkerNumbers s refl refl most) (r .D) at (r .root) l) (λ e t. t)
-      (λ next m. guard-keeps VerdictTells (eqb next (length s)) _ (λ _. table-told checkerNumbers s refl refl next m) (λ _. tt)))
+      walk-keeps checkerNumbers (length s) VerdictTells (tableEnd r s) Verdict.Refused _ (end-tells most) (λ e t. t)
+      (λ next m. guard-keeps VerdictTells (eqb next (length s)) _ (λ _. table-told checkerNumbers s refl refl next m) (λ _. tt))
 
   -- answered, or refused so
   abbrev AnswerTells : Answer → Type 0

@@ -6,7 +6,7 @@ use mathlib.Core.Option.{Option, none, some}
 use lib.ListN.{length}
 use Rattle.laws.specs.Writing.{Put}
 use Rattle.meaning.specs.Buffers.{Left, left}
-use Rattle.meaning.specs.Tables.{tableBytes}
+use Rattle.meaning.specs.Tables.{definedTable}
 use Rattle.meaning.specs.Trees.{layout, layouts, tableOf}
 use Rattle.meaning.specs.Rules.{Rules}
 use Rattle.meaning.specs.Defined.{mapSome, allOf, treeOf, definedTree}
@@ -35,4 +35,4 @@ module _ (r : Rules) where
 
   -- and what a write of it leaves: 9 where there is none, 10 where it does not fit
   abbrev pub definedLeft : List ℕ → Left
-  definedLeft buf = left (tableBytes r (definedTree r)) buf
+  definedLeft buf = left (definedTable 0 r) buf

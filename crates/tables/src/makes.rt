@@ -117,7 +117,7 @@ fn write_table(f: Frame, coef: &[i64; 320], draft: &mut [u8], buf: &mut [u8]) ->
     ensures bytes { λ r. ⌜ now (buf .exit) ≡ definedLeft (rulesIn f (now (coef .entry))) (now (buf .entry)) .buffer ⌝ }
 {
     let Grown::Next(length) = table(f, coef, draft) else {
-        return buffers::refuse(refusals::no_table(), buf);
+        return buffers::refuse(refusals::no_table(0), buf);
     };
     buffers::leave(Verdict::Accepted, &draft[..length], buf)
 }

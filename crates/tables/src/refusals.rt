@@ -54,12 +54,12 @@ pub fn bad_state() -> Refusal
     }
 }
 
-pub fn no_table() -> Refusal
-    ensures { λ r. ⌜ r ≡ R.noTable ⌝ }
+pub fn no_table(i: usize) -> Refusal
+    ensures { λ r. ⌜ r ≡ R.noTable i ⌝ }
 {
     Refusal {
         number: 9,
-        place: 0,
+        place: i,
         step: 0,
     }
 }

@@ -208,10 +208,10 @@ module _ (r : Rules) where
   -- ---- a draft of it: 9 where there is none, else its front is the table, where the draft has room for it
 
   module _ (draft buf : List ℕ) (a : Grown) (out : List ℕ) (w : Wrote (definedBytes r) draft 0 a out) where
-    pub left-none : a ≡ Grown.Nothing → refusedWith noTable buf ≡ definedLeft r buf
+    pub left-none : a ≡ Grown.Nothing → refusedWith (noTable 0) buf ≡ definedLeft r buf
     left-none z = go (definedTree r) (rw z at w)
       where
-        go : (o : Option Tree) → Wrote (mapSome (tableOf r) o) draft 0 Grown.Nothing out → refusedWith noTable buf ≡ left (tableBytes r o) buf
+        go : (o : Option Tree) → Wrote (mapSome (tableOf r) o) draft 0 Grown.Nothing out → refusedWith (noTable 0) buf ≡ left (tableBytes 0 r o) buf
         go (some t) v = absurd v
         go none v = refl
 
