@@ -64,6 +64,7 @@ fn tell_row(number: u8) {
         12 => say(b"state cannot be"),
         13 => say(b"sheet float not finite, time \xe2\x89\xa4 0, or loss, exchange or p below 0"),
         14 => say(b"sheet result not finite or outside the plant's range"),
+        15 => say(b"a box that does not hold the one before or is not in S"),
         _ => say(b"no such number"),
     }
 }

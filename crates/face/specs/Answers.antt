@@ -1,4 +1,4 @@
--- What is answered and put into `out` of a controller's call, and the state that it takes. Definitions alone.
+-- What is answered and put into `out` of a controller's call, on a table and on a start file, and the state that it takes. Definitions alone.
 use Prim.Native.Nat.{ℕ}
 use mathlib.Core.List.{List, [], _∷_}
 use lib.IntN.{natAbs}
@@ -6,6 +6,8 @@ use Rattle.laws.specs.Lists.{at}
 use Rattle.meaning.specs.declared.State.{State}
 use Rattle.meaning.specs.declared.Refusal.{Refusal}
 use Rattle.meaning.specs.declared.Answer.{Answer}
+use Rattle.meaning.specs.declared.StartState.{StartState}
+use Rattle.meaning.specs.declared.StartAnswer.{StartAnswer}
 use Rattle.meaning.specs.Refusals.{Shown, refusal}
 
 -- the mode; and number, place, next place, next left
@@ -23,3 +25,14 @@ stateOf place left = record { place = place; left = left }
 abbrev pub refusalOf : Answer → Refusal
 refusalOf (Answer.Refused e) = e
 refusalOf (Answer.Mode u next) = refusal 0 0 0
+
+-- the same of a start file: number, place, step, next index, next place, next left
+abbrev pub numbersAndState : Shown → List ℕ
+numbersAndState a = a .number ∷ a .place ∷ a .step ∷ natAbs (at (a .values) 1) ∷ natAbs (at (a .values) 2) ∷ natAbs (at (a .values) 3) ∷ []
+
+abbrev pub startStateOf : ℕ → ℕ → ℕ → StartState
+startStateOf index place left = record { index = index; state = stateOf place left }
+
+abbrev pub startRefusalOf : StartAnswer → Refusal
+startRefusalOf (StartAnswer.Refused e) = e
+startRefusalOf (StartAnswer.Mode u next) = refusal 0 0 0

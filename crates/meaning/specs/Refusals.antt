@@ -52,7 +52,8 @@ leaves at i = refusal 7 at i
 abbrev pub misses : ℕ → ℕ → Refusal
 misses at i = refusal 8 at i
 
--- 9: no table; the index of the first box without one, 0 where there is one box
+-- 9: no table
+-- In a start file the place is the first index without one; R's is 0.
 abbrev pub noTable : ℕ → Refusal
 noTable i = refusal 9 i 0
 
@@ -76,7 +77,7 @@ badFloat at = refusal 13 at 0
 abbrev pub badResult : ℕ → Refusal
 badResult k = refusal 14 k 0
 
--- 15: a box of a chain does not hold the one before or is not in S; the first index, from 1
+-- 15: a box that does not hold the one before or is not in S; first index at fault
 abbrev pub notHeld : ℕ → Refusal
 notHeld i = refusal 15 i 0
 
