@@ -1,18 +1,19 @@
 -- Start files worked out by hand from document 02, request 2026-03.
-use Prim.Native.Nat.{ℕ}
+use Prim.Native.Nat.{ℕ, zero, suc}
 use mathlib.Core.Path.{_≡_, refl}
-use mathlib.Core.Bool.{Bool, true, false}
+use mathlib.Core.Bool.{true}
 use mathlib.Core.List.{List, [], _∷_, _++_}
-use lib.ListN.{length, replicate, take}
+use lib.ListN.{replicate, take}
 use lib.IntN.{ℤ, pos, negℤ}
 use Rattle.meaning.specs.declared.Verdict.{Verdict}
 use Rattle.meaning.specs.declared.StartState.{StartState}
 use Rattle.meaning.specs.declared.StartAnswer.{StartAnswer}
+use Rattle.meaning.specs.declared.Written.{Written}
 use Rattle.meaning.specs.Buffers.{refusedWith}
-use Rattle.meaning.specs.Refusals.{broken, wrongForm, unfit, badTable, misses, noTable, outside, badState, notHeld, refusal}
+use Rattle.meaning.specs.Refusals.{broken, wrongForm, unfit, badTable, noTable, short, outside, badState, notHeld, refusal}
 use Rattle.meaning.specs.Files.{Judged, good, bad, fileOf}
 use Rattle.meaning.specs.Plants.{plantForm}
-use Rattle.meaning.specs.Starts.{chainForm, startIdle, startMade, startChecked, startControlled}
+use Rattle.meaning.specs.Starts.{chainForm, startIdle, startMade, startLeft, startChecked, startControlled}
 use Rattle.meaning.specs.Tables.{mayFollow}
 use Rattle.meaning.specs.Computing.{computing}
 
@@ -54,8 +55,8 @@ called : (told startIdle 190 ≡ StartAnswer.Mode 1 startIdle) × (told startIdl
 unfolding computing
 called = (refl, refl, refl, refl, refl, refl, refl, refl)
 
--- refused writers: a box that does not hold the one before, one outside S, m over 8, an edge behind its place, no table (at depth 0 none of 190..230 works in
--- one tile, and none of R does)
+-- Chains that are refused: a box that does not hold the one before, one outside S, m over 8, another form, a byte behind, lo > hi, an edge cut short. And no
+-- table: at depth 0 no pattern works for all of R, and from 150 no two modes lead into R.
 refusals : (startMade P (fileOf (chainForm 1) (pos 1 ∷ pos 2 ∷ pos 190 ∷ pos 230 ∷ pos 191 ∷ pos 230 ∷ [])) ≡ bad (notHeld 2))
     × (startMade P (fileOf (chainForm 1) (pos 1 ∷ pos 1 ∷ pos 190 ∷ pos 231 ∷ [])) ≡ bad (notHeld 1))
     × (startMade P (1 ∷ 9 ∷ []) ≡ bad (unfit 1)) × (startMade P (2 ∷ []) ≡ bad wrongForm) × (startMade P (chain ++ 0 ∷ []) ≡ bad (unfit 6))
@@ -108,7 +109,34 @@ faults : (judged (spoilt 6 []) ≡ Verdict.Refused (broken 6)) × (judged (spoil
 unfolding computing
 faults = (refl, refl, refl, refl, refl, refl, refl)
 
--- from 190..210 mode 1 leads into R, from 211..230 it does not
-missed : judged (spoilt 14 (7 ∷ 1 ∷ 1 ∷ 0 ∷ 1 ∷ 1 ∷ 1 ∷ 1 ∷ [])) ≡ Verdict.Refused (refusal 7 20 1)
+-- mode 1 on 211..230 leads to 219 and up to 237, out of S: 7, at the tile's byte in the start file
+left-safe : judged (spoilt 14 (7 ∷ 1 ∷ 1 ∷ 0 ∷ 1 ∷ 1 ∷ 1 ∷ 1 ∷ [])) ≡ Verdict.Refused (refusal 7 20 1)
 unfolding computing
-missed = refl
+left-safe = refl
+
+-- in the cold room mode 1 on R1, 180..225, leads to 192..232: within S, and not within R, the box below
+abbrev coldHead : List ℕ
+coldHead = fileOf (chainForm 1) (pos 1 ∷ pos 1 ∷ pos 180 ∷ pos 225 ∷ []) ++ 5 ∷ 1 ∷ 1 ∷ 2 ∷ 0 ∷ 1 ∷ []
+
+missing : startChecked cold (coldHead ++ 4 ∷ 1 ∷ 1 ∷ 1 ∷ 1 ∷ []) ≡ Verdict.Refused (refusal 8 15 1)
+unfolding computing
+missing = refl
+
+-- equal boxes: R1 is R, and a reading in both goes by R's table; nine boxes at most
+unfoldable same : ℕ → List ℤ
+same zero = []
+same (suc m) = pos 195 ∷ pos 225 ∷ same m
+
+equal-boxes : (startControlled P (startFrom (startMade P (fileOf (chainForm 1) (pos 1 ∷ pos 8 ∷ same 8)))) (state 8 4 1) (pos 200 ∷ []) ≡ StartAnswer.Mode 1 startIdle)
+    × (startControlled P (startFrom (startMade P (fileOf (chainForm 1) (pos 1 ∷ pos 8 ∷ same 8)))) (state 9 4 1) (pos 200 ∷ []) ≡ StartAnswer.Refused badState)
+unfolding computing same
+equal-boxes = (refl, refl)
+
+-- a lent buffer: too short it is all zeros, and a longer one keeps what stands behind
+lent-short : startLeft P chain (replicate 21 0xAA) ≡ refusedWith short (replicate 21 0xAA)
+unfolding computing
+lent-short = refl
+
+lent-long : startLeft P chain (replicate 23 0xAA) ≡ record { answer = Written.Length 22; buffer = start ++ 0xAA ∷ [] }
+unfolding computing
+lent-long = refl
