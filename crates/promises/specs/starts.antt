@@ -1,2 +1,4 @@
+pub mod Accepted
 pub mod Chains
+pub mod Parts
 pub mod Started
