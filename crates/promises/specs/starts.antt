@@ -1,4 +1,6 @@
 pub mod Accepted
+pub mod Calls
 pub mod Chains
 pub mod Parts
+pub mod Places
 pub mod Started

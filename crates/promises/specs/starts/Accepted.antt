@@ -122,10 +122,10 @@ module _ (plant start : List ℕ) where
     pub table-short : (i : ℕ) → i < length (t .tables) → length (getD (t .tables) i []) ≤ 30_039
     table-short i h = over-box (t .p) (judged-sound plant (t .p) (t .judged)) _ _ (box-size (t .p) (t .vs) i) (getD (t .tables) i []) (t .each i h)
 
-    tables-short : Every Short (t .tables)
+    pub tables-short : Every Short (t .tables)
     tables-short = shorts (t .tables) (λ i h. omega (arith, table-short i h))
 
-    tables-stand : Stands start (t .next) (partsOf (t .tables)) (length start)
+    pub tables-stand : Stands start (t .next) (partsOf (t .tables)) (length start)
     tables-stand = back-stands start (fileOf (chainForm (t .p .n)) (t .vs)) (partsOf (t .tables)) (t .next) (t .is) (omega (arith, writes-back (chainForm (t .p .n)) start 0 (t .chain) .1 .end))
 
     started-accepted : startChecked plant start ≡ Verdict.Accepted

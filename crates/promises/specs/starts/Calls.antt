@@ -1,0 +1,134 @@
+-- A call on a start file that keeps its rules (page Started; document 02, request 2026-03): running, it is the call on the table of the box that the state
+-- names; idle, on that of the smallest box that holds the reading. Relies on pages Accepted and Places for where the tables are. What the table then
+-- answers is left to the pages on tables; that an idle call outside Rm is 11 is the definition.
+use Prim.Native.Nat.{ℕ, _+_, _≤_, _<_}
+use mathlib.Core.Path.{_≡_, refl, sym, ap, _∙_}
+use mathlib.Core.Bool.{Bool, true, false, _||_, not}
+use mathlib.Core.List.{List, []}
+use native.Mathlib.Omega.{arith}
+use native.Mathlib.Nat.{zero-add}
+use lib.ListN.{length, getD}
+use lib.Dec.{eqb}
+use lib.IntN.{ℤ}
+use borrow.Author.Tests.{le-leb}
+use Rattle.laws.specs.Lists.{tab, all, firstFalse}
+use Rattle.laws.specs.Tabs.{length-tab, getD-tab, map-tab}
+use Rattle.laws.specs.Tests.{never, all-tab}
+use Rattle.meaning.specs.declared.State.{State}
+use Rattle.meaning.specs.declared.StartState.{StartState}
+use Rattle.meaning.specs.declared.StartAnswer.{StartAnswer}
+use Rattle.meaning.specs.Control.{idle, call}
+use Rattle.meaning.specs.Plants.{rootOf}
+use Rattle.meaning.specs.Rules.{Rules, holds}
+use Rattle.meaning.specs.Starts as S
+use Rattle.meaning.specs.Starts.{above, boxRules, chosen, part, isIdle, startIdle, answerIn, callIn, startCall, startControlled}
+use Rattle.promises.specs.Firsts.{FirstOf, first-exactly}
+use Rattle.promises.specs.starts.Accepted.{tables-short, tables-stand}
+use Rattle.promises.specs.starts.Places.{TableAt, on-part, placeOf, laid}
+use Rattle.promises.specs.starts.Started.{Started}
+
+-- ---- the first of m + 1 tests that holds, the last holding
+
+not-false : (b : Bool) → not b ≡ false → b ≡ true
+not-false true e = refl
+not-false false e = never (sym e)
+
+not-true : (b : Bool) → not b ≡ true → b ≡ false
+not-true true e = never e
+not-true false e = refl
+
+or-true : (b : Bool) → (b || true) ≡ true
+or-true true = refl
+or-true false = refl
+
+module _ (t : ℕ → Bool) (m : ℕ) (last : t m ≡ true) where
+  abbrev firstOf : ℕ
+  firstOf = firstFalse (tab (λ i. not (t i)) (m + 1) 0)
+
+  first-of : FirstOf (λ i. not (t i)) 0 (tab (λ i. i) (m + 1) 0) firstOf
+  first-of =
+      let tests = map-tab (λ i. not (t i)) (λ i. i) (m + 1) 0 in
+      first-exactly (λ i. not (t i)) 0 (tab (λ i. i) (m + 1) 0) firstOf .0
+      (rw tests (go (all (tab (λ i. not (t i)) (m + 1) 0)) refl), rw tests refl)
+    where
+      go : (b : Bool) → all (tab (λ i. not (t i)) (m + 1) 0) ≡ b → b ≡ false
+      go true e = let z : not (t (0 + m)) ≡ true = all-tab (λ i. not (t i)) (m + 1) 0 m (omega arith) e in let q = zero-add m in let k : t m ≡ false = not-true (t m) (rw q at z) in never (sym k ∙ last)
+      go false e = refl
+
+  first-few : firstOf ≤ m
+  first-few = omega (arith, first-of .inside, length-tab (λ i. i) (m + 1) 0)
+
+  entry : (k : ℕ) → k ≤ m → getD (tab (λ i. i) (m + 1) 0) k 0 ≡ k
+  entry k l = getD-tab (λ i. i) 0 (m + 1) 0 k (omega arith) ∙ zero-add k
+
+  first-holds : t firstOf ≡ true
+  first-holds = let e = entry firstOf first-few in not-false (t firstOf) (rw e at (first-of .fails))
+
+  first-least : (j : ℕ) → j < firstOf → t j ≡ false
+  first-least j l = let e = entry j (omega (arith, first-few)) in not-true (t j) (rw e at (first-of .before j l))
+
+module _ {plant start : List ℕ} (w : Started plant start) where
+  -- Ri's rules and table, and the table's place in the file
+  abbrev pub rulesAt : ℕ → Rules
+  rulesAt i = boxRules (w .p) (w .vs) i
+
+  abbrev pub tableAt : ℕ → List ℕ
+  tableAt i = getD (w .tables) i []
+
+  abbrev pub firstAt : ℕ → ℕ
+  firstAt i = placeOf (w .tables) (w .next) i
+
+  -- whether Ri holds a reading
+  abbrev pub holdsAt : ℕ → List ℤ → Bool
+  holdsAt i x = holds (rulesAt i) (rulesAt i .root) x
+
+  -- The lengths lead to each table.
+  pub record Lies (i : ℕ) : Type 0 where
+    pub there : TableAt start i (w .next) (firstAt i) (length (tableAt i))
+    pub is : part start (firstAt i) (length (tableAt i)) ≡ tableAt i
+
+  pub lies : (i : ℕ) → i ≤ above (w .vs) → Lies i
+  lies i l =
+      let t = laid (w .tables) start i (w .next) (tables-short plant start w) (tables-stand plant start w) (omega (arith, w .count)) in
+      record { there = t .0; is = t .1 }
+
+  -- what a call is when plant and chain are passed
+  started : (st : StartState) (x : List ℤ) → startControlled plant start st x ≡ startCall (w .p) (w .vs) start (w .next) st x
+  unfolding S.startControlled
+  started st x = simp (w .judged, w .chain, w .kept)
+
+  -- the call on the table that the lengths lead to
+  called : (i : ℕ) → i ≤ above (w .vs) → (st : State) (x : List ℤ)
+      → callIn (w .p) (w .vs) start (w .next) i st x ≡ answerIn i (firstAt i) (call (rulesAt i) (tableAt i) st x)
+  called i l st x =
+      let t = lies i l in
+      on-part start StartAnswer.Refused (λ first size. answerIn i first (call (rulesAt i) (part start first size) st x)) (t .there)
+      ∙ ap (λ (s : List ℕ). answerIn i (firstAt i) (call (rulesAt i) s st x)) (t .is)
+
+  -- ---- running
+
+  pub running : (i : ℕ) → i ≤ above (w .vs) → (st : State) → isIdle st ≡ false → (x : List ℤ)
+      → startControlled plant start (record { index = i; state = st }) x ≡ answerIn i (firstAt i) (call (rulesAt i) (tableAt i) st x)
+  running i l st e x =
+      started (record { index = i; state = st }) x ∙ simp (le-leb i (above (w .vs)) l, e, or-true (eqb i 0)) (called i l st x)
+
+  -- ---- idle
+
+  -- Box c is the smallest that holds the reading, of equal ones that of the lowest index, and its table is called.
+  pub record Chose (c : ℕ) (x : List ℤ) : Type 0 where
+    pub few : c ≤ above (w .vs)
+    pub holds-it : holdsAt c x ≡ true
+    pub least : (j : ℕ) → j < c → holdsAt j x ≡ false
+    pub answers : startControlled plant start startIdle x ≡ answerIn c (firstAt c) (call (rulesAt c) (tableAt c) idle x)
+
+  pub chose : (x : List ℤ) → holdsAt (above (w .vs)) x ≡ true → Chose (chosen (w .p .n) (rootOf (w .p)) (w .vs) x) x
+  chose x h =
+      let m = above (w .vs) in
+      let c = chosen (w .p .n) (rootOf (w .p)) (w .vs) x in
+      let few = first-few (λ i. holdsAt i x) m h in
+      record {
+        few = few;
+        holds-it = first-holds (λ i. holdsAt i x) m h;
+        least = first-least (λ i. holdsAt i x) m h;
+        answers = started startIdle x ∙ simp (le-leb 0 m (omega arith), h) (called c few idle x);
+      }
