@@ -1,6 +1,12 @@
 pub mod Accepted
+pub mod Arrival
 pub mod Calls
 pub mod Chains
+pub mod Home
+pub mod Journeys
 pub mod Parts
+pub mod Passes
 pub mod Places
+pub mod Reaching
 pub mod Started
+pub mod Trees

@@ -2,7 +2,7 @@
 -- names; idle, on that of the smallest box that holds the reading. Relies on pages Accepted and Places for where the tables are. What the table then
 -- answers is left to the pages on tables; that an idle call outside Rm is 11 is the definition.
 use Prim.Native.Nat.{ℕ, _+_, _≤_, _<_}
-use mathlib.Core.Path.{_≡_, refl, sym, ap, _∙_}
+use mathlib.Core.Path.{_≡_, refl, sym, _∙_}
 use mathlib.Core.Bool.{Bool, true, false, _||_, not}
 use mathlib.Core.List.{List, []}
 use native.Mathlib.Omega.{arith}
@@ -16,15 +16,14 @@ use Rattle.laws.specs.Tabs.{length-tab, getD-tab, map-tab}
 use Rattle.laws.specs.Tests.{never, all-tab}
 use Rattle.meaning.specs.declared.State.{State}
 use Rattle.meaning.specs.declared.StartState.{StartState}
-use Rattle.meaning.specs.declared.StartAnswer.{StartAnswer}
 use Rattle.meaning.specs.Control.{idle, call}
 use Rattle.meaning.specs.Plants.{rootOf}
 use Rattle.meaning.specs.Rules.{Rules, holds}
-use Rattle.meaning.specs.Starts as S
-use Rattle.meaning.specs.Starts.{above, boxRules, chosen, part, isIdle, startIdle, answerIn, callIn, startCall, startControlled}
+use Rattle.meaning.specs.Starts.{above, boxRules, chosen, part, isIdle, startIdle, answerIn, startControlled}
 use Rattle.promises.specs.Firsts.{FirstOf, first-exactly}
 use Rattle.promises.specs.starts.Accepted.{tables-short, tables-stand}
-use Rattle.promises.specs.starts.Places.{TableAt, on-part, placeOf, laid}
+use Rattle.promises.specs.starts.Places.{TableAt, placeOf, laid}
+use Rattle.promises.specs.starts.Reaching.{boxCalled, reached}
 use Rattle.promises.specs.starts.Started.{Started}
 
 -- ---- the first of m + 1 tests that holds, the last holding
@@ -92,25 +91,28 @@ module _ {plant start : List ℕ} (w : Started plant start) where
       let t = laid (w .tables) start i (w .next) (tables-short plant start w) (tables-stand plant start w) (omega (arith, w .count)) in
       record { there = t .0; is = t .1 }
 
-  -- what a call is when plant and chain are passed
-  started : (st : StartState) (x : List ℤ) → startControlled plant start st x ≡ startCall (w .p) (w .vs) start (w .next) st x
-  unfolding S.startControlled
-  started st x = simp (w .judged, w .chain, w .kept)
-
-  -- the call on the table that the lengths lead to
-  called : (i : ℕ) → i ≤ above (w .vs) → (st : State) (x : List ℤ)
-      → callIn (w .p) (w .vs) start (w .next) i st x ≡ answerIn i (firstAt i) (call (rulesAt i) (tableAt i) st x)
-  called i l st x =
-      let t = lies i l in
-      on-part start StartAnswer.Refused (λ first size. answerIn i first (call (rulesAt i) (part start first size) st x)) (t .there)
-      ∙ ap (λ (s : List ℕ). answerIn i (firstAt i) (call (rulesAt i) s st x)) (t .is)
-
   -- ---- running
 
   pub running : (i : ℕ) → i ≤ above (w .vs) → (st : State) → isIdle st ≡ false → (x : List ℤ)
       → startControlled plant start (record { index = i; state = st }) x ≡ answerIn i (firstAt i) (call (rulesAt i) (tableAt i) st x)
   running i l st e x =
-      started (record { index = i; state = st }) x ∙ simp (le-leb i (above (w .vs)) l, e, or-true (eqb i 0)) (called i l st x)
+      let t = lies i l in
+      let s : StartState = record { index = i; state = st } in
+      let h : boxCalled (w .p) (w .vs) s x ≡ i = rw e refl in
+      reached plant start s x (record {
+        p = w .p;
+        judged = w .judged;
+        vs = w .vs;
+        next = w .next;
+        chain = w .chain;
+        kept = w .kept;
+        index = simp (le-leb i (above (w .vs)) l, e, or-true (eqb i 0));
+        inside = λ q. never (sym e ∙ q);
+        place = firstAt i;
+        size = length (tableAt i);
+        there = rw h (t .there);
+      })
+      ∙ rw (h, t .is) refl
 
   -- ---- idle
 
@@ -126,9 +128,23 @@ module _ {plant start : List ℕ} (w : Started plant start) where
       let m = above (w .vs) in
       let c = chosen (w .p .n) (rootOf (w .p)) (w .vs) x in
       let few = first-few (λ i. holdsAt i x) m h in
+      let t = lies c few in
       record {
         few = few;
         holds-it = first-holds (λ i. holdsAt i x) m h;
         least = first-least (λ i. holdsAt i x) m h;
-        answers = started startIdle x ∙ simp (le-leb 0 m (omega arith), h) (called c few idle x);
+        answers = reached plant start startIdle x (record {
+          p = w .p;
+          judged = w .judged;
+          vs = w .vs;
+          next = w .next;
+          chain = w .chain;
+          kept = w .kept;
+          index = simp (le-leb 0 m (omega arith));
+          inside = λ _. h;
+          place = firstAt c;
+          size = length (tableAt c);
+          there = t .there;
+        })
+            ∙ rw (t .is) refl;
       }
