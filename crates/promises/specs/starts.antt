@@ -1,5 +1,6 @@
 pub mod Accepted
 pub mod Arrival
+pub mod Bare
 pub mod Calls
 pub mod Chains
 pub mod Home

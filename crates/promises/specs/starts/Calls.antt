@@ -1,24 +1,27 @@
 -- A call on a start file that keeps its rules (page Started; document 02, request 2026-03): running, it is the call on the table of the box that the state
--- names; idle, on that of the smallest box that holds the reading. Relies on pages Accepted and Places for where the tables are. What the table then
--- answers is left to the pages on tables; that an idle call outside Rm is 11 is the definition.
+-- names; idle, on that of the smallest box that holds the reading; outside Rm it is 11, and an index that cannot be is 12. These are all calls. Relies on
+-- pages Accepted and Places for where the tables are, and on Reaching. What the table then answers is left to the pages on tables.
 use Prim.Native.Nat.{ℕ, _+_, _≤_, _<_}
 use mathlib.Core.Path.{_≡_, refl, sym, _∙_}
-use mathlib.Core.Bool.{Bool, true, false, _||_, not}
+use mathlib.Core.Bool.{Bool, true, false, _&&_, _||_, not}
 use mathlib.Core.List.{List, []}
 use native.Mathlib.Omega.{arith}
 use native.Mathlib.Nat.{zero-add}
 use lib.ListN.{length, getD}
-use lib.Dec.{eqb}
+use lib.Dec.{leb, eqb}
 use lib.IntN.{ℤ}
-use borrow.Author.Tests.{le-leb}
+use borrow.Author.Tests.{le-leb, lt-leb, ne-eqb}
 use Rattle.laws.specs.Lists.{tab, all, firstFalse}
 use Rattle.laws.specs.Tabs.{length-tab, getD-tab, map-tab}
 use Rattle.laws.specs.Tests.{never, all-tab}
 use Rattle.meaning.specs.declared.State.{State}
 use Rattle.meaning.specs.declared.StartState.{StartState}
+use Rattle.meaning.specs.declared.StartAnswer.{StartAnswer}
 use Rattle.meaning.specs.Control.{idle, call}
 use Rattle.meaning.specs.Plants.{rootOf}
-use Rattle.meaning.specs.Rules.{Rules, holds}
+use Rattle.meaning.specs.Refusals.{outside, badState}
+use Rattle.meaning.specs.Rules.{Rules, holds, missed}
+use Rattle.meaning.specs.Starts as S
 use Rattle.meaning.specs.Starts.{above, boxRules, chosen, part, isIdle, startIdle, answerIn, startControlled}
 use Rattle.promises.specs.Firsts.{FirstOf, first-exactly}
 use Rattle.promises.specs.starts.Accepted.{tables-short, tables-stand}
@@ -39,6 +42,10 @@ not-true false e = refl
 or-true : (b : Bool) → (b || true) ≡ true
 or-true true = refl
 or-true false = refl
+
+and-false : (b : Bool) → (b && false) ≡ false
+and-false true = refl
+and-false false = refl
 
 module _ (t : ℕ → Bool) (m : ℕ) (last : t m ≡ true) where
   abbrev firstOf : ℕ
@@ -148,3 +155,19 @@ module _ {plant start : List ℕ} (w : Started plant start) where
         })
             ∙ rw (t .is) refl;
       }
+
+  -- 11: the reading is outside Rm, and so outside every box
+  pub outside-last : (x : List ℤ) → holdsAt (above (w .vs)) x ≡ false
+      → startControlled plant start startIdle x ≡ StartAnswer.Refused (outside (missed (rulesAt (above (w .vs))) (rulesAt (above (w .vs)) .root) x))
+  unfolding S.startControlled
+  outside-last x h = simp (w .judged, w .chain, w .kept, le-leb 0 (above (w .vs)) (omega arith), h)
+
+  -- ---- 12: an index that cannot be
+
+  pub index-over : (i : ℕ) → above (w .vs) < i → (st : State) (x : List ℤ) → startControlled plant start (record { index = i; state = st }) x ≡ StartAnswer.Refused badState
+  unfolding S.startControlled
+  index-over i l st x = simp (w .judged, w .chain, w .kept, lt-leb i (above (w .vs)) l)
+
+  pub index-idle : (i : ℕ) → 1 ≤ i → (x : List ℤ) → startControlled plant start (record { index = i; state = idle }) x ≡ StartAnswer.Refused badState
+  unfolding S.startControlled
+  index-idle i l x = simp (w .judged, w .chain, w .kept, ne-eqb i 0 (λ e. absurd (omega arith)), and-false (leb i (above (w .vs))))

@@ -87,6 +87,10 @@ module _ {plant start : List ℕ} (w : Started plant start) where
     in-goal = wide;
   }
 
+  -- every run of so many samples from an idle call on a reading meets one on a reading in R, of the runs from Ri
+  abbrev Comes : ℕ → ℕ → List ℤ → Type 0
+  Comes i = Passes startIdle (startGives plant start) (inBox plant start i) (mayFollow plant) (startsIn plant)
+
   module _ (t : Trees w) where
     -- ---- the trip that an idle call begins
 
@@ -104,19 +108,17 @@ module _ {plant start : List ℕ} (w : Started plant start) where
 
     -- from a reading in Rj into R: at once where R holds it, else by a trip to a nearer box
     from-box : (i j : ℕ) → j ≤ above (w .vs) → (x : List ℤ) → holdsAt w j x ≡ true
-        → ((k : ℕ) → k < j → (y : List ℤ) → holdsAt w k y ≡ true → Passes startIdle (startGives plant start) (inBox plant start i) (mayFollow plant) (startsIn plant) (longestUpTo (t .tree) k) y)
-        → Passes startIdle (startGives plant start) (inBox plant start i) (mayFollow plant) (startsIn plant) (longestUpTo (t .tree) j) x
+        → ((k : ℕ) → k < j → (y : List ℤ) → holdsAt w k y ≡ true → Comes i (longestUpTo (t .tree) k) y) → Comes i (longestUpTo (t .tree) j) x
     from-box i j h x e later = let n = nearest j x h e in go (n .c) (n .near) (n .chosen-is)
       where
-        go : (c : ℕ) → c ≤ j → Chose w c x → Passes startIdle (startGives plant start) (inBox plant start i) (mayFollow plant) (startsIn plant) (longestUpTo (t .tree) j) x
+        go : (c : ℕ) → c ≤ j → Chose w c x → Comes i (longestUpTo (t .tree) j) x
         go zero l k = passes-here startIdle (startGives plant start) (inBox plant start i) (mayFollow plant) (startsIn plant) (longestUpTo (t .tree) j) x (starts-is x ∙ k .holds-it)
         go (suc c) l k =
             let r = trip (λ y. holdsAt w c y) (suc c) x k (λ y g. g) in
             passes-behind startIdle (startGives plant start) (inBox plant start i) (mayFollow plant) (startsIn plant) (safeIn plant) (λ y. holdsAt w c y)
             (r .0) (longestUpTo (t .tree) c) (longestUpTo (t .tree) j) x (r .2) (omega (arith, r .1, longest-step (t .tree) c j l)) (later c l)
 
-    pub passes : (i b j : ℕ) → j ≤ b → j ≤ above (w .vs) → (x : List ℤ) → holdsAt w j x ≡ true
-        → Passes startIdle (startGives plant start) (inBox plant start i) (mayFollow plant) (startsIn plant) (longestUpTo (t .tree) j) x
+    pub passes : (i b j : ℕ) → j ≤ b → j ≤ above (w .vs) → (x : List ℤ) → holdsAt w j x ≡ true → Comes i (longestUpTo (t .tree) j) x
     passes i zero j l h x e = from-box i j h x e (λ k g. absurd (omega arith))
     passes i (suc b) j l h x e = from-box i j h x e (λ k g y n. passes i b k (omega arith) (omega arith) y n)
 
