@@ -1,10 +1,12 @@
 pub mod Accepted
+pub mod Agreeing
 pub mod Arrival
 pub mod Bare
 pub mod Calls
 pub mod Chains
 pub mod Home
 pub mod Journeys
+pub mod Local
 pub mod Parts
 pub mod Passes
 pub mod Places

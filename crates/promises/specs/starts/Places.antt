@@ -30,6 +30,10 @@ module _ (s : List ℕ) where
     here : {at first size : ℕ} → Length at first size → TableAt zero at first size
     behind : {i at f z first size : ℕ} → Length at f z → TableAt i (f + z) first size → TableAt (suc i) at first size
 
+  pub table-inside : {i at first size : ℕ} → TableAt i at first size → first + size ≤ length s
+  table-inside (here h) = h .inside
+  table-inside (behind h more) = table-inside more
+
   module _ {A : Type 0} (refuse : Refusal → A) where
     on-length : {at first size : ℕ} (rest : ℕ → ℕ → A) → Length at first size → onLength s at refuse rest ≡ rest first size
     on-length {first = first} {size = size} rest h = simp (h .is, le-leb (first + size) (length s) (h .inside))

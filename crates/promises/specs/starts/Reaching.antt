@@ -21,7 +21,7 @@ use Rattle.meaning.specs.declared.StartAnswer.{StartAnswer}
 use Rattle.meaning.specs.Control.{idle, call}
 use Rattle.meaning.specs.Files.{read, valuesAt, good}
 use Rattle.meaning.specs.Plants.{plantJudged, rootOf, safeOf}
-use Rattle.meaning.specs.Rules.{holds}
+use Rattle.meaning.specs.Rules.{Rules, holds}
 use Rattle.meaning.specs.Starts as S
 use Rattle.meaning.specs.Starts.{chainForm, above, boxAt, held, chosen, onStart, boxRules, part, isIdle, stateIn, answerIn, callIn, idleStart, canIndex, startCall, startControlled}
 use Rattle.promises.specs.Judged.{judged-sound}
@@ -77,9 +77,20 @@ module _ (plant start : List ℕ) (st : StartState) (x : List ℤ) where
     pub size : ℕ
     pub there : TableAt start (boxCalled p vs st x) next place size
 
+-- the box whose table is called, its rules, and the table's bytes
+module _ {plant start : List ℕ} {st : StartState} {x : List ℤ} (r : Reaching plant start st x) where
+  abbrev pub boxOn : ℕ
+  boxOn = boxCalled (r .p) (r .vs) st x
+
+  abbrev pub rulesOn : Rules
+  rulesOn = boxRules (r .p) (r .vs) boxOn
+
+  abbrev pub tableOn : List ℕ
+  tableOn = part start (r .place) (r .size)
+
+module _ (plant start : List ℕ) (st : StartState) (x : List ℤ) where
   -- it is the call on that table
-  pub reached : (r : Reaching) → startControlled plant start st x
-      ≡ answerIn (boxCalled (r .p) (r .vs) st x) (r .place) (call (boxRules (r .p) (r .vs) (boxCalled (r .p) (r .vs) st x)) (part start (r .place) (r .size)) (st .state) x)
+  pub reached : (r : Reaching plant start st x) → startControlled plant start st x ≡ answerIn (boxOn r) (r .place) (call (rulesOn r) (tableOn r) (st .state) x)
   unfolding S.startControlled
   reached r = rw (r .judged, r .chain, r .kept, r .index) (go (isIdle (st .state)) refl (r .inside) (r .there))
     where
@@ -91,7 +102,7 @@ module _ (plant start : List ℕ) (st : StartState) (x : List ℤ) where
       go false e inside there = on-part start StartAnswer.Refused _ there
 
   -- and one that is answered is such a call
-  pub answered-reaching : {u : ℕ} {then : StartState} → startControlled plant start st x ≡ StartAnswer.Mode u then → Reaching
+  pub answered-reaching : {u : ℕ} {then : StartState} → startControlled plant start st x ≡ StartAnswer.Mode u then → Reaching plant start st x
   unfolding S.startControlled
   answered-reaching {u} {then} e =
       let a = plant-went (plantJudged plant) StartAnswer.Refused (λ p. onStart p start StartAnswer.Refused λ vs next. startCall p vs start next st x) (λ _. refused-start) e in
@@ -112,22 +123,21 @@ module _ (plant start : List ℕ) (st : StartState) (x : List ℤ) where
           (λ q. never q, t .0, t .1, t .2)
 
       of : (p : Plant) → plantJudged plant ≡ good p → (vs : List ℤ) (next : ℕ) → valuesAt (chainForm (p .n)) start 0 ≡ read vs next
-          → all (tab (held (p .n) (rootOf p) vs (safeOf p)) (above vs) 0) ≡ true → startCall p vs start next st x ≡ StartAnswer.Mode u then → Reaching
+          → all (tab (held (p .n) (rootOf p) vs (safeOf p)) (above vs) 0) ≡ true → startCall p vs start next st x ≡ StartAnswer.Mode u then → Reaching plant start st x
       of p q vs next c k e =
           let g = guard-passed (canIndex p vs start next (st .index) (st .state)) _ refused-start e in
           let w = way p vs next (isIdle (st .state)) (g .1) in
           record { p = p; judged = q; vs = vs; next = next; chain = c; kept = k; index = g .0; inside = w .0; place = w .1; size = w .2; there = w .3 }
 
   -- the table's own answer
-  pub table-answered : {u : ℕ} {then : StartState} (r : Reaching) → startControlled plant start st x ≡ StartAnswer.Mode u then
-      → (next : State) × (call (boxRules (r .p) (r .vs) (boxCalled (r .p) (r .vs) st x)) (part start (r .place) (r .size)) (st .state) x ≡ Answer.Mode u next)
-      × (then ≡ stateIn (boxCalled (r .p) (r .vs) st x) next)
-  table-answered r e = answer-was (boxCalled (r .p) (r .vs) st x) (r .place) _ (sym (reached r) ∙ e)
+  pub table-answered : {u : ℕ} {then : StartState} (r : Reaching plant start st x) → startControlled plant start st x ≡ StartAnswer.Mode u then
+      → (next : State) × (call (rulesOn r) (tableOn r) (st .state) x ≡ Answer.Mode u next) × (then ≡ stateIn (boxOn r) next)
+  table-answered r e = answer-was (boxOn r) (r .place) (call (rulesOn r) (tableOn r) (st .state) x) (sym (reached r) ∙ e)
 
   -- what is answered is a mode of the plant
   pub start-is-mode : {u : ℕ} {then : StartState} → startControlled plant start st x ≡ StartAnswer.Mode u then → isMode plant u ≡ true
   start-is-mode {u} e =
       let r = answered-reaching e in
-      let i = boxCalled (r .p) (r .vs) st x in
       let a = table-answered r e in
-      rw (r .judged) (lt-ltb u (r .p .modes) (call-below (boxRules (r .p) (r .vs) i) (box-sizes (r .p) (judged-sound plant (r .p) (r .judged)) (r .vs) i) (part start (r .place) (r .size)) (st .state) x (a .1)))
+      rw (r .judged)
+      (lt-ltb u (r .p .modes) (call-below (rulesOn r) (box-sizes (r .p) (judged-sound plant (r .p) (r .judged)) (r .vs) (boxOn r)) (tableOn r) (st .state) x (a .1)))
