@@ -22,7 +22,7 @@ use Rattle.meaning.specs.Plants.{rootOf}
 use Rattle.meaning.specs.Refusals.{outside, badState}
 use Rattle.meaning.specs.Rules.{Rules, holds, missed}
 use Rattle.meaning.specs.Starts as S
-use Rattle.meaning.specs.Starts.{above, boxRules, chosen, part, isIdle, startIdle, answerIn, startControlled}
+use Rattle.meaning.specs.Starts.{above, boxRules, chosen, part, isIdle, startIdle, answerIn, canIndex, startControlled}
 use Rattle.promises.specs.Firsts.{FirstOf, first-exactly}
 use Rattle.promises.specs.starts.Accepted.{tables-short, tables-stand}
 use Rattle.promises.specs.starts.Places.{TableAt, placeOf, laid}
@@ -58,7 +58,10 @@ module _ (t : ℕ → Bool) (m : ℕ) (last : t m ≡ true) where
       (rw tests (go (all (tab (λ i. not (t i)) (m + 1) 0)) refl), rw tests refl)
     where
       go : (b : Bool) → all (tab (λ i. not (t i)) (m + 1) 0) ≡ b → b ≡ false
-      go true e = let z : not (t (0 + m)) ≡ true = all-tab (λ i. not (t i)) (m + 1) 0 m (omega arith) e in let q = zero-add m in let k : t m ≡ false = not-true (t m) (rw q at z) in never (sym k ∙ last)
+      go true e =
+          let q = zero-add m in
+          let k = not-true (t m) (rw q at (all-tab (λ i. not (t i)) (m + 1) 0 m (omega arith) e)) in
+          never (sym k ∙ last)
       go false e = refl
 
   first-few : firstOf ≤ m
@@ -98,28 +101,33 @@ module _ {plant start : List ℕ} (w : Started plant start) where
       let t = laid (w .tables) start i (w .next) (tables-short plant start w) (tables-stand plant start w) (omega (arith, w .count)) in
       record { there = t .0; is = t .1 }
 
-  -- ---- running
-
-  pub running : (i : ℕ) → i ≤ above (w .vs) → (st : State) → isIdle st ≡ false → (x : List ℤ)
-      → startControlled plant start (record { index = i; state = st }) x ≡ answerIn i (firstAt i) (call (rulesAt i) (tableAt i) st x)
-  running i l st e x =
+  -- a call that comes to Ri's table
+  comes : (s : StartState) (x : List ℤ) (i : ℕ) → i ≤ above (w .vs) → boxCalled (w .p) (w .vs) s x ≡ i
+      → canIndex (w .p) (w .vs) start (w .next) (s .index) (s .state) ≡ true → (isIdle (s .state) ≡ true → holdsAt (above (w .vs)) x ≡ true)
+      → startControlled plant start s x ≡ answerIn i (firstAt i) (call (rulesAt i) (tableAt i) (s .state) x)
+  comes s x i l e index inside =
       let t = lies i l in
-      let s : StartState = record { index = i; state = st } in
-      let h : boxCalled (w .p) (w .vs) s x ≡ i = rw e refl in
-      reached plant start s x (record {
+      let h = reached plant start s x (record {
         p = w .p;
         judged = w .judged;
         vs = w .vs;
         next = w .next;
         chain = w .chain;
         kept = w .kept;
-        index = simp (le-leb i (above (w .vs)) l, e, or-true (eqb i 0));
-        inside = λ q. never (sym e ∙ q);
+        index = index;
+        inside = inside;
         place = firstAt i;
         size = length (tableAt i);
-        there = rw h (t .there);
-      })
-      ∙ rw (h, t .is) refl
+        there = rw e (t .there);
+      }) in
+      rw (e, t .is) at h
+
+  -- ---- running
+
+  pub running : (i : ℕ) → i ≤ above (w .vs) → (st : State) → isIdle st ≡ false → (x : List ℤ)
+      → startControlled plant start (record { index = i; state = st }) x ≡ answerIn i (firstAt i) (call (rulesAt i) (tableAt i) st x)
+  running i l st e x =
+      comes (record { index = i; state = st }) x i l (rw e refl) (simp (le-leb i (above (w .vs)) l, e, or-true (eqb i 0))) (λ q. never (sym e ∙ q))
 
   -- ---- idle
 
@@ -135,25 +143,11 @@ module _ {plant start : List ℕ} (w : Started plant start) where
       let m = above (w .vs) in
       let c = chosen (w .p .n) (rootOf (w .p)) (w .vs) x in
       let few = first-few (λ i. holdsAt i x) m h in
-      let t = lies c few in
       record {
         few = few;
         holds-it = first-holds (λ i. holdsAt i x) m h;
         least = first-least (λ i. holdsAt i x) m h;
-        answers = reached plant start startIdle x (record {
-          p = w .p;
-          judged = w .judged;
-          vs = w .vs;
-          next = w .next;
-          chain = w .chain;
-          kept = w .kept;
-          index = simp (le-leb 0 m (omega arith));
-          inside = λ _. h;
-          place = firstAt c;
-          size = length (tableAt c);
-          there = t .there;
-        })
-            ∙ rw (t .is) refl;
+        answers = comes startIdle x c few refl (simp (le-leb 0 m (omega arith))) (λ _. h);
       }
 
   -- 11: the reading is outside Rm, and so outside every box

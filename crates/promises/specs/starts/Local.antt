@@ -9,7 +9,8 @@ use mathlib.Core.Bool.{true, false, _&&_}
 use mathlib.Core.Logic.{_⊎_, inl, inr}
 use mathlib.Core.List.{List, _++_}
 use native.Mathlib.Omega.{arith}
-use lib.ListN.{length, getD, length-append}
+use lib.ListN.{length, getD, set, length-append, length-set}
+use lib.Seq.{getD-set-other}
 use lib.Dec.{eqb}
 use lib.IntN.{ℤ}
 use Rattle.laws.specs.Lists.{tab, all}
@@ -55,6 +56,10 @@ pub data Sees (start : List ℕ) (i next place : ℕ) (T : ℕ → Type 0) : ℕ
   of-chain : {k : ℕ} → k < next → Sees start i next place T k
   of-length : {k : ℕ} → LengthByte start i next k → Sees start i next place T k
   of-table : (j : ℕ) → T j → Sees start i next place T (place + j)
+
+-- where one byte is another, those that are not it are the same
+others : (s : List ℕ) (k b : ℕ) (P : ℕ → Type 0) → (P k → ⊥) → (j : ℕ) → P j → getD (set s k b) j 0 ≡ getD s j 0
+others s k b P n j h = getD-set-other s k j b 0 (λ (e : j ≡ k). n (rw e at h))
 
 -- ---- the way to the table
 
@@ -134,6 +139,13 @@ idle-unread plant start x u then a =
         let begin : w .at ≡ 2 = omega (arith, header-stands (way .p .n) (tableOn way) (w .at) (w .head) .end, header-size (way .p) sound) in
         by-tile way (w .from) (w .k) (unseen (rulesOn way) (box-sizes (way .p) sound (way .vs) (boxOn way)) x (tableOn way) (w .at) (w .from) (w .k) (w .head) (w .found))
         (rw begin at (w .found))
+
+-- so a byte that it does not read may be any other
+pub idle-byte : {plant start : List ℕ} {x : List ℤ} {u : ℕ} {then : StartState} (w : IdleUnread plant start x u then) (k b : ℕ)
+    → (Sees start (boxOn (w .way)) (w .way .next) (w .way .place) (λ j. j < w .end) k → ⊥) → startControlled plant (set start k b) startIdle x ≡ StartAnswer.Mode u then
+idle-byte {start = start} w k b n =
+    w .same (set start k b) (rw (length-set start k b) (table-inside start (w .way .there)))
+    (others start k b (Sees start (boxOn (w .way)) (w .way .next) (w .way .place) (λ j. j < w .end)) n)
 
 -- ---- running
 
@@ -233,6 +245,12 @@ running-unread plant start st x u then n a =
           mode = w .is;
           same = λ other long same. running-same plant start st x way u (w .behind) (w .some) (rw begin at (w .head)) (w .is) other long (rw i same) ∙ a;
         }
+
+pub running-byte : {plant start : List ℕ} {st : StartState} {x : List ℤ} {u : ℕ} {then : StartState} (w : RunningUnread plant start st x u then) (k b : ℕ)
+    → (Sees start (st .index) (w .way .next) (w .way .place) (HeaderOrMode (st .state .place) (w .behind)) k → ⊥) → startControlled plant (set start k b) st x ≡ StartAnswer.Mode u then
+running-byte {start = start} {st = st} w k b n =
+    w .same (set start k b) (rw (length-set start k b) (table-inside start (w .way .there)))
+    (others start k b (Sees start (st .index) (w .way .next) (w .way .place) (HeaderOrMode (st .state .place) (w .behind))) n)
 
 -- ---- refused before any length is read: 12 for the index, 11 where it is idle
 
