@@ -1,4 +1,9 @@
 pub mod Accepted
+pub mod Before
+pub mod ChainTold
 pub mod Chains
+pub mod Maker
 pub mod Parts
+pub mod Rows
 pub mod Started
+pub mod TablesMade
