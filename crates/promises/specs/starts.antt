@@ -2,6 +2,7 @@ pub mod Accepted
 pub mod Before
 pub mod ChainTold
 pub mod Chains
+pub mod Lengths
 pub mod Maker
 pub mod Parts
 pub mod Rows
