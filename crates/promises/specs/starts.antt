@@ -8,3 +8,4 @@ pub mod Parts
 pub mod Rows
 pub mod Started
 pub mod TablesMade
+pub mod Told

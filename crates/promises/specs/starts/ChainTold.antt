@@ -28,6 +28,10 @@ use Rattle.promises.specs.starts.Rows.{StartTelling, front-told}
 abbrev pub chainNumbers : List ℕ
 chainNumbers = 1 ∷ 2 ∷ 3 ∷ []
 
+-- and 15 behind them
+abbrev pub earlyNumbers : List ℕ
+earlyNumbers = 15 ∷ chainNumbers
+
 form-tells : (n size : ℕ) → Tells chainNumbers size (chainForm n)
 unfolding F.Tells S.chainForm
 form-tells n size = (

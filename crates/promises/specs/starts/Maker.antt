@@ -34,7 +34,7 @@ use Rattle.promises.specs.Telling.{told-more}
 use Rattle.promises.specs.starts.Accepted.{start-checked-exactly}
 use Rattle.promises.specs.starts.Before.{plant-keeps, chain-keeps}
 use Rattle.promises.specs.starts.Chains.{chain-few, box-sizes}
-use Rattle.promises.specs.starts.ChainTold.{chainNumbers, whole-told, held-told}
+use Rattle.promises.specs.starts.ChainTold.{earlyNumbers, whole-told, held-told}
 use Rattle.promises.specs.starts.Rows.{StartTold, of-plant, of-start, start-more, start-not-told}
 use Rattle.promises.specs.starts.Started.{Started}
 use Rattle.promises.specs.starts.TablesMade.{NoneAt, all-made, each-made, only-nines, first-none, none-first}
@@ -65,10 +65,7 @@ pub record FirstWithout (plant chain : List ℕ) (i : ℕ) : Type 0 where
 
 -- ---- plant and chain come first
 
--- the numbers that a chain is refused by, and those of what is made
-abbrev earlyNumbers : List ℕ
-earlyNumbers = 15 ∷ chainNumbers
-
+-- the numbers that a chain is refused by, and 9
 abbrev pub madeNumbers : List ℕ
 madeNumbers = 9 ∷ earlyNumbers
 

@@ -1,6 +1,6 @@
 -- How a refusal of a start file may be told (document 02, request 2026-03): as in document 01 (page Telling), but that 2 may be told of a table within it, so that its
 -- place is a byte of the file; 9's place is a box's index, and 15's the index of one above R. And what is told of a table, or of the chain alone, is told so of
--- the file that it stands in. Definitions, and what follows of them alone; which entry point tells which is page StartsTold.
+-- the file that it stands in. Definitions, and what follows of them alone; which entry point tells which is page Told of this folder.
 use Prim.Native.Nat.{ℕ, _+_}
 use mathlib.Core.Path.{_≡_, refl}
 use mathlib.Core.Bool.{Bool, true, false, _||_, cond}
