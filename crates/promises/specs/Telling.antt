@@ -1,5 +1,6 @@
 -- How a refusal may be told (document 01, "What each number says"): by one of some numbers, with a place and a step such as the table's row names. The
--- table's columns of places and steps stand here. Definitions, and what follows of them alone; which entry point tells which is page Told.
+-- table's columns of places and steps stand here; start files have another column of places (page Rows). Definitions, and what follows of them alone; which
+-- entry point tells which is page Told.
 use Prim.Native.Nat.{ℕ, _≤_, _<_}
 use mathlib.Core.Path.{_≡_, refl, _∙_, sym}
 use mathlib.Core.Bool.{Bool, true, false, _&&_, _||_}
