@@ -51,7 +51,7 @@ module _ (c m : ℕ) (some : 1 ≤ c) where
   most-deeper d (suc k) = let q : suc k + d ≡ suc (k + d) = omega arith in rw q (omega (arith, most-deeper d k, more-deep (k + d)))
 
   -- a deeper tree may be longer
-  most-grows : (d e : ℕ) → d ≤ e → most c m d ≤ most c m e
+  pub most-grows : (d e : ℕ) → d ≤ e → most c m d ≤ most c m e
   most-grows d e l = go (e - d) (omega arith)
     where
       go : (k : ℕ) → e ≡ k + d → most c m d ≤ most c m e
@@ -187,13 +187,14 @@ cap-few (suc (suc (suc (suc (suc n))))) d l h e = absurd (omega arith)
 -- ---- the bound of a plant: an accepted table has at most 30,039 bytes
 
 -- of a plant's table over any box of n sides, into any goal
-pub over-box : (p : Plant) → Sound p → (root goal : List Side) → length root ≡ p .n → (table : List ℕ) → verdict (tableRules p root goal) table ≡ Verdict.Accepted
-    → length table ≤ 30_039
-over-box p s root goal sides table a =
-    let t = accepted-exactly (tableRules p root goal) (sizes-over p s root goal) table .0 a in
-    let l = table-length (p .n) (p .modes) (p .k) (p .d) root goal (safeOf p) (stepOf p)
-    (s .n-high) (omega (arith, s .modes-high)) (s .k-high) sides (t .0) (t .1) in
-    rw (t .2) (omega (arith, l, cap (p .n) (p .d) (s .n-low) (s .n-high) (s .d-high) (s .nd-high)))
+module _ (p : Plant) (s : Sound p) (root goal : List Side) (sides : length root ≡ p .n) (table : List ℕ) (a : verdict (tableRules p root goal) table ≡ Verdict.Accepted) where
+  pub over-most : length table ≤ 2 + most (2 ^ p .n) 7 (p .d)
+  over-most =
+      let t = accepted-exactly (tableRules p root goal) (sizes-over p s root goal) table .0 a in
+      rw (t .2) (table-length (p .n) (p .modes) (p .k) (p .d) root goal (safeOf p) (stepOf p) (s .n-high) (omega (arith, s .modes-high)) (s .k-high) sides (t .0) (t .1))
+
+  pub over-box : length table ≤ 30_039
+  over-box = omega (arith, over-most, cap (p .n) (p .d) (s .n-low) (s .n-high) (s .d-high) (s .nd-high))
 
 pub at-most : (plant table : List ℕ) → checked plant table ≡ Verdict.Accepted → length table ≤ 30_039
 at-most plant table a =

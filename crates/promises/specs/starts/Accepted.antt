@@ -20,17 +20,14 @@ use Rattle.laws.specs.Standing.{Stands, stand-nil, stand-join}
 use Rattle.laws.specs.Tests.{guard-passed}
 use Rattle.meaning.specs.declared.Number.{Number}
 use Rattle.meaning.specs.declared.Plant.{Plant}
-use Rattle.meaning.specs.declared.Refusal.{Refusal}
 use Rattle.meaning.specs.declared.Verdict.{Verdict}
 use Rattle.meaning.specs.declared.Walk.{Walk}
-use Rattle.meaning.specs.Boxes.{Side}
-use Rattle.meaning.specs.Files.{Read, read, refused, valuesAt, fileOf, Judged, good, bad}
+use Rattle.meaning.specs.Files.{read, valuesAt, fileOf, good}
 use Rattle.meaning.specs.Numbers.{numberAt, bytesOf}
 use Rattle.meaning.specs.Plants.{plantJudged, rootOf, safeOf}
 use Rattle.meaning.specs.Rules.{Rules}
 use Rattle.meaning.specs.Starts as S
-use Rattle.meaning.specs.Starts.{chainForm, above, held, onChain, boxRules, part, partsOf, startOf, tablesAt, startChecked}
-use Rattle.meaning.specs.Tables.{onPlant}
+use Rattle.meaning.specs.Starts.{chainForm, above, held, boxRules, part, partsOf, startOf, tablesAt, startChecked}
 use Rattle.meaning.specs.Verdicts.{tableEnd, verdict}
 use Rattle.promises.specs.Accept.{refused-accepted, accepted-end}
 use Rattle.promises.specs.Files.{writes-back}
@@ -38,24 +35,10 @@ use Rattle.promises.specs.Judged.{judged-sound}
 use Rattle.promises.specs.Numbers.{was}
 use Rattle.promises.specs.TableLengths.{over-box}
 use Rattle.promises.specs.Walking.{walk-went}
+use Rattle.promises.specs.starts.Before.{plant-went, chain-went}
 use Rattle.promises.specs.starts.Chains.{box-size}
 use Rattle.promises.specs.starts.Parts.{part-size, part-stands, length-read, Short, front, back-stands, parts-alike}
 use Rattle.promises.specs.starts.Started.{Started}
-
--- ---- an answer that is no refusal has passed the plant and the chain
-
-pub plant-went : {A : Type 0} {a : A} (j : Judged Plant) (refuse : Refusal → A) (rest : Plant → A) → ((e : Refusal) → refuse e ≡ a → ⊥)
-    → onPlant j refuse rest ≡ a → (p : Plant) × (j ≡ good p) × (rest p ≡ a)
-plant-went (bad e) refuse rest never q = absurd (never e q)
-plant-went (good p) refuse rest never q = (p, refl, q)
-
-pub chain-went : {A : Type 0} {a : A} (n : ℕ) (root safe : List Side) (t : Read (List ℤ)) (refuse : Refusal → A) (rest : List ℤ → ℕ → A)
-    → ((e : Refusal) → refuse e ≡ a → ⊥) → onChain n root safe t refuse rest ≡ a
-    → (vs : List ℤ) × (next : ℕ) × (t ≡ read vs next) × (all (tab (held n root vs safe) (above vs) 0) ≡ true) × (rest vs next ≡ a)
-chain-went n root safe (refused e) refuse rest never q = absurd (never e q)
-chain-went n root safe (read vs next) refuse rest never q =
-    let g = guard-passed (all (tab (held n root vs safe) (above vs) 0)) (λ _. rest vs next) (never _) q in
-    (vs, next, refl, g .0, g .1)
 
 -- ---- the tables behind one another, from box i's on
 
@@ -137,9 +120,9 @@ module _ (plant start : List ℕ) where
   accepted-started : startChecked plant start ≡ Verdict.Accepted → Started plant start
   unfolding S.startChecked
   accepted-started e =
-      let a = plant-went (plantJudged plant) Verdict.Refused _ (λ _. refused-accepted) e in
+      let a = plant-went Verdict.Refused (λ _. refused-accepted) (plantJudged plant) _ e in
       let p = a .0 in
-      let b = chain-went (p .n) (rootOf p) (safeOf p) (valuesAt (chainForm (p .n)) start 0) Verdict.Refused _ (λ _. refused-accepted) (a .2) in
+      let b = chain-went Verdict.Refused (λ _. refused-accepted) (p .n) (rootOf p) (safeOf p) (valuesAt (chainForm (p .n)) start 0) _ (a .2) in
       of p (a .1) (b .0) (b .1) (b .2) (b .3) (tables-were (boxRules p (b .0)) start (above (b .0) + 1) 0 (b .1) (b .4))
     where
       of : (p : Plant) → plantJudged plant ≡ good p → (vs : List ℤ) (next : ℕ) → valuesAt (chainForm (p .n)) start 0 ≡ read vs next

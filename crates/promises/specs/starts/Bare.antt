@@ -140,5 +140,9 @@ module _ {plant start : List ℕ} (w : Started plant start) (alone : above (w .v
   pub bare-is : (st : State) (x : List ℤ) → startControlled plant start (record { index = 0; state = st }) x ≡ bareAnswer (controlled plant (tableAt w 0) st x)
   bare-is st x = bare st x ∙ answer-bare (controlled plant (tableAt w 0) st x)
 
+  -- and nothing but a mode, 11 or 12 is answered
+  pub bare-plain : (st : State) (x : List ℤ) → Plain (controlled plant (tableAt w 0) st x)
+  bare-plain st x = rw (controlled-as plant (w .p) (w .judged) (tableAt w 0) st x) (plain st x)
+
   pub other-index : (i : ℕ) → 1 ≤ i → (st : State) (x : List ℤ) → startControlled plant start (record { index = i; state = st }) x ≡ StartAnswer.Refused badState
   other-index i l st x = index-over w i (omega arith) st x

@@ -56,6 +56,9 @@ unfolding F.Right S.chainForm
 chain-right n vs h =
     (most-of 0 8 (above vs) (h .1 .0), times-right vs (span edgeLimit) 2 (λ i. Spans edgeLimit (at vs i) (at vs (i + 1))) (span-right vs edgeLimit) (above vs * n) end 2 (h .1 .1) .0)
 
+pub chain-few : (n : ℕ) (vs : List ℤ) (s : List ℕ) (next : ℕ) → valuesAt (chainForm n) s 0 ≡ read vs next → above vs ≤ 8
+chain-few n vs s next e = chain-right n vs (values-right (chainForm n) s 0 vs next e) .0
+
 module _ (p : Plant) (sound : Sound p) (vs : List ℤ) where
   -- R itself has its edges from the plant
   root-sides : Every Edged (rootOf p)

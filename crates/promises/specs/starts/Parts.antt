@@ -20,7 +20,9 @@ use Rattle.meaning.specs.Refusals.{broken, unfit}
 use Rattle.meaning.specs.Starts as S
 use Rattle.meaning.specs.Starts.{onLength, part, partsOf}
 use Rattle.promises.specs.Numbers.{reads}
+use Rattle.promises.specs.Telling.{guard-keeps}
 use Rattle.promises.specs.Walking.{number-read}
+use Rattle.promises.specs.WalkTold.{number-keeps}
 
 -- ---- the bytes that a length counts
 
@@ -55,6 +57,12 @@ length-read s at refuse rest never e =
     let w = number-read (numberAt s at) _ (never (broken at)) e in
     let g = guard-passed (leb (w .1 + w .0) (length s)) _ (never (unfit at)) (w .3) in
     (w .1, w .0, w .2, leb-true (w .1 + w .0) (length s) (g .0), g .1)
+
+-- what holds of both refusals, and of what is behind a length that was read, holds of the answer
+pub length-keeps : {A : Type 0} (P : A → Type 0) (s : List ℕ) (at : ℕ) (refuse : Refusal → A) (rest : ℕ → ℕ → A) → P (refuse (broken at)) → P (refuse (unfit at))
+    → ((first size : ℕ) → first + size ≤ length s → P (rest first size)) → P (onLength s at refuse rest)
+length-keeps P s at refuse rest a b c =
+    number-keeps P s at _ a (λ size first _. guard-keeps P (leb (first + size) (length s)) (λ _. rest first size) (λ _. b) (λ e. c first size (leb-true (first + size) (length s) e)))
 
 -- ---- a table in front of others
 

@@ -1,6 +1,6 @@
 -- What a call on a start file passes before it comes to a table (document 02, request 2026-03, "Controller"): plant, chain, 15, the index, 11 where it is
 -- idle, the lengths up to that table. Of every file, kept or not: a call that passes them is the call on that table within its length, and one that is
--- answered by a mode has passed them; so that mode is one of the plant. Relies on pages Places and Modes. What is told where one is not passed is the
+-- answered by a mode has passed them; so that mode is one of the plant. Relies on pages Before, Places and Modes. What is told where one is not passed is the
 -- definition.
 use Prim.Native.Nat.{ℕ}
 use mathlib.Core.Path.{_≡_, refl, sym, ap, _∙_}
@@ -26,7 +26,7 @@ use Rattle.meaning.specs.Starts as S
 use Rattle.meaning.specs.Starts.{chainForm, above, boxAt, held, chosen, onStart, boxRules, part, isIdle, stateIn, answerIn, callIn, idleStart, canIndex, startCall, startControlled}
 use Rattle.promises.specs.Judged.{judged-sound}
 use Rattle.promises.specs.Modes.{isMode, call-below}
-use Rattle.promises.specs.starts.Accepted.{plant-went, chain-went}
+use Rattle.promises.specs.starts.Before.{plant-went, chain-went}
 use Rattle.promises.specs.starts.Chains.{box-sizes}
 use Rattle.promises.specs.starts.Places.{TableAt, on-part, part-went}
 
@@ -105,9 +105,9 @@ module _ (plant start : List ℕ) (st : StartState) (x : List ℤ) where
   pub answered-reaching : {u : ℕ} {then : StartState} → startControlled plant start st x ≡ StartAnswer.Mode u then → Reaching plant start st x
   unfolding S.startControlled
   answered-reaching {u} {then} e =
-      let a = plant-went (plantJudged plant) StartAnswer.Refused (λ p. onStart p start StartAnswer.Refused λ vs next. startCall p vs start next st x) (λ _. refused-start) e in
+      let a = plant-went StartAnswer.Refused (λ _. refused-start) (plantJudged plant) (λ p. onStart p start StartAnswer.Refused λ vs next. startCall p vs start next st x) e in
       let p = a .0 in
-      let b = chain-went (p .n) (rootOf p) (safeOf p) (valuesAt (chainForm (p .n)) start 0) StartAnswer.Refused (λ vs next. startCall p vs start next st x) (λ _. refused-start) (a .2) in
+      let b = chain-went StartAnswer.Refused (λ _. refused-start) (p .n) (rootOf p) (safeOf p) (valuesAt (chainForm (p .n)) start 0) (λ vs next. startCall p vs start next st x) (a .2) in
       of p (a .1) (b .0) (b .1) (b .2) (b .3) (b .4)
     where
       way : (p : Plant) (vs : List ℤ) (next : ℕ) (b : Bool)
