@@ -33,6 +33,17 @@ covers-trans u t s e f =
     let high : s .hi ≤ℤ u .hi = omega (zarith, c, d) in
     ordered low high
 
+covers-itself : (s : Side) → covers s s ≡ true
+covers-itself s =
+    let low : s .lo ≤ℤ s .lo = omega zarith in
+    let high : s .hi ≤ℤ s .hi = omega zarith in
+    ordered low high
+
+pub within-itself : (a : List Side) → within a a ≡ true
+unfolding B.lies all
+within-itself [] = refl
+within-itself (s ∷ a) = both (covers-itself s) (within-itself a)
+
 pub within-trans : (a b c : List Side) → within a b ≡ true → within b c ≡ true → within a c ≡ true
 unfolding B.lies all
 within-trans [] [] c e f = f

@@ -19,7 +19,7 @@ use Rattle.meaning.specs.Control as C
 use Rattle.meaning.specs.Control.{idle, onFound, find, idleCall, call, stateWith}
 use Rattle.meaning.specs.Files.{Judged, good, bad, read}
 use Rattle.meaning.specs.Plants.{plantJudged, rootOf}
-use Rattle.meaning.specs.Rules.{rule, holds}
+use Rattle.meaning.specs.Rules.{Rules, rule, holds}
 use Rattle.meaning.specs.Tables as T
 use Rattle.meaning.specs.Tables.{rulesOf, onPlant, controlled, startsIn}
 use Rattle.meaning.specs.Trees as Y
@@ -105,28 +105,27 @@ found-tile : (s : List ℕ) (f : Found) (u : ℕ) (then : State) → onFound s f
 found-tile s (Found.Refused e) u then q = absurd (refused-mode q)
 found-tile s (Found.Tile from k) u then q = (from, k, refl)
 
--- a call that was answered has read the header and found a tile
-record Went (p : Plant) (table : List ℕ) (x : List ℤ) : Type 0 where
-  at : ℕ
-  from : ℕ
-  k : ℕ
-  head : header (p .n) table ≡ Walk.Next at
-  found : find (rulesOf p) (p .d) table at (rootOf p) x ≡ Found.Tile from k
+-- a call, idle, that was answered has read the header and found a tile, by any rules
+pub record Went (r : Rules) (table : List ℕ) (x : r .Reading) : Type 0 where
+  pub at : ℕ
+  pub from : ℕ
+  pub k : ℕ
+  pub head : header (r .n) table ≡ Walk.Next at
+  pub found : find r (r .D) table at (r .root) x ≡ Found.Tile from k
 
-went : (p : Plant) (table : List ℕ) (x : List ℤ) (u : ℕ) (then : State) → call (rulesOf p) table idle x ≡ Answer.Mode u then → Went p table x
+pub went : (r : Rules) (table : List ℕ) (x : r .Reading) (u : ℕ) (then : State) → call r table idle x ≡ Answer.Mode u then → Went r table x
 unfolding C.call
-went p table x u then a =
-    let r = rulesOf p in
-    let w = walk-went (header (p .n) table) Answer.Refused (λ at. idleCall r table at 0 x) (λ _. refused-mode) a in
-    let g = guard-passed (holds r (rootOf p) x) (λ _. onFound table (find r (p .d) table (w .0) (rootOf p) x)) refused-mode (w .2) in
-    let f = found-tile table (find r (p .d) table (w .0) (rootOf p) x) u then (g .1) in
+went r table x u then a =
+    let w = walk-went (header (r .n) table) Answer.Refused (λ at. idleCall r table at 0 x) (λ _. refused-mode) a in
+    let g = guard-passed (holds r (r .root) x) (λ _. onFound table (find r (r .D) table (w .0) (r .root) x)) refused-mode (w .2) in
+    let f = found-tile table (find r (r .D) table (w .0) (r .root) x) u then (g .1) in
     record { at = w .0; from = f .0; k = f .1; head = w .1; found = f .2 }
 
 pub unread : (plant table : List ℕ) (x : List ℤ) (u : ℕ) (then : State) → controlled plant table idle x ≡ Answer.Mode u then → Unread plant table x u then
 unfolding T.controlled
 unread plant table x u then = go (plantJudged plant) refl
   where
-    of : (p : Plant) → plantJudged plant ≡ good p → call (rulesOf p) table idle x ≡ Answer.Mode u then → Went p table x → Unread plant table x u then
+    of : (p : Plant) → plantJudged plant ≡ good p → call (rulesOf p) table idle x ≡ Answer.Mode u then → Went (rulesOf p) table x → Unread plant table x u then
     of p e a w =
         let r = rulesOf p in
         let s = judged-sound plant p e in
@@ -148,4 +147,4 @@ unread plant table x u then = go (plantJudged plant) refl
     go : (j : Judged Plant) → plantJudged plant ≡ j → onPlant j Answer.Refused (λ p. call (rulesOf p) table idle x) ≡ Answer.Mode u then
         → Unread plant table x u then
     go (bad e) q a = absurd (refused-mode a)
-    go (good p) q a = of p q a (went p table x u then a)
+    go (good p) q a = of p q a (went (rulesOf p) table x u then a)

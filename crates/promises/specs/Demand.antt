@@ -21,12 +21,15 @@ use Rattle.promises.specs.Trips.{Repeated, repeated}
 abbrev pub Demand : Rules → List ℕ → ℕ → Type 0
 Demand r s most = Repeated idle (Gives r s) (r .follows) (holds r (r .safe)) (holds r (r .goal)) (holds r (r .root)) most
 
+-- of the table of a working tree
+pub tree-demand : (r : Rules) → Sizes r → Splits r → Motion r → Returns r → (s : List ℕ) (t : Tree) → Working r t → s ≡ tableOf r t → Demand r s (longest t)
+tree-demand r sizes splits motion returns s t o q =
+    rw q (repeated idle (Gives r (tableOf r t)) (r .follows) (holds r (r .safe)) (holds r (r .goal)) (holds r (r .root)) returns (longest t)
+    (λ x h. let w = table-trips r sizes splits motion t o x h in (length (w .the .modes), w .short, w .trip)))
+
 -- S9: of every accepted table, and of the one tree that it is the table of
 pub demand : (r : Rules) → Sizes r → Splits r → Motion r → Returns r → (s : List ℕ) → verdict r s ≡ Verdict.Accepted
     → (t : Tree) × Working r t × (s ≡ tableOf r t) × Demand r s (longest t)
-demand r sizes splits motion returns s e = let w = accepted-exactly r sizes s .0 e in (w .0, w .1, w .2, of (w .0) (w .1) (w .2))
-  where
-    of : (t : Tree) → Working r t → s ≡ tableOf r t → Demand r s (longest t)
-    of t o q =
-        rw q (repeated idle (Gives r (tableOf r t)) (r .follows) (holds r (r .safe)) (holds r (r .goal)) (holds r (r .root)) returns (longest t)
-        (λ x h. let w = table-trips r sizes splits motion t o x h in (length (w .the .modes), w .short, w .trip)))
+demand r sizes splits motion returns s e =
+    let w = accepted-exactly r sizes s .0 e in
+    (w .0, w .1, w .2, tree-demand r sizes splits motion returns s (w .0) (w .1) (w .2))

@@ -63,7 +63,7 @@ taken-inside s k i v next e = stand-within s (bytesAs k v) i next (taken-was k v
 
 module _ (numbers : List ℕ) (size : ℕ) where
   -- each field is refused so, wherever it stands in a file of that size
-  unfoldable Tells : Form → Type 0
+  unfoldable pub Tells : Form → Type 0
   Tells end = Unit {0}
   Tells (field f rest) = ((at : ℕ) → at ≤ size → Telling numbers size (f .wrong at)) × ((v : ℤ) → Tells (rest v))
 
@@ -86,7 +86,7 @@ module _ (numbers : List ℕ) (size : ℕ) where
 
 -- what is read by a form is refused by 1, or as a field tells; then by 3, where bytes are left over
 module _ (numbers s : List ℕ) (one : oneOf numbers 1 ≡ true) (three : oneOf numbers 3 ≡ true) where
-  values-tell : (form : Form) → Tells numbers (length s) form → (i : ℕ) → i ≤ length s → ReadTells numbers (length s) (valuesAt form s i)
+  pub values-tell : (form : Form) → Tells numbers (length s) form → (i : ℕ) → i ≤ length s → ReadTells numbers (length s) (valuesAt form s i)
   unfolding F.valuesAt Tells
   values-tell end h i l = l
   values-tell (field f rest) h i l = go (takenAs (f .kind) s i) refl (λ v next k. values-tell (rest v) (h .1 v) next k)
@@ -98,7 +98,7 @@ module _ (numbers s : List ℕ) (one : oneOf numbers 1 ≡ true) (three : oneOf 
           guard-keeps (ReadTells numbers (length s)) (f .right v) (λ _. before v (valuesAt (rest v) s next)) (λ _. h .0 i l)
           (λ _. before-tells numbers (length s) v (valuesAt (rest v) s next) (ih v next (taken-inside s (f .kind) i v next q)))
 
-  ended-tells : (t : Read (List ℤ)) → ReadTells numbers (length s) t → ReadTells numbers (length s) (ended s t)
+  pub ended-tells : (t : Read (List ℤ)) → ReadTells numbers (length s) t → ReadTells numbers (length s) (ended s t)
   ended-tells (refused e) h = h
   ended-tells (read vs next) l =
       guard-keeps (ReadTells numbers (length s)) (eqb next (length s)) (λ _. read vs next) (λ _. record { number = three; place = l; step = refl }) (λ _. l)
@@ -116,14 +116,14 @@ module _ (numbers : List ℕ) (size : ℕ) (three : oneOf numbers 3 ≡ true) wh
   abbrev T : Form → Type 0
   T = Tells numbers size
 
-  end-tells : T end
+  pub end-tells : T end
   unfolding Tells
   end-tells = tt
 
-  unfit-told : (at : ℕ) → at ≤ size → Telling numbers size (unfit at)
+  pub unfit-told : (at : ℕ) → at ≤ size → Telling numbers size (unfit at)
   unfit-told at l = record { number = three; place = l; step = refl }
 
-  times-tell : (k : ℕ) (part : Form → Form) → ((rest : Form) → T rest → T (part rest)) → (rest : Form) → T rest → T (times k part rest)
+  pub times-tell : (k : ℕ) (part : Form → Form) → ((rest : Form) → T rest → T (part rest)) → (rest : Form) → T rest → T (times k part rest)
   unfolding P.times
   times-tell zero part h rest t = t
   times-tell (suc k) part h rest t = h (times k part rest) (times-tell k part h rest t)
@@ -132,11 +132,11 @@ module _ (numbers : List ℕ) (size : ℕ) (three : oneOf numbers 3 ≡ true) wh
   unfolding Tells
   limited-tells limit rest t = (unfit-told, λ v. t)
 
-  counted-tells : (ok : ℕ → Bool) (rest : ℕ → Form) → ((v : ℕ) → T (rest v)) → T (counted ok rest)
+  pub counted-tells : (ok : ℕ → Bool) (rest : ℕ → Form) → ((v : ℕ) → T (rest v)) → T (counted ok rest)
   unfolding Tells
   counted-tells ok rest t = (unfit-told, λ v. t (natAbs v))
 
-  span-tells : (limit : ℕ) (rest : Form) → T rest → T (span limit rest)
+  pub span-tells : (limit : ℕ) (rest : Form) → T rest → T (span limit rest)
   unfolding Tells
   span-tells limit rest t = (unfit-told, λ lo. (unfit-told, λ hi. t))
 
@@ -274,7 +274,7 @@ sheetFormNumbers = 1 ∷ 2 ∷ 3 ∷ 13 ∷ []
 sheet-body-tells : (numbers : List ℕ) (size : ℕ) → oneOf numbers 3 ≡ true → oneOf numbers 13 ≡ true → (n r : ℕ) → Tells numbers size (sheetBody n r)
 sheet-body-tells numbers size three thirteen n r = edges-tell numbers size three n (floatsForm n) (floats-tell numbers size three thirteen n)
 
-read-told : (numbers : List ℕ) (size : ℕ) (t : Read (List ℤ)) → ReadTells numbers size t → (e : Refusal) → t ≡ refused e → Telling numbers size e
+pub read-told : (numbers : List ℕ) (size : ℕ) (t : Read (List ℤ)) → ReadTells numbers size t → (e : Refusal) → t ≡ refused e → Telling numbers size e
 read-told numbers size (read vs next) h e q = never cc
 read-told numbers size (refused f) h e q = let z : f ≡ e = cc in rw z at h
 

@@ -4,12 +4,12 @@
 use Prim.Native.Nat.{ℕ, _+_, _^_, _≤_, _<_}
 use mathlib.Core.Path.{_≡_, refl, sym, ap, _∙_}
 use mathlib.Core.Bool.{Bool, true, false, cond}
-use mathlib.Core.List.{List, [], _∷_, append-nil}
+use mathlib.Core.List.{List, [], _∷_, _++_, append-nil}
 use native.Mathlib.Omega.{arith}
 use native.Mathlib.Nat.{add-zero}
 use native.Mathlib.Decide.{decLt}
 use lib.ListN.{length, length-append}
-use lib.Seq.{drop-length}
+use lib.Seq.{drop-length, drop-at}
 use lib.Dec.{ltb, eqb}
 use lib.IntN.{ℤ, pos, natAbs}
 use borrow.Author.Tests.{lt-ltb, le-ltb, eqb-true, eq-eqb}
@@ -217,3 +217,15 @@ file-writes form s {vs} {next} e = go (valuesAt form s 0) refl e
         let n : next ≡ length s = (let k : m ≡ next = cc in omega (arith, eqb-true m (length s) (a .0))) in
         let x : s ≡ fileOf form vs = b .1 .bytes ∙ rw (n, drop-length s, append-nil) refl in
         (r, n, sym x)
+
+-- and are read so whatever stands behind them
+pub read-in-front : (form : Form) (s : List ℕ) {vs : List ℤ} {next : ℕ} → valuesOf form s ≡ read vs next → (rest : List ℕ) → valuesAt form (fileOf form vs ++ rest) 0 ≡ read vs next
+read-in-front form s {vs} {next} e rest =
+    let w = file-writes form s e in
+    let b = writes-back form s 0 (w .0) in
+    let t = fileOf form vs ++ rest in
+    let stands : Stands t 0 (fileOf form vs) next = record {
+      end = b .1 .end;
+      bytes = ap (λ (l : List ℕ). fileOf form vs ++ l) (sym (drop-at (fileOf form vs) rest next (omega (arith, b .1 .end))));
+    } in
+    reads-back form vs t 0 next (b .0) stands ∙ sym (reads-back form vs s 0 next (b .0) (b .1)) ∙ w .0

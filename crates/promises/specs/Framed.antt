@@ -28,10 +28,10 @@ use Rattle.promises.specs.Sound.{Edges}
 -- ---- the parts of the form, as facts
 
 -- a..b lies within ± a limit
-record Spans (limit : ℕ) (a b : ℤ) : Type 0 where
-  low : natAbs a ≤ limit
-  high : natAbs b ≤ limit
-  order : a ≤ℤ b
+pub record Spans (limit : ℕ) (a b : ℤ) : Type 0 where
+  pub low : natAbs a ≤ limit
+  pub high : natAbs b ≤ limit
+  pub order : a ≤ℤ b
 
 module _ (vs : List ℤ) where
   pub limited-right : (limit : ℕ) (rest : Form) (i : ℕ) → Right (limited limit rest) vs i → (natAbs (at vs i) ≤ limit) × Right rest vs (i + 1)
@@ -41,7 +41,7 @@ module _ (vs : List ℤ) where
       let k = orders (negℤ (pos limit)) z z (pos limit) (h .0) in
       (Z.within limit (k .0) (k .1), h .1)
 
-  span-right : (limit : ℕ) (rest : Form) (i : ℕ) → Right (span limit rest) vs i → Spans limit (at vs i) (at vs (i + 1)) × Right rest vs (i + 2)
+  pub span-right : (limit : ℕ) (rest : Form) (i : ℕ) → Right (span limit rest) vs i → Spans limit (at vs i) (at vs (i + 1)) × Right rest vs (i + 2)
   unfolding F.Right
   span-right limit rest i h =
       let a = at vs i in

@@ -20,7 +20,7 @@ use Rattle.promises.specs.Headers.{most-of}
 
 -- ---- one number: so many groups of seven bits
 
-short : (c g x : ℕ) → x < 2 ^ (7 * suc c) → length (groupsOf g x) ≤ suc c
+pub short : (c g x : ℕ) → x < 2 ^ (7 * suc c) → length (groupsOf g x) ≤ suc c
 unfolding groupsOf
 short c zero x h = omega arith
 short c (suc g) x h = go c (decLt x 128) h (λ k l. short k g (x / 128) l)

@@ -102,7 +102,7 @@ module _ {u : ℕ} {then : State} where
         let b = guard-passed (holds r (r .safe) x) _ refused-mode (a .1) in
         first-below (r .N) s place (suc m) (running-first (r .K) (r .N) s place m (a .0)) (b .1)
 
-    call-below : (st : State) (x : r .Reading) → call r s st x ≡ Answer.Mode u then → u < r .N
+    pub call-below : (st : State) (x : r .Reading) → call r s st x ≡ Answer.Mode u then → u < r .N
     unfolding C.call
     call-below st x e =
         let w = walk-went (header (r .n) s) Answer.Refused (λ at. stateCall r s at (st .place) (st .left) x) (λ _. refused-mode) e in

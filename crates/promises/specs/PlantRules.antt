@@ -14,13 +14,14 @@ use Rattle.meaning.specs.declared.PlantRead.{PlantRead}
 use Rattle.meaning.specs.declared.Refusal.{Refusal}
 use Rattle.meaning.specs.declared.State.{State}
 use Rattle.meaning.specs.declared.Verdict.{Verdict}
+use Rattle.meaning.specs.Boxes.{Side}
 use Rattle.meaning.specs.Control.{call}
 use Rattle.meaning.specs.Defined.{definedTree}
 use Rattle.meaning.specs.Files.{Judged, good, bad}
 use Rattle.meaning.specs.Numbers.{bytesOf}
-use Rattle.meaning.specs.Plants.{plantJudged, readOf}
+use Rattle.meaning.specs.Plants.{rootOf, plantJudged, readOf}
 use Rattle.meaning.specs.Tables as T
-use Rattle.meaning.specs.Tables.{rulesOf, checked, definedTable, made, controlled}
+use Rattle.meaning.specs.Tables.{tableRules, rulesOf, checked, definedTable, made, controlled}
 use Rattle.meaning.specs.Trees.{Tree, layout, tableOf}
 use Rattle.meaning.specs.Verdicts.{verdict}
 use Rattle.promises.specs.Bytes.{one-byte}
@@ -30,9 +31,12 @@ use Rattle.promises.specs.Layouts.{headed}
 use Rattle.promises.specs.Sound.{Sound}
 
 module _ (p : Plant) (s : Sound p) where
-  -- n is at most 4, K at most 6, N at most 16: numbers of five bytes hold them
+  -- n is at most 4, K at most 6, N at most 16: numbers of five bytes hold them, whatever is tiled and wherever patterns end
+  pub sizes-over : (root goal : List Side) → Sizes (tableRules p root goal)
+  sizes-over root goal = record { dimensions = omega (arith, s .n-high); nodes = omega (arith, s .k-high); modes = omega (arith, s .modes-high) }
+
   pub sizes : Sizes (rulesOf p)
-  sizes = record { dimensions = omega (arith, s .n-high); nodes = omega (arith, s .k-high); modes = omega (arith, s .modes-high) }
+  sizes = sizes-over (rootOf p) (rootOf p)
 
   -- and form and n take a byte each
   pub header-size : headed (p .n) ≡ 2

@@ -42,7 +42,7 @@ pub record Promised (plant table : List ℕ) (most : ℕ) : Type 0 where
   pub goes-on : (u : ℕ) (x : List ℤ) → (y : List ℤ) × (mayFollow plant u x y ≡ true)
 
 -- runs over bytes are runs over the rules of the plant that was judged good
-promised : (plant table : List ℕ) (p : Plant) → plantJudged plant ≡ good p → (most : ℕ) → Sound p → Demand (rulesOf p) table most → Promised plant table most
+pub promised : (plant table : List ℕ) (p : Plant) → plantJudged plant ≡ good p → (most : ℕ) → Sound p → Demand (rulesOf p) table most → Promised plant table most
 unfolding T.controlled
 promised plant table p e most s d =
     let b : Repeated idle (λ st x u then. gives plant table st x u then) (λ u x y. mayFollow plant u x y) (λ x. safeIn plant x) (λ x. startsIn plant x) (λ x. startsIn plant x) most = rw e d in

@@ -1,8 +1,8 @@
 -- How long a table may be (document 01, "Table file": at most 30,039 bytes). A tree of depth d whose splits have at most c children and whose tiles have
 -- at most m bytes has at most c^d tiles, and one byte for each split above them; a plant has c = 2^n, m = 7 and n·D ≤ 12, and the header two bytes.
--- Relies on pages Checked and Children. That the bound is reached is page LongestTable.
+-- Relies on pages Accept and Children. That the bound is reached is page LongestTable.
 use Prim.Native.Nat.{ℕ, zero, suc, _+_, _-_, _*_, _^_, _≤_}
-use mathlib.Core.Path.{_≡_, refl, ap, _∙_}
+use mathlib.Core.Path.{_≡_, refl, sym, ap, _∙_}
 use mathlib.Core.Bool.{Bool, true, false, cond}
 use mathlib.Core.List.{List, [], _∷_, _++_, map}
 use native.Mathlib.Omega.{arith}
@@ -25,11 +25,14 @@ use Rattle.meaning.specs.Plants.{rootOf, safeOf, stepOf}
 use Rattle.meaning.specs.Rules.{Rules, rule}
 use Rattle.meaning.specs.Trees as T
 use Rattle.meaning.specs.Trees.{Tree, Forest, split, tile, leaf, more, modesBytes, layout, layouts, below, tableOf, Over, Overs}
-use Rattle.meaning.specs.Tables.{rulesFrom, rulesOf, checked}
+use Rattle.meaning.specs.Tables.{rulesFrom, tableRules, checked}
+use Rattle.meaning.specs.Verdicts.{verdict}
 use Rattle.promises.specs.Bytes.{one-byte}
-use Rattle.promises.specs.Checked.{checked-exactly}
+use Rattle.promises.specs.Accept.{accepted-exactly}
+use Rattle.promises.specs.Checked.{accepted-judged}
 use Rattle.promises.specs.Children.{Child, children-are}
 use Rattle.promises.specs.Judged.{judged-sound}
+use Rattle.promises.specs.PlantRules.{sizes-over, checked-as}
 use Rattle.promises.specs.Shapes.{Good, Working, over-map}
 use Rattle.promises.specs.Sound.{Sound}
 
@@ -48,7 +51,7 @@ module _ (c m : ℕ) (some : 1 ≤ c) where
   most-deeper d (suc k) = let q : suc k + d ≡ suc (k + d) = omega arith in rw q (omega (arith, most-deeper d k, more-deep (k + d)))
 
   -- a deeper tree may be longer
-  most-grows : (d e : ℕ) → d ≤ e → most c m d ≤ most c m e
+  pub most-grows : (d e : ℕ) → d ≤ e → most c m d ≤ most c m e
   most-grows d e l = go (e - d) (omega arith)
     where
       go : (k : ℕ) → e ≡ k + d → most c m d ≤ most c m e
@@ -183,11 +186,18 @@ cap-few (suc (suc (suc (suc (suc n))))) d l h e = absurd (omega arith)
 
 -- ---- the bound of a plant: an accepted table has at most 30,039 bytes
 
+-- of a plant's table over any box of n sides, into any goal
+module _ (p : Plant) (s : Sound p) (root goal : List Side) (sides : length root ≡ p .n) (table : List ℕ) (a : verdict (tableRules p root goal) table ≡ Verdict.Accepted) where
+  pub over-most : length table ≤ 2 + most (2 ^ p .n) 7 (p .d)
+  over-most =
+      let t = accepted-exactly (tableRules p root goal) (sizes-over p s root goal) table .0 a in
+      rw (t .2) (table-length (p .n) (p .modes) (p .k) (p .d) root goal (safeOf p) (stepOf p) (s .n-high) (omega (arith, s .modes-high)) (s .k-high) sides (t .0) (t .1))
+
+  pub over-box : length table ≤ 30_039
+  over-box = omega (arith, over-most, cap (p .n) (p .d) (s .n-low) (s .n-high) (s .d-high) (s .nd-high))
+
 pub at-most : (plant table : List ℕ) → checked plant table ≡ Verdict.Accepted → length table ≤ 30_039
-at-most plant table a = let t = checked-exactly plant table .0 a in of (t .p) (judged-sound plant (t .p) (t .judged)) (t .tree) (t .works) (t .is)
-  where
-    of : (p : Plant) → Sound p → (t : Tree) → Working (rulesOf p) t → table ≡ tableOf (rulesOf p) t → length table ≤ 30_039
-    of p s t o q =
-        let l = table-length (p .n) (p .modes) (p .k) (p .d) (rootOf p) (rootOf p) (safeOf p) (stepOf p)
-        (s .n-high) (omega (arith, s .modes-high)) (s .k-high) (length-tab (sideAt (p .rlo) (p .rhi)) (p .n) 0) t o in
-        rw q (omega (arith, l, cap (p .n) (p .d) (s .n-low) (s .n-high) (s .d-high) (s .nd-high)))
+at-most plant table a =
+    let w = accepted-judged plant table a in
+    let p = w .0 in
+    over-box p (judged-sound plant p (w .1)) (rootOf p) (rootOf p) (length-tab (sideAt (p .rlo) (p .rhi)) (p .n) 0) table (sym (checked-as plant p (w .1) table) ∙ a)

@@ -1,5 +1,6 @@
 -- How a refusal may be told (document 01, "What each number says"): by one of some numbers, with a place and a step such as the table's row names. The
--- table's columns of places and steps stand here. Definitions, and what follows of them alone; which entry point tells which is page Told.
+-- table's columns of places and steps stand here; start files have another column of places (page Rows). Definitions, and what follows of them alone; which
+-- entry point tells which is page Told.
 use Prim.Native.Nat.{ℕ, _≤_, _<_}
 use mathlib.Core.Path.{_≡_, refl, _∙_, sym}
 use mathlib.Core.Bool.{Bool, true, false, _&&_, _||_}
@@ -15,9 +16,9 @@ abbrev pub oneOf : List ℕ → ℕ → Bool
 oneOf [] n = false
 oneOf (m ∷ ms) n = eqb n m || oneOf ms n
 
--- what a row's place is: 0, a byte of the file, a dimension from 0, which number of the plant file
+-- what a row's place is: 0, a byte of the file, a dimension from 0, which number of the plant file; of a chain of boxes, the index of one, from 0 or above R
 pub data Place : Type 0 where
-  none byte dimension figure : Place
+  none byte dimension figure box boxAbove : Place
 
 -- the column of places, from number 0 on
 abbrev pub places : List Place
@@ -30,6 +31,8 @@ PlaceIs none size p = p ≡ 0
 PlaceIs byte size p = p ≤ size
 PlaceIs dimension size p = p < 4
 PlaceIs figure size p = p < 350
+PlaceIs box size p = p ≤ 8
+PlaceIs boxAbove size p = (1 ≤ p) × (p ≤ 8)
 
 -- the rows that tell a step, and a step from 1 to the longest pattern's last
 abbrev pub stepped : ℕ → Bool
@@ -39,11 +42,14 @@ abbrev pub StepIs : Bool → ℕ → Type 0
 StepIs true i = (1 ≤ i) × (i ≤ 6)
 StepIs false i = i ≡ 0
 
--- told of a file of that size by one of these numbers
-pub record Telling (numbers : List ℕ) (size : ℕ) (e : Refusal) : Type 0 where
+-- told of a file of that size by one of these numbers, with a place of that column
+pub record TellingBy (column : List Place) (numbers : List ℕ) (size : ℕ) (e : Refusal) : Type 0 where
   pub number : oneOf numbers (e .number) ≡ true
-  pub place : PlaceIs (getD places (e .number) none) size (e .place)
+  pub place : PlaceIs (getD column (e .number) none) size (e .place)
   pub step : StepIs (stepped (e .number)) (e .step)
+
+abbrev pub Telling : List ℕ → ℕ → Refusal → Type 0
+Telling = TellingBy places
 
 -- what holds of both ways of a test holds behind it
 pub guard-keeps : {A : Type 0} (P : A → Type 0) {otherwise : A} (t : Bool) (rest : Unit {0} → A) → (t ≡ false → P otherwise) → (t ≡ true → P (rest tt)) → P (guard t otherwise rest)
@@ -64,8 +70,8 @@ fewer (a ∷ l) more n h e = go (eqb n a) refl e (λ q. fewer l more n (second (
     go true q e later = rw (eqb-true n a q) (first (oneOf more a) (areOf more l) h)
     go false q e later = later e
 
-module _ {numbers : List ℕ} {size : ℕ} {e : Refusal} (t : Telling numbers size e) where
-  pub told-more : (more : List ℕ) → areOf more numbers ≡ true → Telling more size e
+module _ {column : List Place} {numbers : List ℕ} {size : ℕ} {e : Refusal} (t : TellingBy column numbers size e) where
+  pub told-more : (more : List ℕ) → areOf more numbers ≡ true → TellingBy column more size e
   told-more more h = record { number = fewer numbers more (e .number) h (t .number); place = t .place; step = t .step }
 
   pub not-told : (n : ℕ) → oneOf numbers n ≡ false → e .number ≡ n → ⊥

@@ -27,11 +27,11 @@ use Rattle.meaning.specs.declared.Written.{Written}
 use Rattle.meaning.specs.declared.State.{State}
 use Rattle.meaning.specs.declared.Answer.{Answer}
 use Rattle.meaning.specs.Refusals.{Shown, badState, short, verdictShown, writtenShown, answerShown}
-use Rattle.meaning.specs.Boxes.{side, sideAt, sidesOf, fits}
+use Rattle.meaning.specs.Boxes.{Side, side, sideAt, sidesOf, fits}
 use Rattle.meaning.specs.Buffers.{left, refusedWith}
 use Rattle.meaning.specs.Files.{Judged, good, bad, fileJudged}
 use Rattle.meaning.specs.Plants as P
-use Rattle.meaning.specs.Plants.{plantJudged, plantRead, readOf, plantLeft}
+use Rattle.meaning.specs.Plants.{rootOf, safeOf, plantJudged, plantRead, readOf, plantLeft}
 use Rattle.meaning.specs.Rules.{Rules, rule, holds}
 use Rattle.meaning.specs.Sheets as S
 use Rattle.meaning.specs.Sheets.{plantFileMade, sheetJudged, sheetRead, sheetReadOf, madeLeft, sheetLeft}
@@ -91,7 +91,7 @@ module _ (r : Rules) (s : List ℕ) where
       (λ next m. guard-keeps VerdictTells (eqb next (length s)) _ (λ _. table-told checkerNumbers s refl refl next m) (λ _. tt))
 
   -- answered, or refused so
-  abbrev AnswerTells : Answer → Type 0
+  abbrev pub AnswerTells : Answer → Type 0
   AnswerTells (Answer.Mode u then) = Unit {0}
   AnswerTells (Answer.Refused e) = Telling controllerNumbers (length s) e
 
@@ -119,19 +119,17 @@ module _ (r : Rules) (s : List ℕ) where
     state-tells at place (suc m) l =
         guard-keeps AnswerTells (canRun (r .K) (r .N) s place (suc m)) _ (λ _. state-told) (λ _. inside-tells (r .safe) _ (few x .1) (mode-tells place (suc m)))
 
-    call-tells : (st : State) → AnswerTells (call r s st x)
+    pub call-tells : (st : State) → AnswerTells (call r s st x)
     unfolding C.call
     call-tells st =
         walk-keeps controllerNumbers (length s) AnswerTells (header (r .n) s) Answer.Refused _ (header-tells controllerNumbers s refl refl refl (r .n)) (λ e t. t)
         (λ at l. state-tells at (st .place) (st .left) l)
 
--- a box of n sides has n tests for a reading
-fits-size : (n : ℕ) → n ≤ 4 → (lo hi x : List ℤ) → length (fits (sidesOf n lo hi) (readingOf n x)) ≤ 4
-fits-size n l lo hi x =
-    let b = sidesOf n lo hi in
+-- a box of at most four sides has as many tests for a reading
+pub fits-size : (n : ℕ) → n ≤ 4 → (b : List Side) → length b ≤ 4 → (x : List ℤ) → length (fits b (readingOf n x)) ≤ 4
+fits-size n l b few x =
     let y = readingOf n x in
-    rw (← points-fit b y)
-    (lies-size 4 (points y) b (omega (arith, length-map y (λ z. side z z), length-tab (at x) n 0)) (omega (arith, length-tab (sideAt lo hi) n 0)))
+    rw (← points-fit b y) (lies-size 4 (points y) b (omega (arith, length-map y (λ z. side z z), length-tab (at x) n 0)) few)
 
 -- ---- checker and controller
 
@@ -165,20 +163,25 @@ controller-told plant table st x e = go (plantJudged plant) refl
     go (bad f) q a = let z : f ≡ e = cc in let w = rw z at q in of-plant w (plant-told plant e w)
     go (good p) q a =
         let n = judged-sound plant p q .n-high in
+        let sides : (lo hi : List ℤ) → length (sidesOf (p .n) lo hi) ≤ 4 = λ lo hi. omega (arith, length-tab (sideAt lo hi) (p .n) 0) in
         of-table p q (of (rulesOf p) (call (rulesOf p) table st x) (call-tells (rulesOf p) table
-        (λ y. (fits-size (p .n) n (p .rlo) (p .rhi) y, fits-size (p .n) n (p .slo) (p .shi) y)) x st) a)
+        (λ y. (fits-size (p .n) n (rootOf p) (sides (p .rlo) (p .rhi)) y, fits-size (p .n) n (safeOf p) (sides (p .slo) (p .shi)) y)) x st) a)
 
 -- ---- writers into a lent buffer: 10 besides
 
+pub left-refused : (P : Refusal → Type 0) (j : Judged (List ℕ)) → ((e : Refusal) → j ≡ bad e → P e) → ((bytes : List ℕ) → j ≡ good bytes → P short)
+    → (buf : List ℕ) (e : Refusal) → left j buf .answer ≡ Written.Refused e → P e
+left-refused P (bad f) h ten buf e a = let z : f ≡ e = cc in h e (ap bad z)
+left-refused P (good bytes) h ten buf e a = go (leb (length bytes) (length buf)) a
+  where
+    go : (t : Bool) → (guard t (refusedWith short buf) λ _. record { answer = Written.Length (length bytes); buffer = sets buf 0 bytes }) .answer ≡ Written.Refused e → P e
+    go true a = never cc
+    go false a = let z : e ≡ short = cc in rw z (ten bytes refl)
+
 left-told : (numbers more : List ℕ) (size : ℕ) (j : Judged (List ℕ)) → ((e : Refusal) → j ≡ bad e → Telling numbers size e) → areOf more numbers ≡ true
     → oneOf more 10 ≡ true → (buf : List ℕ) (e : Refusal) → left j buf .answer ≡ Written.Refused e → Telling more size e
-left-told numbers more size (bad f) h some ten buf e a = let z : f ≡ e = cc in told-more (h e (ap bad z)) more some
-left-told numbers more size (good bytes) h some ten buf e a = go (leb (length bytes) (length buf)) a
-  where
-    go : (t : Bool) → (guard t (refusedWith short buf) λ _. record { answer = Written.Length (length bytes); buffer = sets buf 0 bytes }) .answer ≡ Written.Refused e
-        → Telling more size e
-    go true a = never cc
-    go false a = let z : e ≡ short = cc in rw z (record { number = ten; place = refl; step = refl })
+left-told numbers more size j h some ten =
+    left-refused (Telling more size) j (λ e q. told-more (h e q) more some) (λ _ _. record { number = ten; place = refl; step = refl })
 
 pub maker-told : (plant buf : List ℕ) (e : Refusal) → makerLeft plant buf .answer ≡ Written.Refused e
     → Telling makerNumbers (length plant) e
@@ -221,13 +224,13 @@ pub record Showing (Done : Type 0) (Tells : Refusal → Type 0) (otherwise : Lis
   pub or-told : (a .number ≡ 0 → ⊥) → (e : Refusal) × (a ≡ refusing e otherwise) × Tells e
 
 module _ (Tells : Refusal → Type 0) (some : (e : Refusal) → Tells e → Some e) where
-  verdict-shows : (v : Verdict) → ((e : Refusal) → v ≡ Verdict.Refused e → Tells e) → Showing (v ≡ Verdict.Accepted) Tells [] (verdictShown v)
+  pub verdict-shows : (v : Verdict) → ((e : Refusal) → v ≡ Verdict.Refused e → Tells e) → Showing (v ≡ Verdict.Accepted) Tells [] (verdictShown v)
   verdict-shows Verdict.Accepted h = record { zero-exactly = (λ _. refl, λ _. refl); or-told = λ z. absurd (z refl) }
   verdict-shows (Verdict.Refused e) h =
       let t = h e refl in
       record { zero-exactly = (λ z. absurd (some e t z), λ z. never cc); or-told = λ _. (e, refl, t) }
 
-  written-shows : (w : Written) → ((e : Refusal) → w ≡ Written.Refused e → Tells e) → Showing ((m : ℕ) × (w ≡ Written.Length m)) Tells [] (writtenShown w)
+  pub written-shows : (w : Written) → ((e : Refusal) → w ≡ Written.Refused e → Tells e) → Showing ((m : ℕ) × (w ≡ Written.Length m)) Tells [] (writtenShown w)
   written-shows (Written.Length m) h = record { zero-exactly = (λ _. (m, refl), λ _. refl); or-told = λ z. absurd (z refl) }
   written-shows (Written.Refused e) h =
       let t = h e refl in

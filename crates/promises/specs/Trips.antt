@@ -1,6 +1,7 @@
 -- Trips (demand 3): from an idle call on, so many samples, in each of which the call is answered and the reading lies in S, to the next idle call, on a
 -- reading in the goal. And trips repeated, where one begins on every reading in the goal: what demand 3 says of runs of any length. Over any kind of state,
--- any calls, any rule of what may follow. Assumes nothing; that a table's calls make trips is page TableTrips.
+-- any calls, any rule of what may follow; and trips of one controller as trips of another that calls it. Assumes nothing; that a table's calls make trips
+-- is page TableTrips.
 use Prim.Native.Nat.{ℕ, zero, suc, _-_, _≤_, _<_}
 use mathlib.Core.Path.{_≡_, refl}
 use mathlib.Core.Bool.{Bool, true}
@@ -124,3 +125,54 @@ module _ {State Reading : Type 0} (idle : State) (gives : State → Reading → 
               let t = made (w .0) x (w .2) in
               (w .0, t .some, w .1, λ st y k. let e = t .ends k in record { again = e .1; in-goal = e .2; in-root = home y (e .2) });
         }
+
+-- ---- trips of one controller carried over to another
+
+-- Each state of the first is one of the second, idle alone idle; each call of the first on the way, not idle, is one of the second, whose answers are
+-- functional; what may follow in the second may in the first; S and the goal of the second hold what those of the first do.
+pub record Carried {State State' Reading : Type 0}
+    (idle : State) (gives : State → Reading → ℕ → State → Type 0) (follows : ℕ → Reading → Reading → Bool) (safe goal : Reading → Bool)
+    (idle' : State') (gives' : State' → Reading → ℕ → State' → Type 0) (follows' : ℕ → Reading → Reading → Bool) (safe' goal' : Reading → Bool)
+    (to : State → State') : Type 0 where
+  pub to-idle : to idle ≡ idle'
+  pub idle-alone : (st : State) → to st ≡ idle' → st ≡ idle
+  pub calls : {st : State} {x : Reading} {u : ℕ} {then : State} → (st ≡ idle → ⊥) → gives st x u then → gives' (to st) x u (to then)
+  pub one : {st : State'} {x : Reading} {u v : ℕ} {then next : State'} → gives' st x u then → gives' st x v next → (v ≡ u) × (next ≡ then)
+  pub may-follow : (u : ℕ) (x y : Reading) → follows' u x y ≡ true → follows u x y ≡ true
+  pub in-safe : (x : Reading) → safe x ≡ true → safe' x ≡ true
+  pub in-goal : (x : Reading) → goal x ≡ true → goal' x ≡ true
+
+module _ {State State' Reading : Type 0}
+    {idle : State} {gives : State → Reading → ℕ → State → Type 0} {follows : ℕ → Reading → Reading → Bool} {safe goal : Reading → Bool}
+    {idle' : State'} {gives' : State' → Reading → ℕ → State' → Type 0} {follows' : ℕ → Reading → Reading → Bool} {safe' goal' : Reading → Bool}
+    {to : State → State'} (c : Carried idle gives follows safe goal idle' gives' follows' safe' goal' to) where
+  -- a sample whose call is carried over
+  sample-carried : {P : State → Reading → Type 0} {Q : State' → Reading → Type 0} {st : State} {at : State'} {x : Reading}
+      → ((u : ℕ) (then : State) → gives st x u then → gives' at x u (to then)) → ((then : State) (y : Reading) → P then y → Q (to then) y)
+      → Sampled idle gives follows P st x → Sampled idle' gives' follows' Q at x
+  sample-carried {x = x} call later s =
+      let t = s .told in
+      let mine = call (t .0) (t .1) (t .2) in
+      record {
+        told = (t .0, to (t .1), mine);
+        leads = λ {u} {then} {y} g f.
+            let e = c .one mine g in
+            let a : u ≡ t .0 = e .0 in
+            let b : then ≡ to (t .1) = e .1 in
+            rw b (later (t .1) y (s .leads (t .2) (c .may-follow (t .0) x y (rw a at f))));
+      }
+
+  to-go-carried : (m : ℕ) (st : State) (x : Reading) → ToGo idle gives follows safe goal m st x → ToGo idle' gives' follows' safe' goal' m (to st) x
+  unfolding ToGo
+  to-go-carried zero st x h = let e : st ≡ idle = h .1 in (c .in-safe x (h .0), rw e (c .to-idle), c .in-goal x (h .2))
+  to-go-carried (suc m) st x h = (
+    c .in-safe x (h .0),
+    λ e. h .1 (c .idle-alone st e),
+    sample-carried (λ u then. c .calls (h .1)) (λ then y. to-go-carried m then y) (h .2),
+  )
+
+  -- the first call, idle, is asked for by itself
+  pub trip-carried : (m : ℕ) (x : Reading) → ((u : ℕ) (then : State) → gives idle x u then → gives' idle' x u (to then))
+      → Trip idle gives follows safe goal m x → Trip idle' gives' follows' safe' goal' m x
+  trip-carried zero x first t = absurd t
+  trip-carried (suc m) x first t = (c .in-safe x (t .0), sample-carried first (λ then y. to-go-carried m then y) (t .1))

@@ -1,0 +1,96 @@
+-- How long a start file may be: one that is accepted, and so one that is made, has at most 270,476 bytes. Form and m take a byte each, an edge 3, a table's length 3.
+-- The longest tables have n 2 and D 6; with n 3 and 4 the edges are more, the tables shorter by more than that. Relies on pages Accepted, Maker and TableLengths;
+-- that some file is so long is left out.
+use Prim.Native.Nat.{ℕ, zero, suc, _+_, _*_, _^_, _≤_, _<_}
+use mathlib.Core.Path.{_≡_, ap}
+use mathlib.Core.List.{List, [], _∷_, _++_}
+use native.Mathlib.Omega.{arith}
+use native.Mathlib.Nat.{mul-le-mul, le-refl}
+use lib.IntN.{natAbs}
+use lib.ListN.{length, getD, length-append}
+use borrow.Author.Tests.{eqb-true}
+use Rattle.meaning.specs.declared.Verdict.{Verdict}
+use Rattle.meaning.specs.declared.Written.{Written}
+use Rattle.meaning.specs.Files.{good, fileOf}
+use Rattle.meaning.specs.Numbers.{bytesOf}
+use Rattle.meaning.specs.Plants.{edgeLimit, from}
+use Rattle.meaning.specs.Refusals as R
+use Rattle.meaning.specs.Starts as S
+use Rattle.meaning.specs.Starts.{chainForm, partsOf, startChecked, startMade, startLeft}
+use Rattle.promises.specs.Files.{writes-back}
+use Rattle.promises.specs.Headers.{most-of}
+use Rattle.promises.specs.Judged.{judged-sound}
+use Rattle.promises.specs.Lengths.{short, Longest, longer, end-longest, field-longest, counted-longest, span-adds, times-adds}
+use Rattle.promises.specs.TableLengths as L
+use Rattle.promises.specs.TableLengths.{most, most-grows, over-most}
+use Rattle.promises.specs.starts.Accepted.{start-checked-exactly}
+use Rattle.promises.specs.starts.Chains.{chain-few, box-size}
+use Rattle.promises.specs.starts.Maker.{start-made-accepted, start-maker-ten}
+use Rattle.promises.specs.starts.Started.{Started}
+
+-- ---- the chain
+
+chain-longest : (n : ℕ) → Longest (chainForm n) (2 + 48 * n)
+unfolding S.chainForm
+chain-longest n =
+    longer (field-longest _ _ {c = 1} {m = 1 + 48 * n} (λ v e. short 0 9 (natAbs v) (omega (arith, eqb-true (natAbs v) 1 e))) (λ v e.
+    counted-longest (from 0 8) _ 0 8 (λ m e. most-of 0 8 m e) (omega arith) (λ m few.
+    longer (times-adds (span-adds edgeLimit 2 (omega arith)) (m * n) .adds end-longest) (omega (arith, mul-le-mul few (le-refl n)))))) (omega arith)
+
+-- ---- the tables
+
+-- tables of at most b bytes, each with its length
+parts-length : (b : ℕ) → b < 2 ^ 21 → (ts : List (List ℕ)) → ((i : ℕ) → i < length ts → length (getD ts i []) ≤ b) → length (partsOf ts) ≤ length ts * (3 + b)
+unfolding S.partsOf
+parts-length b h [] each = omega arith
+parts-length b h (t ∷ ts) each =
+    let few = each 0 (omega arith) in
+    omega (
+      arith,
+      length-append (bytesOf (length t)) (t ++ partsOf ts),
+      length-append t (partsOf ts),
+      short 2 9 (length t) (omega arith),
+      parts-length b h ts (λ i l. each (suc i) (omega arith)),
+    )
+
+-- n·D ≤ 12, D ≤ 6: two dimensions of depth 6 have the most, nine tables and the edges of eight boxes together
+cap : (n d : ℕ) → 1 ≤ n → n ≤ 4 → d ≤ 6 → n * d ≤ 12 → 48 * n + 9 * most (2 ^ n) 7 d ≤ 270_429
+unfolding L.most
+cap zero d l h k e = absurd (omega arith)
+cap (suc zero) d l h k e = omega (arith, most-grows 2 7 (omega arith) d 6 k)
+cap (suc (suc zero)) d l h k e = omega (arith, most-grows 4 7 (omega arith) d 6 k)
+cap (suc (suc (suc zero))) d l h k e = omega (arith, most-grows 8 7 (omega arith) d 4 (omega arith))
+cap (suc (suc (suc (suc zero)))) d l h k e = omega (arith, most-grows 16 7 (omega arith) d 3 (omega arith))
+cap (suc (suc (suc (suc (suc n))))) d l h k e = absurd (omega arith)
+
+-- ---- the file
+
+started-length : (plant start : List ℕ) → Started plant start → length start ≤ 270_476
+started-length plant start t =
+    let p = t .p in
+    let s = judged-sound plant p (t .judged) in
+    let form = chainForm (p .n) in
+    let b = 2 + most (2 ^ p .n) 7 (p .d) in
+    let each : (i : ℕ) → i < length (t .tables) → length (getD (t .tables) i []) ≤ b = λ i l. over-most p s _ _ (box-size p (t .vs) i) (getD (t .tables) i []) (t .each i l) in
+    let small : b < 2 ^ 21 = omega (arith, L.cap (p .n) (p .d) (s .n-low) (s .n-high) (s .d-high) (s .nd-high)) in
+    let nine : length (t .tables) ≤ 9 = omega (arith, t .count, chain-few (p .n) (t .vs) start (t .next) (t .chain)) in
+    omega (
+      arith,
+      ap length (t .is),
+      length-append (fileOf form (t .vs)) (partsOf (t .tables)),
+      writes-back form start 0 (t .chain) .1 .end,
+      chain-longest (p .n) .most start 0 (t .chain),
+      parts-length b small (t .tables) each,
+      mul-le-mul nine (le-refl (3 + b)),
+      cap (p .n) (p .d) (s .n-low) (s .n-high) (s .d-high) (s .nd-high),
+    )
+
+pub accepted-length : (plant start : List ℕ) → startChecked plant start ≡ Verdict.Accepted → length start ≤ 270_476
+accepted-length plant start e = started-length plant start (start-checked-exactly plant start .0 e)
+
+pub made-length : (plant chain bytes : List ℕ) → startMade plant chain ≡ good bytes → length bytes ≤ 270_476
+made-length plant chain bytes e = accepted-length plant bytes (start-made-accepted plant chain bytes e)
+
+-- a buffer of so many is long enough for any
+pub start-maker-fits : (plant chain buf : List ℕ) → 270_476 ≤ length buf → startLeft plant chain buf .answer ≡ Written.Refused R.short → ⊥
+start-maker-fits plant chain buf l e = let w = start-maker-ten plant chain buf .0 e in omega (arith, w .2, made-length plant chain (w .0) (w .1))

@@ -1,0 +1,269 @@
+-- What a call on a start file reads (document 02, request 2026-03; readings: nothing of the tables before the one that is called but their lengths): the
+-- chain, the lengths up to that table's own, and of the table, idle, no more than up to the last mode of the tile that is found, running, its header and
+-- the mode at the state's place. On every file that has the same bytes there, and is long enough for that table, the answer is the same: bytes of other
+-- tables, and all that stands behind the tile, do not count. Of every file, kept or not. Relies on page Local within the table, on Agreeing and Reaching.
+-- What a refused call reads is left out, but for one that is refused before any length, and a running one that finds a number at its place.
+use Prim.Native.Nat.{ℕ, zero, suc, _+_, _-_, _≤_, _<_}
+use mathlib.Core.Path.{_≡_, refl, sym, _∙_}
+use mathlib.Core.Bool.{true, false, _&&_}
+use mathlib.Core.Logic.{_⊎_, inl, inr}
+use mathlib.Core.List.{List, _++_}
+use native.Mathlib.Omega.{arith}
+use lib.ListN.{length, getD, set, length-append, length-set}
+use lib.Seq.{getD-set-other}
+use lib.Dec.{eqb}
+use lib.IntN.{ℤ}
+use Rattle.laws.specs.Lists.{tab, all}
+use Rattle.laws.specs.Standing.{stand-within}
+use Rattle.laws.specs.Tests.{never, guard-passed}
+use Rattle.meaning.specs.declared.Answer.{Answer}
+use Rattle.meaning.specs.declared.Found.{Found}
+use Rattle.meaning.specs.declared.Number.{Number}
+use Rattle.meaning.specs.declared.Plant.{Plant}
+use Rattle.meaning.specs.declared.StartState.{StartState}
+use Rattle.meaning.specs.declared.StartAnswer.{StartAnswer}
+use Rattle.meaning.specs.declared.State.{State}
+use Rattle.meaning.specs.declared.Walk.{Walk}
+use Rattle.meaning.specs.Control as C
+use Rattle.meaning.specs.Control.{call, canRun, stateAt, stateCall, find}
+use Rattle.meaning.specs.Files.{read, valuesAt, good}
+use Rattle.meaning.specs.Numbers.{numberAt, bytesOf}
+use Rattle.meaning.specs.Plants.{plantJudged, rootOf, safeOf}
+use Rattle.meaning.specs.Rules.{Rules, holds}
+use Rattle.meaning.specs.Starts as S
+use Rattle.meaning.specs.Starts.{chainForm, above, boxAt, held, boxRules, part, isIdle, startIdle, answerIn, canIndex, startCall, startControlled}
+use Rattle.meaning.specs.Verdicts.{modesAt, header}
+use Rattle.promises.specs.Bytes.{bytes-some}
+use Rattle.promises.specs.Chosen.{Went, went}
+use Rattle.promises.specs.Judged.{judged-sound}
+use Rattle.promises.specs.Laws.{Sizes}
+use Rattle.promises.specs.Layouts.{modes-stand, header-stands, header-read}
+use Rattle.promises.specs.Local.{Unseen, unseen}
+use Rattle.promises.specs.Numbers.{was}
+use Rattle.promises.specs.Modes.{refused-mode}
+use Rattle.promises.specs.PlantRules.{header-size}
+use Rattle.promises.specs.Sound.{Sound}
+use Rattle.promises.specs.Walking.{number-read, walk-went}
+use Rattle.promises.specs.starts.Agreeing.{part-byte, LengthByte, Same, stand-same, number-same, values-same, table-behind, table-same, part-same}
+use Rattle.promises.specs.starts.Chains.{box-sizes}
+use Rattle.promises.specs.starts.Parts.{part-size}
+use Rattle.promises.specs.starts.Places.{table-inside}
+use Rattle.promises.specs.starts.Reaching.{Reaching, boxOn, rulesOn, tableOn, reached, answered-reaching, table-answered}
+
+-- The places that a call reads that comes to the table of box i, which begins at `place`: those of the chain, of the lengths up to the table's own, and of
+-- the table such as T says, counted within it.
+pub data Sees (start : List ℕ) (i next place : ℕ) (T : ℕ → Type 0) : ℕ → Type 0 where
+  of-chain : {k : ℕ} → k < next → Sees start i next place T k
+  of-length : {k : ℕ} → LengthByte start i next k → Sees start i next place T k
+  of-table : (j : ℕ) → T j → Sees start i next place T (place + j)
+
+-- where one byte is another, those that are not it are the same
+others : (s : List ℕ) (k b : ℕ) (P : ℕ → Type 0) → (P k → ⊥) → (j : ℕ) → P j → getD (set s k b) j 0 ≡ getD s j 0
+others s k b P n j h = getD-set-other s k j b 0 (λ (e : j ≡ k). n (rw e at h))
+
+-- ---- the way to the table
+
+module _ {plant start : List ℕ} {st : StartState} {x : List ℤ} (way : Reaching plant start st x) (other : List ℕ) (long : way .place + way .size ≤ length other) (T : ℕ → Type 0)
+    (same : (k : ℕ) → Sees start (boxOn way) (way .next) (way .place) T k → getD other k 0 ≡ getD start k 0) where
+  -- the other file's call comes to a table at the same place
+  way-same : startControlled plant other st x ≡ answerIn (boxOn way) (way .place) (call (rulesOn way) (part other (way .place) (way .size)) (st .state) x)
+  way-same = reached plant other st x (record {
+    p = way .p;
+    judged = way .judged;
+    vs = way .vs;
+    next = way .next;
+    chain = values-same start other (chainForm (way .p .n)) (way .vs) (way .next) (omega (arith, table-behind start other (way .there))) (λ k _ l. same k (of-chain l)) (way .chain);
+    kept = way .kept;
+    index = way .index;
+    inside = way .inside;
+    place = way .place;
+    size = way .size;
+    there = table-same start other (way .there) long (λ k b. same k (of-length b));
+  })
+
+  -- within the table
+  table-bytes : (from to : ℕ) → to ≤ way .size → ((j : ℕ) → from ≤ j → j < to → T j) → Same (tableOn way) (part other (way .place) (way .size)) from to
+  table-bytes from to l in-T k g h =
+      part-byte other (way .place) (way .size) k (omega arith) ∙ same (way .place + k) (of-table k (in-T k g h)) ∙ sym (part-byte start (way .place) (way .size) k (omega arith))
+
+  -- so the answer is the same where the table's is
+  call-same : call (rulesOn way) (part other (way .place) (way .size)) (st .state) x ≡ call (rulesOn way) (tableOn way) (st .state) x
+      → startControlled plant other st x ≡ startControlled plant start st x
+  call-same e = way-same ∙ rw e (sym (reached plant start st x way))
+
+-- ---- idle
+
+-- The call was answered by the tile whose modes stand in the table of the chosen box from `from` up to `end`.
+pub record IdleUnread (plant start : List ℕ) (x : List ℤ) (u : ℕ) (then : StartState) : Type 0 where
+  pub way : Reaching plant start startIdle x
+  pub from : ℕ
+  pub modes : List ℕ
+  pub found : find (rulesOn way) (way .p .d) (tableOn way) 2 (rulesOn way .root) x ≡ Found.Tile from (length modes)
+  pub end : ℕ
+  pub are : modesAt (way .p .modes) (length modes) (tableOn way) from ≡ read modes end
+  -- the same on every file with the same bytes in chain, lengths and table up to there
+  pub same : (other : List ℕ) → way .place + way .size ≤ length other
+      → ((k : ℕ) → Sees start (boxOn way) (way .next) (way .place) (λ j. j < end) k → getD other k 0 ≡ getD start k 0)
+      → startControlled plant other startIdle x ≡ StartAnswer.Mode u then
+
+pub idle-unread : (plant start : List ℕ) (x : List ℤ) (u : ℕ) (then : StartState) → startControlled plant start startIdle x ≡ StartAnswer.Mode u then
+    → IdleUnread plant start x u then
+idle-unread plant start x u then a =
+    let way = answered-reaching plant start startIdle x a in
+    let t = table-answered plant start startIdle x way a in
+    of way (judged-sound plant (way .p) (way .judged)) (went (rulesOn way) (tableOn way) x u (t .0) (t .1))
+  where
+    by-tile : (way : Reaching plant start startIdle x) (from k : ℕ) (z : Unseen (rulesOn way) x (tableOn way) from k)
+        → find (rulesOn way) (way .p .d) (tableOn way) 2 (rulesOn way .root) x ≡ Found.Tile from k → IdleUnread plant start x u then
+    by-tile way from k z found =
+        let count : length (z .modes) ≡ k = modes-stand (way .p .modes) k (tableOn way) from (z .modes) (z .end) (z .are) .count in
+        record {
+          way = way;
+          from = from;
+          modes = z .modes;
+          found = rw count found;
+          end = z .end;
+          are = rw count (z .are);
+          same = λ other long same.
+              call-same way other long (λ j. j < z .end) same
+              (z .same (part other (way .place) (way .size)) (part-same start other (way .place) (way .size) (z .end) (table-inside start (way .there)) long (bytes way (z .end) other same)))
+              ∙ a;
+        }
+      where
+        bytes : (way : Reaching plant start startIdle x) (end : ℕ) (other : List ℕ)
+            → ((k : ℕ) → Sees start (boxOn way) (way .next) (way .place) (λ j. j < end) k → getD other k 0 ≡ getD start k 0) → Same start other (way .place) (way .place + end)
+        bytes way end other same k g h = let e : k ≡ way .place + (k - way .place) = omega arith in rw e (same (way .place + (k - way .place)) (of-table (k - way .place) (omega arith)))
+
+    of : (way : Reaching plant start startIdle x) → Sound (way .p) → Went (rulesOn way) (tableOn way) x → IdleUnread plant start x u then
+    of way sound w =
+        let begin : w .at ≡ 2 = omega (arith, header-stands (way .p .n) (tableOn way) (w .at) (w .head) .end, header-size (way .p) sound) in
+        by-tile way (w .from) (w .k) (unseen (rulesOn way) (box-sizes (way .p) sound (way .vs) (boxOn way)) x (tableOn way) (w .at) (w .from) (w .k) (w .head) (w .found))
+        (rw begin at (w .found))
+
+-- so a byte that it does not read may be any other
+pub idle-byte : {plant start : List ℕ} {x : List ℤ} {u : ℕ} {then : StartState} (w : IdleUnread plant start x u then) (k b : ℕ)
+    → (Sees start (boxOn (w .way)) (w .way .next) (w .way .place) (λ j. j < w .end) k → ⊥) → startControlled plant (set start k b) startIdle x ≡ StartAnswer.Mode u then
+idle-byte {start = start} w k b n =
+    w .same (set start k b) (rw (length-set start k b) (table-inside start (w .way .there)))
+    (others start k b (Sees start (boxOn (w .way)) (w .way .next) (w .way .place) (λ j. j < w .end)) n)
+
+-- ---- running
+
+-- what was read is inside the table
+header-inside : (n : ℕ) (s : List ℕ) (at : ℕ) → header n s ≡ Walk.Next at → at ≤ length s
+header-inside n s at h = stand-within s (bytesOf 1 ++ bytesOf n) 0 at (header-stands n s at h) (omega (arith, length-append (bytesOf 1) (bytesOf n), bytes-some 1))
+
+number-inside : (s : List ℕ) (at v next : ℕ) → numberAt s at ≡ Number.Value v next → next ≤ length s
+number-inside s at v next e = stand-within s (bytesOf v) at next (was v at next s e .1) (bytes-some v)
+
+-- a call on two tables of one length that have the same header and the same number at the state's place
+module _ (r : Rules) (sizes : Sizes r) (s z : List ℕ) (long : length z ≡ length s) (st : State) (x : r .Reading) where
+  run-same : (at v behind : ℕ) → 1 ≤ st .left → header (r .n) s ≡ Walk.Next at → numberAt s (st .place) ≡ Number.Value v behind
+      → Same s z 0 at → Same s z (st .place) behind → call r z st x ≡ call r s st x
+  unfolding C.call
+  run-same at v behind l h n a b =
+      let i = header-inside (r .n) s at h in
+      let j = number-inside s (st .place) v behind n in
+      let hz = header-read (r .n) (sizes .dimensions) z at (stand-same s z (bytesOf 1 ++ bytesOf (r .n)) 0 at (omega arith) a (header-stands (r .n) s at h)) in
+      let nz = number-same s z v (st .place) behind (omega arith) b n in
+      rw (h, hz) (go (st .left) l nz)
+    where
+      go : (left : ℕ) → 1 ≤ left → numberAt z (st .place) ≡ Number.Value v behind → stateCall r z at (st .place) left x ≡ stateCall r s at (st .place) left x
+      go zero l nz = absurd (omega arith)
+      go (suc m) l nz = rw (n, nz, long) refl
+
+-- byte j of a table is one of its header's two, or of the number at a place, `behind` being the place behind that
+abbrev pub HeaderOrMode : ℕ → ℕ → ℕ → Type 0
+HeaderOrMode place behind j = (j < 2) ⊎ ((place ≤ j) × (j < behind))
+
+-- The header was read, a number stands at the state's place, and some mode is left: whatever is answered, no other byte of the table is read.
+pub running-same : (plant start : List ℕ) (st : StartState) (x : List ℤ) (way : Reaching plant start st x) (v behind : ℕ) → 1 ≤ st .state .left
+    → header (way .p .n) (tableOn way) ≡ Walk.Next 2 → numberAt (tableOn way) (st .state .place) ≡ Number.Value v behind
+    → (other : List ℕ) → way .place + way .size ≤ length other
+    → ((k : ℕ) → Sees start (boxOn way) (way .next) (way .place) (HeaderOrMode (st .state .place) behind) k → getD other k 0 ≡ getD start k 0)
+    → startControlled plant other st x ≡ startControlled plant start st x
+running-same plant start st x way v behind l h n other long same =
+    let T = HeaderOrMode (st .state .place) behind in
+    let size = part-size start (way .place) (way .size) (table-inside start (way .there)) in
+    let sizes = box-sizes (way .p) (judged-sound plant (way .p) (way .judged)) (way .vs) (boxOn way) in
+    let e : length (part other (way .place) (way .size)) ≡ length (tableOn way) = omega (arith, size, part-size other (way .place) (way .size) long) in
+    let i = header-inside (way .p .n) (tableOn way) 2 h in
+    let j = number-inside (tableOn way) (st .state .place) v behind n in
+    call-same way other long T same
+    (run-same (rulesOn way) sizes (tableOn way) (part other (way .place) (way .size)) e (st .state) x 2 v behind l h n
+    (table-bytes way other long T same 0 2 (omega arith) (λ k _ g. inl g))
+    (table-bytes way other long T same (st .state .place) behind (omega arith) (λ k g f. inr (g, f))))
+
+-- such is a call that was answered
+record RunWas (r : Rules) (s : List ℕ) (st : State) (u : ℕ) : Type 0 where
+  at : ℕ
+  behind : ℕ
+  head : header (r .n) s ≡ Walk.Next at
+  some : 1 ≤ st .left
+  is : numberAt s (st .place) ≡ Number.Value u behind
+
+run-was : (r : Rules) (s : List ℕ) (st : State) (x : r .Reading) {u : ℕ} {then : State} → isIdle st ≡ false → call r s st x ≡ Answer.Mode u then → RunWas r s st u
+unfolding C.call
+run-was r s st x {u} {then} n e =
+    let w = walk-went (header (r .n) s) Answer.Refused (λ at. stateCall r s at (st .place) (st .left) x) (λ _. refused-mode) e in
+    let k = go (w .0) (st .place) (st .left) n (w .2) in
+    record { at = w .0; behind = k .0; head = w .1; some = k .1; is = k .2 }
+  where
+    go : (at place left : ℕ) → (eqb place 0 && eqb left 0) ≡ false → stateCall r s at place left x ≡ Answer.Mode u then
+        → (behind : ℕ) × (1 ≤ left) × (numberAt s place ≡ Number.Value u behind)
+    go at place zero n e = let a = guard-passed (eqb place 0) _ refused-mode e in never (sym (rw (a .0) at n))
+    go at place (suc m) n e =
+        let a = guard-passed (canRun (r .K) (r .N) s place (suc m)) _ refused-mode e in
+        let b = guard-passed (holds r (r .safe) x) _ refused-mode (a .1) in
+        let v = number-read (numberAt s place) (λ u next. Answer.Mode u (stateAt next m)) refused-mode (b .1) in
+        let q : v .0 ≡ u = cc (v .3) in
+        (v .1, omega arith, rw q at (v .2))
+
+-- a running call that is answered
+pub record RunningUnread (plant start : List ℕ) (st : StartState) (x : List ℤ) (u : ℕ) (then : StartState) : Type 0 where
+  pub way : Reaching plant start st x
+  pub behind : ℕ
+  pub mode : numberAt (tableOn way) (st .state .place) ≡ Number.Value u behind
+  pub same : (other : List ℕ) → way .place + way .size ≤ length other
+      → ((k : ℕ) → Sees start (st .index) (way .next) (way .place) (HeaderOrMode (st .state .place) behind) k → getD other k 0 ≡ getD start k 0)
+      → startControlled plant other st x ≡ StartAnswer.Mode u then
+
+pub running-unread : (plant start : List ℕ) (st : StartState) (x : List ℤ) (u : ℕ) (then : StartState) → isIdle (st .state) ≡ false
+    → startControlled plant start st x ≡ StartAnswer.Mode u then → RunningUnread plant start st x u then
+running-unread plant start st x u then n a =
+    let way = answered-reaching plant start st x a in
+    let t = table-answered plant start st x way a in
+    of way (judged-sound plant (way .p) (way .judged)) (run-was (rulesOn way) (tableOn way) (st .state) x n (t .1))
+  where
+    of : (way : Reaching plant start st x) → Sound (way .p) → RunWas (rulesOn way) (tableOn way) (st .state) u → RunningUnread plant start st x u then
+    of way sound w =
+        let begin : w .at ≡ 2 = omega (arith, header-stands (way .p .n) (tableOn way) (w .at) (w .head) .end, header-size (way .p) sound) in
+        let i : boxOn way ≡ st .index = rw n refl in
+        record {
+          way = way;
+          behind = w .behind;
+          mode = w .is;
+          same = λ other long same. running-same plant start st x way u (w .behind) (w .some) (rw begin at (w .head)) (w .is) other long (rw i same) ∙ a;
+        }
+
+pub running-byte : {plant start : List ℕ} {st : StartState} {x : List ℤ} {u : ℕ} {then : StartState} (w : RunningUnread plant start st x u then) (k b : ℕ)
+    → (Sees start (st .index) (w .way .next) (w .way .place) (HeaderOrMode (st .state .place) (w .behind)) k → ⊥) → startControlled plant (set start k b) st x ≡ StartAnswer.Mode u then
+running-byte {start = start} {st = st} w k b n =
+    w .same (set start k b) (rw (length-set start k b) (table-inside start (w .way .there)))
+    (others start k b (Sees start (st .index) (w .way .next) (w .way .place) (HeaderOrMode (st .state .place) (w .behind))) n)
+
+-- ---- refused before any length is read: 12 for the index, 11 where it is idle
+
+-- such a call reads no more than the chain
+pub early-same : (plant start : List ℕ) (st : StartState) (x : List ℤ) (p : Plant) → plantJudged plant ≡ good p → (vs : List ℤ) (next : ℕ)
+    → valuesAt (chainForm (p .n)) start 0 ≡ read vs next → all (tab (held (p .n) (rootOf p) vs (safeOf p)) (above vs) 0) ≡ true
+    → (canIndex p vs start next (st .index) (st .state) ≡ false) ⊎ ((isIdle (st .state) ≡ true) × (holds (boxRules p vs (above vs)) (boxAt (p .n) (rootOf p) vs (above vs)) x ≡ false))
+    → (other : List ℕ) → next ≤ length other → Same start other 0 next → startControlled plant other st x ≡ startControlled plant start st x
+unfolding S.startControlled
+early-same plant start st x p judged vs next chain kept why other long same =
+    rw (judged, chain, values-same start other (chainForm (p .n)) vs next long same chain, kept) (go why)
+  where
+    go : (canIndex p vs start next (st .index) (st .state) ≡ false) ⊎ ((isIdle (st .state) ≡ true) × (holds (boxRules p vs (above vs)) (boxAt (p .n) (rootOf p) vs (above vs)) x ≡ false))
+        → startCall p vs other next st x ≡ startCall p vs start next st x
+    go (inl e) = rw e refl
+    go (inr e) = rw (e .0, e .1) refl

@@ -1,0 +1,227 @@
+-- What is made of a plant and a chain: the start file whose tables are the defined ones, exactly where plant and chain are good and each box has a table; it is
+-- accepted; else 9 with the first index for which no table at all is accepted. And the maker, lent a buffer, answers 9 and 10 exactly as that and the
+-- buffer's length say. Relies on page Made over the rules of each box, and on page ChainTold: a plant or a chain is never refused by 9 or 10. That the
+-- function that makes does what `startLeft` says is its contract.
+use Prim.Native.Nat.{ℕ, _+_, _≤_, _<_}
+use mathlib.Core.Path.{_≡_, refl, ap, _∙_}
+use mathlib.Core.Bool.{true}
+use mathlib.Core.Logic.{_↔_}
+use mathlib.Core.List.{List, [], _∷_}
+use native.Mathlib.Omega.{arith}
+use native.Mathlib.Nat.{zero-add}
+use lib.IntN.{ℤ}
+use lib.ListN.{length, getD}
+use Rattle.laws.specs.Lists.{tab, all}
+use Rattle.laws.specs.Tests.{never}
+use Rattle.meaning.specs.declared.Plant.{Plant}
+use Rattle.meaning.specs.declared.Refusal.{Refusal}
+use Rattle.meaning.specs.declared.Verdict.{Verdict}
+use Rattle.meaning.specs.declared.Written.{Written}
+use Rattle.meaning.specs.Files.{read, valuesOf, Judged, good, bad}
+use Rattle.meaning.specs.Plants.{plantJudged, rootOf, safeOf}
+use Rattle.meaning.specs.Refusals.{noTable, short}
+use Rattle.meaning.specs.Starts as S
+use Rattle.meaning.specs.Starts.{chainForm, above, held, boxRules, partsOf, startOf, tablesFrom, startBytes, startChecked, startMade, startLeft}
+use Rattle.meaning.specs.Tables.{definedTable}
+use Rattle.meaning.specs.Verdicts.{verdict}
+use Rattle.promises.specs.Buffers.{wrote, left-fits}
+use Rattle.promises.specs.Faults.{plant-told}
+use Rattle.promises.specs.Files.{file-writes, read-in-front}
+use Rattle.promises.specs.Judged.{judged-sound}
+use Rattle.promises.specs.Laws.{Sizes}
+use Rattle.promises.specs.Made.{only-nine, table-accepted, table-nine, nine-answered, ten-answered, length-answered}
+use Rattle.promises.specs.Telling.{told-more}
+use Rattle.promises.specs.starts.Accepted.{start-checked-exactly}
+use Rattle.promises.specs.starts.Before.{plant-keeps, chain-keeps}
+use Rattle.promises.specs.starts.Chains.{chain-few, box-sizes}
+use Rattle.promises.specs.starts.ChainTold.{earlyNumbers, whole-told, held-told}
+use Rattle.promises.specs.starts.Rows.{StartTold, of-plant, of-start, start-more, start-not-told}
+use Rattle.promises.specs.starts.Started.{Started}
+use Rattle.promises.specs.starts.TablesMade.{NoneAt, all-made, each-made, only-nines, first-none, none-first}
+
+-- plant and chain are good: what is made of them is made of these
+pub record Given (plant chain : List ℕ) : Type 0 where
+  pub p : Plant
+  pub judged : plantJudged plant ≡ good p
+  pub vs : List ℤ
+  pub next : ℕ
+  pub values : valuesOf (chainForm (p .n)) chain ≡ read vs next
+  pub kept : all (tab (held (p .n) (rootOf p) vs (safeOf p)) (above vs) 0) ≡ true
+
+-- each box has its defined table
+pub record Defined (plant chain bytes : List ℕ) : Type 0 where
+  pub given : Given plant chain
+  pub tables : List (List ℕ)
+  pub count : length tables ≡ above (given .vs) + 1
+  pub each : (i : ℕ) → i < length tables → definedTable i (boxRules (given .p) (given .vs) i) ≡ good (getD tables i [])
+  pub is : bytes ≡ startOf (given .p .n) (given .vs) tables
+
+-- i is the first index for which no table is accepted
+pub record FirstWithout (plant chain : List ℕ) (i : ℕ) : Type 0 where
+  pub given : Given plant chain
+  pub index : i ≤ above (given .vs)
+  pub none : (t : List ℕ) → verdict (boxRules (given .p) (given .vs) i) t ≡ Verdict.Accepted → ⊥
+  pub before : (j : ℕ) → j < i → (t : List ℕ) × (verdict (boxRules (given .p) (given .vs) j) t ≡ Verdict.Accepted)
+
+-- ---- plant and chain come first
+
+-- the numbers that a chain is refused by, and 9
+abbrev pub madeNumbers : List ℕ
+madeNumbers = 9 ∷ earlyNumbers
+
+bytes-good : (n : ℕ) (vs : List ℤ) (o : Judged (List (List ℕ))) (bytes : List ℕ) → startBytes n vs o ≡ good bytes → (ts : List (List ℕ)) × (o ≡ good ts) × (bytes ≡ startOf n vs ts)
+bytes-good n vs (good ts) bytes e = (ts, refl, cc)
+bytes-good n vs (bad f) bytes e = never cc
+
+bytes-bad : (n : ℕ) (vs : List ℤ) (o : Judged (List (List ℕ))) (f : Refusal) → startBytes n vs o ≡ bad f → o ≡ bad f
+bytes-bad n vs (good ts) f e = never cc
+bytes-bad n vs (bad g) f e = cc
+
+module _ (plant chain : List ℕ) where
+  abbrev tablesOf : Given plant chain → Judged (List (List ℕ))
+  tablesOf g = tablesFrom (boxRules (g .p) (g .vs)) (above (g .vs) + 1) 0
+
+  abbrev bytesFrom : Given plant chain → Judged (List ℕ)
+  bytesFrom g = startBytes (g .p .n) (g .vs) (tablesOf g)
+
+  made-as : (g : Given plant chain) → startMade plant chain ≡ bytesFrom g
+  unfolding S.startMade
+  made-as g = rw (g .judged, g .values, g .kept) refl
+
+  -- what is made is refused early, or made of what was given
+  made-keeps : (P : Judged (List ℕ) → Type 0) → ((e : Refusal) → StartTold plant chain earlyNumbers e → P (bad e)) → ((g : Given plant chain) → P (bytesFrom g))
+      → P (startMade plant chain)
+  unfolding S.startMade
+  made-keeps P early made =
+      plant-keeps P (plantJudged plant) bad _ (λ e q. early e (of-plant q (plant-told plant e q)))
+      (λ p j. chain-keeps P (p .n) (rootOf p) (safeOf p) (valuesOf (chainForm (p .n)) chain) bad _
+      (λ e q. early e (of-start p j (told-more (whole-told (p .n) chain e q) earlyNumbers refl)))
+      (λ vs next q h. early _ (of-start p j (told-more (held-told (p .n) chain (rootOf p) (safeOf p) vs next (file-writes (chainForm (p .n)) chain q .0) h) earlyNumbers refl)))
+      (λ vs next q h. made (record { p = p; judged = j; vs = vs; next = next; values = q; kept = h })))
+
+  was-given : (a : Judged (List ℕ)) → ((e : Refusal) → StartTold plant chain earlyNumbers e → bad e ≡ a → ⊥) → startMade plant chain ≡ a
+      → (g : Given plant chain) × (bytesFrom g ≡ a)
+  was-given a late = made-keeps (λ x. x ≡ a → (g : Given plant chain) × (bytesFrom g ≡ a)) (λ e t q. absurd (late e t q)) (λ g q. (g, q))
+
+  -- ---- made
+
+  pub start-made-exactly : (bytes : List ℕ) → (startMade plant chain ≡ good bytes) ↔ Defined plant chain bytes
+  start-made-exactly bytes = (there, back)
+    where
+      there : startMade plant chain ≡ good bytes → Defined plant chain bytes
+      there e =
+          let w = was-given (good bytes) (λ f _ z. never cc) e in
+          let g = w .0 in
+          let b = bytes-good (g .p .n) (g .vs) (tablesOf g) bytes (w .1) in
+          let h = all-made (boxRules (g .p) (g .vs)) (above (g .vs) + 1) 0 (b .0) (b .1) in
+          record { given = g; tables = b .0; count = h .0; each = λ i l. rw zero-add at (h .1 i l); is = b .2 }
+
+      back : Defined plant chain bytes → startMade plant chain ≡ good bytes
+      back d =
+          let g = d .given in
+          made-as g ∙ rw (each-made (boxRules (g .p) (g .vs)) (above (g .vs) + 1) 0 (d .tables) (d .count, λ i l. rw zero-add (d .each i l)), d .is) refl
+
+  -- and accepted
+  defined-started : (bytes : List ℕ) → Defined plant chain bytes → Started plant bytes
+  defined-started bytes d =
+      let g = d .given in
+      let sound = judged-sound plant (g .p) (g .judged) in
+      record {
+        p = g .p;
+        judged = g .judged;
+        vs = g .vs;
+        next = g .next;
+        chain = rw (d .is) (read-in-front (chainForm (g .p .n)) chain (g .values) (partsOf (d .tables)));
+        kept = g .kept;
+        tables = d .tables;
+        count = d .count;
+        each = λ i l. table-accepted i (boxRules (g .p) (g .vs) i) (box-sizes (g .p) sound (g .vs) i) (getD (d .tables) i []) (d .each i l);
+        is = d .is;
+      }
+
+  pub start-made-accepted : (bytes : List ℕ) → startMade plant chain ≡ good bytes → startChecked plant bytes ≡ Verdict.Accepted
+  start-made-accepted bytes e = start-checked-exactly plant bytes .1 (defined-started bytes (start-made-exactly bytes .0 e))
+
+  -- ---- 9
+
+  module _ (g : Given plant chain) where
+    sized : (i : ℕ) → Sizes (boxRules (g .p) (g .vs) i)
+    sized = box-sizes (g .p) (judged-sound plant (g .p) (g .judged)) (g .vs)
+
+    -- a box has a defined table exactly where some table is accepted
+    some-defined : (i : ℕ) → ((t : List ℕ) × (definedTable i (boxRules (g .p) (g .vs) i) ≡ good t)) ↔ ((t : List ℕ) × (verdict (boxRules (g .p) (g .vs) i) t ≡ Verdict.Accepted))
+    some-defined i = (λ w. (w .0, table-accepted i _ (sized i) (w .0) (w .1)), λ w. go w (definedTable i (boxRules (g .p) (g .vs) i)) refl)
+      where
+        go : (t : List ℕ) × (verdict (boxRules (g .p) (g .vs) i) t ≡ Verdict.Accepted) → (j : Judged (List ℕ)) → definedTable i (boxRules (g .p) (g .vs) i) ≡ j
+            → (t : List ℕ) × (definedTable i (boxRules (g .p) (g .vs) i) ≡ good t)
+        go w (good t) q = (t, q)
+        go w (bad f) q = absurd (table-nine i _ (sized i) .0 (q ∙ ap bad (only-nine i _ f q)) (w .0) (w .1))
+
+  -- 9 exactly where some box has no table at all, with the first such
+  pub start-nine-exactly : (i : ℕ) → (startMade plant chain ≡ bad (noTable i)) ↔ FirstWithout plant chain i
+  start-nine-exactly i = (there, back)
+    where
+      there : startMade plant chain ≡ bad (noTable i) → FirstWithout plant chain i
+      there e =
+          let w = was-given (bad (noTable i)) (λ f t z. start-not-told 9 refl refl t (cc z)) e in
+          let g = w .0 in
+          let h = first-none (boxRules (g .p) (g .vs)) (above (g .vs) + 1) 0 i (bytes-bad (g .p .n) (g .vs) (tablesOf g) (noTable i) (w .1)) in
+          record {
+            given = g;
+            index = omega (arith, h .to);
+            none = table-nine i _ (sized g i) .0 (h .none);
+            before = λ j l. some-defined g j .0 (h .before j (omega arith) l);
+          }
+
+      back : FirstWithout plant chain i → startMade plant chain ≡ bad (noTable i)
+      back f =
+          let g = f .given in
+          let h : NoneAt (boxRules (g .p) (g .vs)) (above (g .vs) + 1) 0 i = record {
+            from = omega arith;
+            to = omega (arith, f .index);
+            none = table-nine i _ (sized g i) .1 (f .none);
+            before = λ j _ l. some-defined g j .1 (f .before j l);
+          } in
+          made-as g ∙ rw (none-first (boxRules (g .p) (g .vs)) (above (g .vs) + 1) 0 i h) refl
+
+  -- what is not made is refused early, or by 9
+  pub start-made-told : (f : Refusal) → startMade plant chain ≡ bad f → StartTold plant chain madeNumbers f
+  start-made-told f =
+      made-keeps (λ x. x ≡ bad f → StartTold plant chain madeNumbers f) (λ e t q. let z : e ≡ f = cc in start-more madeNumbers refl (rw z at t)) none
+    where
+      none : (g : Given plant chain) → bytesFrom g ≡ bad f → StartTold plant chain madeNumbers f
+      none g q =
+          let r = boxRules (g .p) (g .vs) in
+          let e = bytes-bad (g .p .n) (g .vs) (tablesOf g) f q in
+          let w = only-nines r (above (g .vs) + 1) 0 f e in
+          let h = first-none r (above (g .vs) + 1) 0 (w .0) (rw (w .1) at e) in
+          let few = chain-few (g .p .n) (g .vs) chain (g .next) (file-writes (chainForm (g .p .n)) chain (g .values) .0) in
+          rw (w .1) (of-start (g .p) (g .judged) (record { number = refl; place = omega (arith, h .to); step = refl }))
+
+  -- ---- the maker, lent a buffer
+
+  module _ (buf : List ℕ) where
+    -- 9 exactly where plant and chain are good and some box has no table, with the first such
+    pub start-maker-nine : (i : ℕ) → (startLeft plant chain buf .answer ≡ Written.Refused (noTable i)) ↔ FirstWithout plant chain i
+    unfolding S.startLeft
+    start-maker-nine i =
+        let w = nine-answered buf i (startMade plant chain) in
+        let k = start-nine-exactly i in
+        (λ e. k .0 (w .0 e), λ h. w .1 (k .1 h))
+
+    -- 10 exactly where there is a file, and the buffer is shorter
+    pub start-maker-ten : (startLeft plant chain buf .answer ≡ Written.Refused short)
+        ↔ ((bytes : List ℕ) × (startMade plant chain ≡ good bytes) × (length buf < length bytes))
+    unfolding S.startLeft
+    start-maker-ten = ten-answered buf (startMade plant chain) (λ f e. start-not-told 10 refl refl (start-made-told f e))
+
+    -- one that fits is written in front, and the rest of the buffer is as it was
+    pub start-maker-writes : (bytes : List ℕ) → startMade plant chain ≡ good bytes → length bytes ≤ length buf → startLeft plant chain buf ≡ wrote bytes buf
+    unfolding S.startLeft
+    start-maker-writes bytes e l = rw e (left-fits bytes buf l)
+
+    -- a length is answered exactly then, and is the file's
+    pub start-maker-length : (m : ℕ) → (startLeft plant chain buf .answer ≡ Written.Length m)
+        ↔ ((bytes : List ℕ) × (startMade plant chain ≡ good bytes) × (length bytes ≤ length buf) × (m ≡ length bytes))
+    unfolding S.startLeft
+    start-maker-length = length-answered buf (startMade plant chain)
