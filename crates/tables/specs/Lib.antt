@@ -9,3 +9,4 @@ pub mod Limits
 pub mod Search
 pub mod Makes
 pub mod Walks
+pub mod Chains
