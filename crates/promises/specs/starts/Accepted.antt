@@ -29,12 +29,12 @@ use Rattle.meaning.specs.Rules.{Rules}
 use Rattle.meaning.specs.Starts as S
 use Rattle.meaning.specs.Starts.{chainForm, above, held, boxRules, part, partsOf, startOf, tablesAt, startChecked}
 use Rattle.meaning.specs.Verdicts.{tableEnd, verdict}
-use Rattle.promises.specs.Accept.{refused-accepted, accepted-end}
-use Rattle.promises.specs.Files.{writes-back}
-use Rattle.promises.specs.Judged.{judged-sound}
-use Rattle.promises.specs.Numbers.{was}
-use Rattle.promises.specs.TableLengths.{over-box}
-use Rattle.promises.specs.Walking.{walk-went}
+use Rattle.promises.specs.tables.Accept.{refused-accepted, accepted-end}
+use Rattle.promises.specs.files.Files.{writes-back}
+use Rattle.promises.specs.files.Judged.{judged-sound}
+use Rattle.promises.specs.files.Numbers.{was}
+use Rattle.promises.specs.tables.TableLengths.{over-box}
+use Rattle.promises.specs.tables.Walking.{walk-went}
 use Rattle.promises.specs.starts.Before.{plant-went, chain-went}
 use Rattle.promises.specs.starts.Chains.{box-size}
 use Rattle.promises.specs.starts.Parts.{part-size, part-stands, length-read, Short, front, back-stands, parts-alike}

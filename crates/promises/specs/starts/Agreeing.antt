@@ -14,8 +14,8 @@ use Rattle.meaning.specs.declared.Number.{Number}
 use Rattle.meaning.specs.Files.{Form, read, valuesAt}
 use Rattle.meaning.specs.Numbers.{numberAt, bytesOf}
 use Rattle.meaning.specs.Starts.{part}
-use Rattle.promises.specs.Files.{reads-back, writes-back}
-use Rattle.promises.specs.Numbers.{reads, was}
+use Rattle.promises.specs.files.Files.{reads-back, writes-back}
+use Rattle.promises.specs.files.Numbers.{reads, was}
 use Rattle.promises.specs.starts.Parts.{part-size}
 use Rattle.promises.specs.starts.Places.{Length, TableAt, here, behind}
 

@@ -14,7 +14,7 @@ use Rattle.meaning.specs.declared.Verdict.{Verdict}
 use Rattle.meaning.specs.Starts.{above, startIdle, startChecked, startControlled, inBox, startGives, StartRun, StartSamples}
 use Rattle.meaning.specs.Tables.{startsIn, safeIn, mayFollow}
 use Rattle.meaning.specs.Trees.{longest}
-use Rattle.promises.specs.Modes.{isMode}
+use Rattle.promises.specs.tables.Modes.{isMode}
 use Rattle.promises.specs.starts.Accepted.{start-checked-exactly}
 use Rattle.promises.specs.starts.Calls.{tableAt, firstAt}
 use Rattle.promises.specs.starts.Home.{Home, home}

@@ -27,12 +27,12 @@ use Rattle.meaning.specs.Starts.{above, chosen, isIdle, startIdle, answerIn, st
 use Rattle.meaning.specs.Tables.{controlled}
 use Rattle.meaning.specs.Trees.{tableOf}
 use Rattle.meaning.specs.Verdicts.{onNumber, header, verdict}
-use Rattle.promises.specs.Accept.{accepted-exactly}
-use Rattle.promises.specs.Finds.{call-finds}
-use Rattle.promises.specs.Laws.{Sizes, Splits}
-use Rattle.promises.specs.Layouts.{headed, table-header}
-use Rattle.promises.specs.PlantRules.{controlled-as}
-use Rattle.promises.specs.Shapes.{Good}
+use Rattle.promises.specs.tables.Accept.{accepted-exactly}
+use Rattle.promises.specs.tables.Finds.{call-finds}
+use Rattle.promises.specs.tables.Laws.{Sizes, Splits}
+use Rattle.promises.specs.tables.Layouts.{headed, table-header}
+use Rattle.promises.specs.tables.PlantRules.{controlled-as}
+use Rattle.promises.specs.tables.Shapes.{Good}
 use Rattle.promises.specs.starts.Calls.{rulesAt, tableAt, firstAt, holdsAt, running, Chose, chose, outside-last, index-over}
 use Rattle.promises.specs.starts.Chains.{box-sizes, box-splits}
 use Rattle.promises.specs.starts.Reaching.{idle-is}

@@ -13,7 +13,7 @@ use Rattle.meaning.specs.Files.{Read, read, refused, Judged, good, bad}
 use Rattle.meaning.specs.Refusals.{notHeld}
 use Rattle.meaning.specs.Starts.{above, held, onChain}
 use Rattle.meaning.specs.Tables.{onPlant}
-use Rattle.promises.specs.Telling.{guard-keeps}
+use Rattle.promises.specs.files.Telling.{guard-keeps}
 
 module _ {A : Type 0} (P : A → Type 0) where
   pub plant-keeps : (j : Judged Plant) (refuse : Refusal → A) (rest : Plant → A) → ((e : Refusal) → j ≡ bad e → P (refuse e))

@@ -23,7 +23,7 @@ use Rattle.meaning.specs.Refusals.{outside, badState}
 use Rattle.meaning.specs.Rules.{Rules, holds, missed}
 use Rattle.meaning.specs.Starts as S
 use Rattle.meaning.specs.Starts.{above, boxRules, chosen, part, isIdle, startIdle, answerIn, canIndex, startControlled}
-use Rattle.promises.specs.Firsts.{FirstOf, first-exactly}
+use Rattle.promises.specs.files.Firsts.{FirstOf, first-exactly}
 use Rattle.promises.specs.starts.Accepted.{tables-short, tables-stand}
 use Rattle.promises.specs.starts.Places.{TableAt, placeOf, laid}
 use Rattle.promises.specs.starts.Reaching.{boxCalled, reached}

@@ -17,10 +17,10 @@ use Rattle.meaning.specs.Plants.{edgeLimit, from, span, times}
 use Rattle.meaning.specs.Refusals.{notHeld}
 use Rattle.meaning.specs.Starts as S
 use Rattle.meaning.specs.Starts.{chainForm, above, held}
-use Rattle.promises.specs.Faults as F
-use Rattle.promises.specs.Faults.{Tells, ReadTells, values-tell, ended-tells, end-tells, times-tell, counted-tells, span-tells, read-told}
-use Rattle.promises.specs.Firsts.{false-inside}
-use Rattle.promises.specs.Telling.{Telling}
+use Rattle.promises.specs.sheets.Faults as F
+use Rattle.promises.specs.sheets.Faults.{Tells, ReadTells, values-tell, ended-tells, end-tells, times-tell, counted-tells, span-tells, read-told}
+use Rattle.promises.specs.files.Firsts.{false-inside}
+use Rattle.promises.specs.files.Telling.{Telling}
 use Rattle.promises.specs.starts.Chains.{chain-few}
 use Rattle.promises.specs.starts.Rows.{StartTelling, front-told}
 

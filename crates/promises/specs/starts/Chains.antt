@@ -22,15 +22,15 @@ use Rattle.meaning.specs.Rules.{holds}
 use Rattle.meaning.specs.Starts as S
 use Rattle.meaning.specs.Starts.{chainForm, above, chainSide, boxAt, boxBelow, held, boxRules}
 use Rattle.meaning.specs.Tables.{readingOf}
-use Rattle.promises.specs.Boxes.{within-itself, within-trans, within-fits}
-use Rattle.promises.specs.Forms as F
-use Rattle.promises.specs.Forms.{Right, values-right, times-right}
-use Rattle.promises.specs.Framed.{Spans, span-right}
-use Rattle.promises.specs.Headers.{most-of}
-use Rattle.promises.specs.Laws.{Sizes, Splits, Motion}
-use Rattle.promises.specs.PlantMotion.{splits-from, motion-from}
-use Rattle.promises.specs.PlantRules.{sizes-over}
-use Rattle.promises.specs.Sound.{Sound}
+use Rattle.promises.specs.tables.Boxes.{within-itself, within-trans, within-fits}
+use Rattle.promises.specs.files.Forms as F
+use Rattle.promises.specs.files.Forms.{Right, values-right, times-right}
+use Rattle.promises.specs.files.Framed.{Spans, span-right}
+use Rattle.promises.specs.files.Headers.{most-of}
+use Rattle.promises.specs.tables.Laws.{Sizes, Splits, Motion}
+use Rattle.promises.specs.tables.PlantMotion.{splits-from, motion-from}
+use Rattle.promises.specs.tables.PlantRules.{sizes-over}
+use Rattle.promises.specs.files.Sound.{Sound}
 
 -- a side within ± the limit of edges, lo ≤ hi
 abbrev pub Edged : Side → Type 0

@@ -14,10 +14,10 @@ use Rattle.meaning.specs.Runs as U
 use Rattle.meaning.specs.Starts.{isIdle, startIdle, stateIn, answerIn, startControlled, startGives, StartRun, StartSamples}
 use Rattle.meaning.specs.Tables.{rulesOf, controlled, startsIn, mayFollow, gives, TableRun, TableSamples}
 use Rattle.meaning.specs.Trees.{longest}
-use Rattle.promises.specs.Demand.{tree-demand}
-use Rattle.promises.specs.PlantMotion.{splits, motion, returns}
-use Rattle.promises.specs.PlantRules.{sizes, controlled-as}
-use Rattle.promises.specs.Promise.{Promised, promised}
+use Rattle.promises.specs.tables.Demand.{tree-demand}
+use Rattle.promises.specs.tables.PlantMotion.{splits, motion, returns}
+use Rattle.promises.specs.tables.PlantRules.{sizes, controlled-as}
+use Rattle.promises.specs.tables.Promise.{Promised, promised}
 use Rattle.promises.specs.starts.Calls.{rulesAt, tableAt, firstAt, holdsAt, running, Chose}
 use Rattle.promises.specs.starts.Journeys.{box-held, starts-is, nearest}
 use Rattle.promises.specs.starts.Passes.{runs-on}

@@ -21,8 +21,8 @@ use Rattle.meaning.specs.Rules.{holds}
 use Rattle.meaning.specs.Starts.{above, chosen, isIdle, startIdle, stateIn, inBox, startGives}
 use Rattle.meaning.specs.Tables.{startsIn, safeIn, mayFollow}
 use Rattle.meaning.specs.Trees.{longest, tableOf}
-use Rattle.promises.specs.TableTrips.{Gives, table-trips}
-use Rattle.promises.specs.Trips.{Trip, Carried, trip-carried, Repeated, repeated}
+use Rattle.promises.specs.tables.TableTrips.{Gives, table-trips}
+use Rattle.promises.specs.tables.Trips.{Trip, Carried, trip-carried, Repeated, repeated}
 use Rattle.promises.specs.starts.Calls.{rulesAt, tableAt, holdsAt, running, Chose, chose}
 use Rattle.promises.specs.starts.Chains.{held-above, box-sizes, box-splits, box-motion}
 use Rattle.promises.specs.starts.Passes.{Passes, passes-here, passes-behind}

@@ -17,12 +17,12 @@ use Rattle.meaning.specs.Plants.{edgeLimit, from}
 use Rattle.meaning.specs.Refusals as R
 use Rattle.meaning.specs.Starts as S
 use Rattle.meaning.specs.Starts.{chainForm, partsOf, startChecked, startMade, startLeft}
-use Rattle.promises.specs.Files.{writes-back}
-use Rattle.promises.specs.Headers.{most-of}
-use Rattle.promises.specs.Judged.{judged-sound}
-use Rattle.promises.specs.Lengths.{short, Longest, longer, end-longest, field-longest, counted-longest, span-adds, times-adds}
-use Rattle.promises.specs.TableLengths as L
-use Rattle.promises.specs.TableLengths.{most, most-grows, over-most}
+use Rattle.promises.specs.files.Files.{writes-back}
+use Rattle.promises.specs.files.Headers.{most-of}
+use Rattle.promises.specs.files.Judged.{judged-sound}
+use Rattle.promises.specs.files.Lengths.{short, Longest, longer, end-longest, field-longest, counted-longest, span-adds, times-adds}
+use Rattle.promises.specs.tables.TableLengths as L
+use Rattle.promises.specs.tables.TableLengths.{most, most-grows, over-most}
 use Rattle.promises.specs.starts.Accepted.{start-checked-exactly}
 use Rattle.promises.specs.starts.Chains.{chain-few, box-size}
 use Rattle.promises.specs.starts.Maker.{start-made-accepted, start-maker-ten}

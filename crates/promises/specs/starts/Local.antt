@@ -33,17 +33,17 @@ use Rattle.meaning.specs.Rules.{Rules, holds}
 use Rattle.meaning.specs.Starts as S
 use Rattle.meaning.specs.Starts.{chainForm, above, boxAt, held, boxRules, part, isIdle, startIdle, answerIn, canIndex, startCall, startControlled}
 use Rattle.meaning.specs.Verdicts.{modesAt, header}
-use Rattle.promises.specs.Bytes.{bytes-some}
-use Rattle.promises.specs.Chosen.{Went, went}
-use Rattle.promises.specs.Judged.{judged-sound}
-use Rattle.promises.specs.Laws.{Sizes}
-use Rattle.promises.specs.Layouts.{modes-stand, header-stands, header-read}
-use Rattle.promises.specs.Local.{Unseen, unseen}
-use Rattle.promises.specs.Numbers.{was}
-use Rattle.promises.specs.Modes.{refused-mode}
-use Rattle.promises.specs.PlantRules.{header-size}
-use Rattle.promises.specs.Sound.{Sound}
-use Rattle.promises.specs.Walking.{number-read, walk-went}
+use Rattle.promises.specs.files.Bytes.{bytes-some}
+use Rattle.promises.specs.tables.Chosen.{Went, went}
+use Rattle.promises.specs.files.Judged.{judged-sound}
+use Rattle.promises.specs.tables.Laws.{Sizes}
+use Rattle.promises.specs.tables.Layouts.{modes-stand, header-stands, header-read}
+use Rattle.promises.specs.tables.Local.{Unseen, unseen}
+use Rattle.promises.specs.files.Numbers.{was}
+use Rattle.promises.specs.tables.Modes.{refused-mode}
+use Rattle.promises.specs.tables.PlantRules.{header-size}
+use Rattle.promises.specs.files.Sound.{Sound}
+use Rattle.promises.specs.tables.Walking.{number-read, walk-went}
 use Rattle.promises.specs.starts.Agreeing.{part-byte, LengthByte, Same, stand-same, number-same, values-same, table-behind, table-same, part-same}
 use Rattle.promises.specs.starts.Chains.{box-sizes}
 use Rattle.promises.specs.starts.Parts.{part-size}

@@ -24,13 +24,13 @@ use Rattle.meaning.specs.Starts as S
 use Rattle.meaning.specs.Starts.{chainForm, above, held, boxRules, partsOf, startOf, tablesFrom, startBytes, startChecked, startMade, startLeft}
 use Rattle.meaning.specs.Tables.{definedTable}
 use Rattle.meaning.specs.Verdicts.{verdict}
-use Rattle.promises.specs.Buffers.{wrote, left-fits}
-use Rattle.promises.specs.Faults.{plant-told}
-use Rattle.promises.specs.Files.{file-writes, read-in-front}
-use Rattle.promises.specs.Judged.{judged-sound}
-use Rattle.promises.specs.Laws.{Sizes}
-use Rattle.promises.specs.Made.{only-nine, table-accepted, table-nine, nine-answered, ten-answered, length-answered}
-use Rattle.promises.specs.Telling.{told-more}
+use Rattle.promises.specs.files.Buffers.{wrote, left-fits}
+use Rattle.promises.specs.sheets.Faults.{plant-told}
+use Rattle.promises.specs.files.Files.{file-writes, read-in-front}
+use Rattle.promises.specs.files.Judged.{judged-sound}
+use Rattle.promises.specs.tables.Laws.{Sizes}
+use Rattle.promises.specs.tables.Made.{only-nine, table-accepted, table-nine, nine-answered, ten-answered, length-answered}
+use Rattle.promises.specs.files.Telling.{told-more}
 use Rattle.promises.specs.starts.Accepted.{start-checked-exactly}
 use Rattle.promises.specs.starts.Before.{plant-keeps, chain-keeps}
 use Rattle.promises.specs.starts.Chains.{chain-few, box-sizes}

@@ -19,10 +19,10 @@ use Rattle.meaning.specs.Numbers.{numberAt, bytesOf}
 use Rattle.meaning.specs.Refusals.{broken, unfit}
 use Rattle.meaning.specs.Starts as S
 use Rattle.meaning.specs.Starts.{onLength, part, partsOf}
-use Rattle.promises.specs.Numbers.{reads}
-use Rattle.promises.specs.Telling.{guard-keeps}
-use Rattle.promises.specs.Walking.{number-read}
-use Rattle.promises.specs.WalkTold.{number-keeps}
+use Rattle.promises.specs.files.Numbers.{reads}
+use Rattle.promises.specs.files.Telling.{guard-keeps}
+use Rattle.promises.specs.tables.Walking.{number-read}
+use Rattle.promises.specs.tables.WalkTold.{number-keeps}
 
 -- ---- the bytes that a length counts
 

@@ -6,7 +6,7 @@ use mathlib.Core.Path.{_≡_}
 use mathlib.Core.Bool.{Bool, true}
 use native.Mathlib.Omega.{arith}
 use Rattle.meaning.specs.Runs.{Run, sample, Samples, none, next}
-use Rattle.promises.specs.Trips.{Trip, made}
+use Rattle.promises.specs.tables.Trips.{Trip, made}
 
 module _ {State Reading : Type 0} (idle : State) (gives : State → Reading → ℕ → State → Type 0) (starts : Reading → Bool) (follows : ℕ → Reading → Reading → Bool) where
   abbrev Leads : ℕ → State → Reading → State → Reading → Type 0

@@ -14,7 +14,7 @@ use Rattle.meaning.specs.declared.Number.{Number}
 use Rattle.meaning.specs.declared.Refusal.{Refusal}
 use Rattle.meaning.specs.Numbers.{numberAt, bytesOf}
 use Rattle.meaning.specs.Starts.{onLength, part, partsOf, onPart}
-use Rattle.promises.specs.Numbers.{was}
+use Rattle.promises.specs.files.Numbers.{was}
 use Rattle.promises.specs.starts.Parts.{length-read, Short, front}
 
 -- ---- of any file

@@ -24,8 +24,8 @@ use Rattle.meaning.specs.Plants.{plantJudged, rootOf, safeOf}
 use Rattle.meaning.specs.Rules.{Rules, holds}
 use Rattle.meaning.specs.Starts as S
 use Rattle.meaning.specs.Starts.{chainForm, above, boxAt, held, chosen, onStart, boxRules, part, isIdle, stateIn, answerIn, callIn, idleStart, canIndex, startCall, startControlled}
-use Rattle.promises.specs.Judged.{judged-sound}
-use Rattle.promises.specs.Modes.{isMode, call-below}
+use Rattle.promises.specs.files.Judged.{judged-sound}
+use Rattle.promises.specs.tables.Modes.{isMode, call-below}
 use Rattle.promises.specs.starts.Before.{plant-went, chain-went}
 use Rattle.promises.specs.starts.Chains.{box-sizes}
 use Rattle.promises.specs.starts.Places.{TableAt, on-part, part-went}

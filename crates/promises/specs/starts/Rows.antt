@@ -16,8 +16,8 @@ use Rattle.meaning.specs.declared.Refusal.{Refusal}
 use Rattle.meaning.specs.Files.{good, bad}
 use Rattle.meaning.specs.Plants.{plantJudged}
 use Rattle.meaning.specs.Refusals.{refusal, atByte, moved}
-use Rattle.promises.specs.Faults.{plantNumbers}
-use Rattle.promises.specs.Telling.{oneOf, areOf, Place, none, byte, dimension, figure, box, boxAbove, places, PlaceIs, TellingBy, Telling, told-more, not-told}
+use Rattle.promises.specs.sheets.Faults.{plantNumbers}
+use Rattle.promises.specs.files.Telling.{oneOf, areOf, Place, none, byte, dimension, figure, box, boxAbove, places, PlaceIs, TellingBy, Telling, told-more, not-told}
 
 -- the column of places, from number 0 on
 abbrev pub startPlaces : List Place

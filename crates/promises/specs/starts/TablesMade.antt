@@ -15,7 +15,7 @@ use Rattle.meaning.specs.Rules.{Rules}
 use Rattle.meaning.specs.Starts as S
 use Rattle.meaning.specs.Starts.{tableWith, tableBefore, tablesFrom}
 use Rattle.meaning.specs.Tables.{definedTable}
-use Rattle.promises.specs.Made.{only-nine}
+use Rattle.promises.specs.tables.Made.{only-nine}
 
 -- of m boxes from i on, k is the first that has none
 pub record NoneAt (r : ℕ → Rules) (m i k : ℕ) : Type 0 where

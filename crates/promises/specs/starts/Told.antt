@@ -32,13 +32,13 @@ use Rattle.meaning.specs.Starts as S
 use Rattle.meaning.specs.Starts.{chainForm, above, onStart, boxRules, part, tablesAt, startChecked, startMade, startLeft, isIdle, answerIn, onPart, callIn, idleStart, canIndex, startCall, startControlled}
 use Rattle.meaning.specs.Tables.{readingOf, onPlant}
 use Rattle.meaning.specs.Verdicts.{tableEnd}
-use Rattle.promises.specs.Faults.{dimension-in, plant-told}
-use Rattle.promises.specs.Judged.{judged-sound}
-use Rattle.promises.specs.Shows.{Some}
-use Rattle.promises.specs.Sound.{Sound}
-use Rattle.promises.specs.Telling.{oneOf, areOf, Telling, guard-keeps, told-more}
-use Rattle.promises.specs.Told.{checkerNumbers, controllerNumbers, end-tells, AnswerTells, call-tells, fits-size, left-refused, Showing, verdict-shows, written-shows}
-use Rattle.promises.specs.WalkTold.{walk-keeps}
+use Rattle.promises.specs.sheets.Faults.{dimension-in, plant-told}
+use Rattle.promises.specs.files.Judged.{judged-sound}
+use Rattle.promises.specs.paper.Shows.{Some}
+use Rattle.promises.specs.files.Sound.{Sound}
+use Rattle.promises.specs.files.Telling.{oneOf, areOf, Telling, guard-keeps, told-more}
+use Rattle.promises.specs.paper.Told.{checkerNumbers, controllerNumbers, end-tells, AnswerTells, call-tells, fits-size, left-refused, Showing, verdict-shows, written-shows}
+use Rattle.promises.specs.tables.WalkTold.{walk-keeps}
 use Rattle.promises.specs.starts.Before.{plant-keeps, chain-keeps}
 use Rattle.promises.specs.starts.Chains.{boxOf, box-size}
 use Rattle.promises.specs.starts.ChainTold.{earlyNumbers, chain-told, chain-inside, held-told}

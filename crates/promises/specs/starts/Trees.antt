@@ -8,10 +8,10 @@ use native.Mathlib.Decide.{decLt}
 use lib.ListN.{length}
 use Rattle.meaning.specs.Starts.{above}
 use Rattle.meaning.specs.Trees.{Tree, tile, longest, tableOf}
-use Rattle.promises.specs.Accept.{accepted-exactly}
-use Rattle.promises.specs.Judged.{judged-sound}
-use Rattle.promises.specs.Shapes.{Working}
-use Rattle.promises.specs.Sound.{Sound}
+use Rattle.promises.specs.tables.Accept.{accepted-exactly}
+use Rattle.promises.specs.files.Judged.{judged-sound}
+use Rattle.promises.specs.tables.Shapes.{Working}
+use Rattle.promises.specs.files.Sound.{Sound}
 use Rattle.promises.specs.starts.Calls.{rulesAt, tableAt}
 use Rattle.promises.specs.starts.Chains.{Chained, read-chained, box-sizes}
 use Rattle.promises.specs.starts.Started.{Started}

@@ -28,9 +28,9 @@ use Rattle.meaning.specs.Refusals.{notHeld}
 use Rattle.meaning.specs.Starts as S
 use Rattle.meaning.specs.Starts.{chainForm, above, chainSide, boxAt, boxBelow, held, onChain, boxRules}
 use Rattle.meaning.specs.Tables.{tableRules}
-use Rattle.promises.specs.Files.{file-writes}
-use Rattle.promises.specs.Forms as F
-use Rattle.promises.specs.Forms.{Right, values-right, times-right}
+use Rattle.promises.specs.files.Files.{file-writes}
+use Rattle.promises.specs.files.Forms as F
+use Rattle.promises.specs.files.Forms.{Right, values-right, times-right}
 use Rattle.tables.specs.declared.boxes.Bx.{Bx}
 use Rattle.tables.specs.declared.chains.ChainRead.{ChainRead}
 use Rattle.tables.specs.declared.frames.Frame.{Frame}
