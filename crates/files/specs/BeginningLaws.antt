@@ -10,7 +10,7 @@ use Rattle.meaning.specs.declared.Walk.{Walk}
 use Rattle.meaning.specs.declared.Verdict.{Verdict}
 use Rattle.meaning.specs.Files.{end, read, valuesAt}
 use Rattle.meaning.specs.Plants.{edgesOf, bandOf, column, edgesAndBands}
-use Rattle.promises.specs.Bodies.{edge-same, band-same}
+use Rattle.promises.specs.files.Bodies.{edge-same, band-same}
 use Rattle.files.specs.declared.beginnings.Beginning.{Beginning}
 use Rattle.files.specs.declared.beginnings.BeginningRead.{BeginningRead}
 use Rattle.files.specs.Headers.{Headed}

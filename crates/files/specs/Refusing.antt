@@ -18,8 +18,8 @@ use Rattle.meaning.specs.declared.Number.{Number}
 use Rattle.meaning.specs.Numbers.{groupsOf, numberAt, bytesOf}
 use Rattle.meaning.specs.Files.{Form, refused, valuesAt}
 use Rattle.meaning.specs.Plants.{headed}
-use Rattle.promises.specs.Files.{number-back}
-use Rattle.promises.specs.Numbers.{reads}
+use Rattle.promises.specs.files.Files.{number-back}
+use Rattle.promises.specs.files.Numbers.{reads}
 use Rattle.files.specs.declared.headers.Header.{Header}
 use Rattle.files.specs.Fields.{inRange, faultOf}
 use Rattle.files.specs.Headers.{headBytes}

@@ -6,7 +6,7 @@ use lib.IntN.{pos}
 use lib.Ieee.{Float, binary64, toBits}
 use Rattle.meaning.specs.Files.{Form, Taken, taken, none, lowFirst}
 use Rattle.meaning.specs.Sheets.{bitsOf, floating, anyFloat, notBelow, above}
-use Rattle.promises.specs.SheetRooms.{Held}
+use Rattle.promises.specs.sheets.SheetRooms.{Held}
 use Rattle.files.specs.Parts.{Holds, Fails}
 use Rattle.sheets.specs.declared.floats.BitsRead.{BitsRead}
 use Rattle.sheets.specs.declared.floats.Asked.{Asked}

@@ -15,7 +15,7 @@ use Rattle.meaning.specs.Files.{Form}
 use Rattle.meaning.specs.Numbers.{bytesOf}
 use Rattle.meaning.specs.Plants.{counted, from, times}
 use Rattle.meaning.specs.Sheets.{zeroF, bitsOf, floating, notBelow, emitterForm, roomForm, noRoom, emitterValues, exchangeAt, roomValues}
-use Rattle.promises.specs.SheetRooms.{Held, HeldEmitter, HeldRoom, TidyRoom}
+use Rattle.promises.specs.sheets.SheetRooms.{Held, HeldEmitter, HeldRoom, TidyRoom}
 use Rattle.files.specs.Parts.{Holds, Fails}
 use Rattle.sheets.specs.Floats.{floatBytes}
 use Rattle.sheets.specs.declared.rooms.Exchanges.{Exchanges}

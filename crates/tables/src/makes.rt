@@ -23,7 +23,7 @@ ghost use Rattle.laws.specs.Writing.{Put};
 ghost use Rattle.meaning.specs.Plants.{edgeLimit};
 ghost use Rattle.meaning.specs.Tables.{makerLeft};
 ghost use Rattle.meaning.specs.Trees.{tile, layout};
-ghost use Rattle.promises.specs.TableLengths.{most};
+ghost use Rattle.promises.specs.tables.TableLengths.{most};
 ghost use Rattle.tables.specs.Boxes.{boxOf, Small};
 ghost use Rattle.tables.specs.Frames.{rulesIn, FrameSound};
 ghost use Rattle.tables.specs.Limits.{LimitsLaid};

@@ -13,7 +13,7 @@ use Rattle.meaning.specs.Refusals.{unfit}
 use Rattle.meaning.specs.Files.{Form, end, read, refused, valuesAt, good, bad}
 use Rattle.meaning.specs.Boxes.{sidesOf}
 use Rattle.meaning.specs.Plants.{times, row, coefCount, numbersOf, plantOf, related, plantRelated, plantForm, plantJudged, readOf, plantRead}
-use Rattle.promises.specs.Plants.{Tidy, plant-back}
+use Rattle.promises.specs.files.Plants.{Tidy, plant-back}
 use Rattle.files.specs.declared.beginnings.Beginning.{Beginning}
 use Rattle.files.specs.Parts.{Fails, holds-last}
 use Rattle.files.specs.Rows.{RowsRead}

@@ -9,7 +9,7 @@ use Rattle.laws.specs.Lists.{tab}
 use Rattle.laws.specs.Tabs.{tab-step, tab-done}
 use Rattle.meaning.specs.declared.Sheet.{Sheet}
 use Rattle.meaning.specs.Sheets.{oneF, roomAt, exchangeAt, sumFrom, lossSum, coefficient, pushed, hasEmitter, emitters, offset}
-use Rattle.promises.specs.SheetPlants.{emitters-few}
+use Rattle.promises.specs.sheets.SheetPlants.{emitters-few}
 
 -- ---- the sum of losses, j of m exchanges being added
 

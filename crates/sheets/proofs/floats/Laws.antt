@@ -21,8 +21,8 @@ use Rattle.meaning.specs.declared.Refusal.{Refusal}
 use Rattle.meaning.specs.Files.{taken, none, little, lowFirst, floatAt, valuesAt}
 use Rattle.meaning.specs.Refusals.{broken, badFloat}
 use Rattle.meaning.specs.Sheets.{zeroF, floating, anyFloat}
-use Rattle.promises.specs.Floats.{float-was}
-use Rattle.promises.specs.SheetRooms.{float-held, finite-number}
+use Rattle.promises.specs.files.Floats.{float-was}
+use Rattle.promises.specs.sheets.SheetRooms.{float-held, finite-number}
 use Rattle.files.specs.Parts.{behind, Fails, holds-then, holds-fails, fails-then}
 use Rattle.sheets.specs.Floats.{Floated, twoPart, TwoFloated}
 use Rattle.sheets.proofs.wholes.Fields.{exponent, digits, finite-good, finite-bad}

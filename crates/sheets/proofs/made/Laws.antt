@@ -18,8 +18,8 @@ use Rattle.meaning.specs.declared.Sheet.{Sheet}
 use Rattle.meaning.specs.declared.Whole.{Whole}
 use Rattle.meaning.specs.Plants.{entryLimit, offsetLimit, coefCount}
 use Rattle.meaning.specs.Sheets.{wholeOf, coefficient, offset, madeRow, madeModes, nearValue}
-use Rattle.promises.specs.PlantShapes.{numbers-few}
-use Rattle.promises.specs.SheetPlants.{emitters-few}
+use Rattle.promises.specs.files.PlantShapes.{numbers-few}
+use Rattle.promises.specs.sheets.SheetPlants.{emitters-few}
 use Rattle.sheets.specs.declared.made.Entries.{Entries}
 use Rattle.sheets.specs.Sizes.{Sized}
 use Rattle.sheets.specs.Wholes.{firstOut, joined, near, held}

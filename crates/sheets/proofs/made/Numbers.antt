@@ -16,7 +16,7 @@ use Rattle.meaning.specs.declared.Sheet.{Sheet}
 use Rattle.meaning.specs.declared.Whole.{Whole}
 use Rattle.meaning.specs.Plants.{coefCount, edgesOf, bandOf, numbersOf}
 use Rattle.meaning.specs.Sheets.{sheetEdges, madeBand, madeModes, madeNumbers, isNear, nearValue}
-use Rattle.promises.specs.SheetNumbers.{map-values}
+use Rattle.promises.specs.sheets.SheetNumbers.{map-values}
 use Rattle.sheets.specs.Sizes.{Sized}
 use Rattle.sheets.specs.Wholes.{firstOut, joined, held}
 use Rattle.sheets.specs.Bands.{lowEnd, highEnd}

@@ -9,9 +9,9 @@ use Rattle.meaning.specs.Buffers.{left}
 use Rattle.meaning.specs.Files.{good, fileOf, fileJudged}
 use Rattle.meaning.specs.Plants.{plantForm, plantJudged, plantLeft}
 use Rattle.meaning.specs.Sheets.{sheetJudged, madeLeft}
-use Rattle.promises.specs.SheetSound.{Ranges, judged-sound}
-use Rattle.promises.specs.SheetPlants as M
-use Rattle.promises.specs.SheetPlants.{made-left}
+use Rattle.promises.specs.sheets.SheetSound.{Ranges, judged-sound}
+use Rattle.promises.specs.sheets.SheetPlants as M
+use Rattle.promises.specs.sheets.SheetPlants.{made-left}
 use Rattle.sheets.specs.Sizes.{Sized}
 use Rattle.sheets.specs.Made.{heldPlant}
 use Rattle.sheets.proofs.made.Numbers.{made-numbers}

@@ -24,7 +24,7 @@ use Rattle.meaning.specs.Refusals.{broken, unfit}
 use Rattle.meaning.specs.Files.{before}
 use Rattle.meaning.specs.Plants.{from, times}
 use Rattle.meaning.specs.Sheets.{zeroF, bitsOf, floating, anyFloat, notBelow, emitterForm, roomForm, noRoom, emitterValues, roomValues}
-use Rattle.promises.specs.SheetRooms.{Held, HeldRoom, TidyRoom}
+use Rattle.promises.specs.sheets.SheetRooms.{Held, HeldRoom, TidyRoom}
 use Rattle.files.specs.FieldLaws.{taken-right, taken-wrong, not-taken}
 use Rattle.files.specs.Parts.{behind, Fails, holds-then, holds-fails, fails-then, Rows, rows-none, rows-more, rows-fails, rows-all}
 use Rattle.sheets.specs.declared.rooms.EmitterRead.{EmitterRead}

@@ -15,7 +15,7 @@ use Rattle.meaning.specs.Buffers.{refusedWith}
 use Rattle.meaning.specs.Files.{Judged, good, bad, valuesOf}
 use Rattle.meaning.specs.Plants.{plantLeft}
 use Rattle.meaning.specs.Sheets.{sheetForm, madeNumbers, isNear, sheetJudged, sheetReadOf, madeLeft}
-use Rattle.promises.specs.SheetPlants.{made-refused}
+use Rattle.promises.specs.sheets.SheetPlants.{made-refused}
 use Rattle.sheets.specs.declared.made.Made.{Made}
 use Rattle.sheets.specs.Made.{madeOf}
 use Rattle.sheets.specs.Sheets.{unfittedOf, unfitted, thenFitting, fitted}

@@ -17,7 +17,7 @@ use Rattle.meaning.specs.Files.{Form, end, read, refused, valuesAt, good, bad}
 use Rattle.meaning.specs.Boxes.{sidesOf}
 use Rattle.meaning.specs.Plants.{times, related}
 use Rattle.meaning.specs.Sheets.{bitsOf, above, roomForm, sheetForm, sheetOf, sheetValues, sheetReadOf}
-use Rattle.promises.specs.Sheets.{HeldSheet, TidySheet, sheet-back}
+use Rattle.promises.specs.sheets.Sheets.{HeldSheet, TidySheet, sheet-back}
 use Rattle.files.specs.declared.beginnings.Beginning.{Beginning}
 use Rattle.files.specs.Parts.{Fails, holds-then, holds-fails, holds-last}
 use Rattle.files.specs.Beginnings.{beginningForm, headNumbers, headOf, edgesIn, bandsIn, beginningNumbers, byVerdict, relatedIn, relation, Begun}

@@ -16,7 +16,7 @@ use lib.Ieee.Nearest.{div-same}
 use lib.Ieee.Compare.{nan-differs}
 use Rattle.meaning.specs.declared.Whole.{Whole}
 use Rattle.meaning.specs.Sheets.{signedBy, limitedTo, wholeOf}
-use Rattle.promises.specs.Nearest.{signed-size, crossed}
+use Rattle.promises.specs.sheets.Nearest.{signed-size, crossed}
 use Rattle.sheets.proofs.wholes.Fields.{top-is, low-value, field-value}
 
 -- ---- within the limit, or not

@@ -18,7 +18,7 @@ use Rattle.laws.specs.Integers.{zarith, add, abs, apart}
 use Rattle.laws.specs.Lists.{at, tab}
 use Rattle.laws.specs.Tabs.{tab-step, tab-done, tab-snoc, tab-same, at-below, at-stored}
 use Rattle.meaning.specs.Boxes.{Side, side, sideAt, has, fits, covers, lies, long, middle, inFront, pieces, anyLong, children}
-use Rattle.promises.specs.Boxes.{middle-in}
+use Rattle.promises.specs.tables.Boxes.{middle-in}
 use Rattle.tables.specs.Boxes.{Bounded, Small, lower, upper, pieceOf, restOf}
 
 -- ---- boxes by their number

@@ -22,7 +22,7 @@ use Rattle.meaning.specs.Refusals.{broken, badTable}
 use Rattle.meaning.specs.Rules.{Rules, holds}
 use Rattle.meaning.specs.Tables.{readingOf}
 use Rattle.meaning.specs.Verdicts.{modesAt}
-use Rattle.promises.specs.Walking.{lookAmong, among-none, among-here, among-more, among-refused, find-broken, find-deep, find-stuck, find-split, find-over, find-tile}
+use Rattle.promises.specs.tables.Walking.{lookAmong, among-none, among-here, among-more, among-refused, find-broken, find-deep, find-stuck, find-split, find-over, find-tile}
 use Rattle.tables.specs.declared.frames.Frame.{Frame}
 use Rattle.tables.specs.Frames.{rulesIn}
 use Rattle.tables.specs.Modes.{told}

@@ -14,7 +14,7 @@ use Rattle.tables.specs.declared.frames.Counts.{Counts}
 use Rattle.tables.specs.Boxes.{boxOf, Small}
 use Rattle.tables.specs.Images.{RowSound, StepSound}
 use Rattle.tables.specs.Frames.{frameOf, countsOf, edgesOf, frameFrom, FrameSound}
-use Rattle.promises.specs.Sound.{Edges, Sound}
+use Rattle.promises.specs.files.Sound.{Edges, Sound}
 use Rattle.tables.proofs.boxes.Laws.{small-tab}
 
 -- ---- what a sound frame gives

@@ -24,8 +24,8 @@ use Rattle.meaning.specs.Rules.{Rules}
 use Rattle.meaning.specs.Trees.{Tree, Forest, split, tile, more, modesBytes, layout, layouts, tableOf}
 use Rattle.meaning.specs.Defined.{mapSome, andAlso, allOf, splitOf, firstPattern, treeOf, definedTree}
 use Rattle.meaning.specs.Tables.{tableBytes, made, makerLeft}
-use Rattle.promises.specs.Exists.{defined-works}
-use Rattle.promises.specs.TableLengths.{most, table-length}
+use Rattle.promises.specs.tables.Exists.{defined-works}
+use Rattle.promises.specs.tables.TableLengths.{most, table-length}
 use Rattle.files.specs.DraftLaws.{InDraft, in-buffer}
 use Rattle.tables.specs.declared.frames.Frame.{Frame}
 use Rattle.tables.specs.declared.makes.Grown.{Grown}

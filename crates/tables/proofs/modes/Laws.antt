@@ -14,8 +14,8 @@ use Rattle.meaning.specs.Numbers.{numberAt}
 use Rattle.meaning.specs.Files.{read, refused}
 use Rattle.meaning.specs.Trees.{below}
 use Rattle.meaning.specs.Verdicts.{modesAt}
-use Rattle.promises.specs.Walking.{behind, modes-broken, modes-over, modes-more}
-use Rattle.promises.specs.Layouts.{modes-stand}
+use Rattle.promises.specs.tables.Walking.{behind, modes-broken, modes-over, modes-more}
+use Rattle.promises.specs.tables.Layouts.{modes-stand}
 use Rattle.tables.specs.Tiles.{modeAt, patternOf, Pattern}
 
 behind-read : (us : List ℕ) (m : ℕ) → behind us (read [] m) ≡ read us m

@@ -14,7 +14,7 @@ use Rattle.laws.specs.Tests.{never}
 use Rattle.meaning.specs.Boxes.{Side, sideAt, covers, within}
 use Rattle.meaning.specs.Images.{image}
 use Rattle.meaning.specs.Defined.{exactly, shortest}
-use Rattle.promises.specs.Boxes.{within-trans}
+use Rattle.promises.specs.tables.Boxes.{within-trans}
 use Rattle.tables.specs.declared.frames.Frame.{Frame}
 use Rattle.tables.specs.Boxes.{boxOf}
 use Rattle.tables.specs.Frames.{stepIn, rulesIn}

@@ -16,7 +16,7 @@ use Rattle.meaning.specs.Files.{Read}
 use Rattle.meaning.specs.Numbers.{numberAt}
 use Rattle.meaning.specs.Refusals.{broken, badTable}
 use Rattle.meaning.specs.Verdicts.{onRule, onModes, each, modesAt}
-use Rattle.promises.specs.Walking.{each-done, each-more, each-refused, walk-broken, walk-deep, walk-stuck, walk-split, walk-over, walk-tile}
+use Rattle.promises.specs.tables.Walking.{each-done, each-more, each-refused, walk-broken, walk-deep, walk-stuck, walk-split, walk-over, walk-tile}
 use Rattle.tables.specs.declared.frames.Frame.{Frame}
 use Rattle.tables.specs.Frames.{rulesIn}
 use Rattle.tables.specs.Modes.{told}

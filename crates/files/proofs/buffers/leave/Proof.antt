@@ -12,7 +12,7 @@ use Rattle.meaning.specs.declared.Verdict.{Verdict}
 use Rattle.meaning.specs.declared.Written.{Written}
 use Rattle.meaning.specs.Buffers.{Left, refusedWith, left}
 use Rattle.meaning.specs.Files.{good}
-use Rattle.promises.specs.Buffers.{left-short}
+use Rattle.promises.specs.files.Buffers.{left-short}
 use Rattle.files.specs.Beginnings.{byVerdict}
 use Rattle.files.proofs.buffers.leave.Statement.{statement}
 use Rattle.files.proofs.buffers.leave.Tie as tie

@@ -5,7 +5,7 @@ use native.Mathlib.Omega.{arith}
 use Rattle.meaning.specs.Sheets as S
 use Rattle.meaning.specs.declared.Room.{Room}
 use Rattle.meaning.specs.Sheets.{roomAt, hasEmitter}
-use Rattle.promises.specs.SheetPlants.{has-one}
+use Rattle.promises.specs.sheets.SheetPlants.{has-one}
 use Rattle.sheets.proofs.equations.Laws.{none-before, one-more}
 use Rattle.sheets.proofs.equations.emitters.Statement.{statement}
 use Rattle.sheets.proofs.equations.emitters.Tie as tie

@@ -3,7 +3,7 @@ use mathlib.Core.Path.{sym, ap, _∙_, subst}
 use denote.Ref.{now}
 use Rattle.meaning.specs.declared.Refusal.{Refusal}
 use Rattle.meaning.specs.Buffers.{Left, refusedWith}
-use Rattle.promises.specs.SheetPlants.{made-refused}
+use Rattle.promises.specs.sheets.SheetPlants.{made-refused}
 use Rattle.sheets.specs.Sheets.{SizedAs}
 use Rattle.sheets.proofs.sheets.Fitting.{values-refused, unfit-left, fit-left}
 use borrow.Author.Needs.{needs}

@@ -5,8 +5,8 @@ use borrow.Author.Needs.{needs}
 use Rattle.meaning.specs.Files.{good}
 use Rattle.meaning.specs.Plants.{plantJudged}
 use Rattle.meaning.specs.Verdicts.{verdict}
-use Rattle.promises.specs.Judged.{judged-sound}
-use Rattle.promises.specs.PlantRules.{read-good, read-bad, checked-bad, checked-as}
+use Rattle.promises.specs.files.Judged.{judged-sound}
+use Rattle.promises.specs.tables.PlantRules.{read-good, read-bad, checked-bad, checked-as}
 use Rattle.tables.specs.declared.frames.Frame.{Frame}
 use Rattle.tables.specs.Frames.{rulesIn}
 use Rattle.tables.proofs.frames.Laws.{framed-sound}

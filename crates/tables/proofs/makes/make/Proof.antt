@@ -11,9 +11,9 @@ use Rattle.meaning.specs.Buffers.{Left}
 use Rattle.meaning.specs.Files.{good}
 use Rattle.meaning.specs.Plants.{plantJudged}
 use Rattle.meaning.specs.Tables.{makerLeft}
-use Rattle.promises.specs.Judged.{judged-sound}
-use Rattle.promises.specs.PlantRules.{read-good, read-bad}
-use Rattle.promises.specs.TableLengths.{cap, cap-few}
+use Rattle.promises.specs.files.Judged.{judged-sound}
+use Rattle.promises.specs.tables.PlantRules.{read-good, read-bad}
+use Rattle.promises.specs.tables.TableLengths.{cap, cap-few}
 use Rattle.tables.specs.declared.frames.Frame.{Frame}
 use Rattle.tables.specs.Frames.{rulesIn, FrameSound}
 use Rattle.tables.specs.Makes.{definedLeft}

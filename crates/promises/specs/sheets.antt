@@ -1,0 +1,14 @@
+pub mod Faults
+pub mod Nearest
+pub mod SheetFiles
+pub mod SheetFloats
+pub mod SheetLengths
+pub mod SheetNear
+pub mod SheetNumbers
+pub mod SheetPlants
+pub mod SheetRooms
+pub mod SheetShapes
+pub mod SheetSound
+pub mod SheetSteps
+pub mod Sheets
+pub mod Widening

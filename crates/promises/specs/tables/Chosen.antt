@@ -1,0 +1,151 @@
+-- S8 over bytes: on an accepted table an idle call on a reading in R chooses the one tile of the table that holds it, and answers that tile's first
+-- mode; and of every table, accepted or not, an idle call that is answered reads nothing behind the last mode of the tile that it chose.
+-- Relies on pages Finds and Local at document 01's rules.
+use Prim.Native.Nat.{ℕ}
+use mathlib.Core.Path.{_≡_, refl, sym, subst, _∙_}
+use mathlib.Core.Bool.{true}
+use mathlib.Core.List.{List, [], _∷_, append-nil}
+use native.Mathlib.Omega.{arith}
+use lib.ListN.{length, take}
+use lib.IntN.{ℤ}
+use Rattle.laws.specs.Tests.{never, guard-passed}
+use Rattle.meaning.specs.declared.Refusal.{Refusal}
+use Rattle.meaning.specs.declared.Plant.{Plant}
+use Rattle.meaning.specs.declared.State.{State}
+use Rattle.meaning.specs.declared.Answer.{Answer}
+use Rattle.meaning.specs.declared.Walk.{Walk}
+use Rattle.meaning.specs.declared.Found.{Found}
+use Rattle.meaning.specs.Control as C
+use Rattle.meaning.specs.Control.{idle, onFound, find, idleCall, call, stateWith}
+use Rattle.meaning.specs.Files.{Judged, good, bad, read}
+use Rattle.meaning.specs.Plants.{plantJudged, rootOf}
+use Rattle.meaning.specs.Rules.{rule, holds}
+use Rattle.meaning.specs.Tables as T
+use Rattle.meaning.specs.Tables.{rulesOf, onPlant, controlled, startsIn}
+use Rattle.meaning.specs.Trees as Y
+use Rattle.meaning.specs.Trees.{tableOf, Tile, tilesOf, having}
+use Rattle.meaning.specs.Verdicts.{modesAt, header}
+use Rattle.promises.specs.tables.Checked.{Tiled}
+use Rattle.promises.specs.tables.Finds.{nextPlace, firstPlace, endPlace, the, finds, call-finds}
+use Rattle.promises.specs.files.Judged.{judged-sound}
+use Rattle.promises.specs.tables.Layouts.{modes-stand, header-stands, headed, table-header, tile-read}
+use Rattle.promises.specs.tables.Local.{unseen}
+use Rattle.promises.specs.tables.PlantMotion.{splits}
+use Rattle.promises.specs.tables.PlantRules.{sizes, header-size, controlled-as}
+use Rattle.promises.specs.tables.Shapes.{Good}
+use Rattle.promises.specs.tables.Walking.{walk-went}
+
+-- ---- of an accepted table
+
+-- The tile chosen in the table of a tree, the header being two bytes.
+pub record Chosen (plant table : List ℕ) (t : Tiled plant table) (x : List ℤ) : Type 0 where
+  pub the : Tile (rulesOf (t .p))
+  -- of all tiles it alone holds the reading
+  pub only : having (rulesOf (t .p)) x (tilesOf (rulesOf (t .p)) (t .tree) (rootOf (t .p)) 2) ≡ the ∷ []
+  pub holds-it : holds (rulesOf (t .p)) (the .box) x ≡ true
+  -- it is the one found, the first of its modes standing behind their number
+  pub found : find (rulesOf (t .p)) (t .p .d) table 2 (rootOf (t .p)) x ≡ Found.Tile (firstPlace (rulesOf (t .p)) the) (length (the .modes))
+  -- its first mode is answered, and those to come are left, the next of them behind it
+  pub first : ℕ
+  pub later : List ℕ
+  pub modes-are : the .modes ≡ first ∷ later
+  pub answered : controlled plant table idle x ≡ Answer.Mode first (stateWith later (nextPlace (firstPlace (rulesOf (t .p)) the) first))
+  -- and the answer is the same on every table that agrees with this one up to the tile's last mode
+  pub unread : (other : List ℕ) → take (endPlace (rulesOf (t .p)) the) table ≡ take (endPlace (rulesOf (t .p)) the) other
+      → controlled plant other idle x ≡ controlled plant table idle x
+
+-- S8, of a reading in R and a table that is that of a tree
+pub chosen : (plant table : List ℕ) (t : Tiled plant table) (x : List ℤ) → startsIn plant x ≡ true → Chosen plant table t x
+unfolding Y.layout
+chosen plant table t x h =
+    let p = t .p in
+    let r = rulesOf p in
+    let s = judged-sound plant p (t .judged) in
+    let z = sizes p s in
+    let held : holds r (rootOf p) x ≡ true = rw (t .judged) at h in
+    let is = t .is ∙ sym (append-nil (tableOf r (t .tree))) in
+    let f = finds r z (splits p) (Good r (rule r)) (λ b us g. g .shape) table [] (t .tree) is (t .works) x held in
+    let us = f .first ∷ f .later in
+    let w = unseen r z x table (headed (p .n)) (firstPlace r (the r f)) (length us) (table-header r z table [] (t .tree) is) (f .told) in
+    let same : w .end ≡ f .end = cc (tile-read r z us table (f .place) (f .end) (f .known .shape) (f .stand) .1, w .are) in
+    let end : w .end ≡ endPlace r (the r f) = same ∙ f .stand .end in
+    record {
+      the = the r f;
+      only = subst (λ (m : ℕ). having r x (tilesOf r (t .tree) (rootOf p) m) ≡ the r f ∷ []) (header-size p s) (f .only);
+      holds-it = f .holds-it;
+      found = subst (λ (m : ℕ). find r (p .d) table m (rootOf p) x ≡ Found.Tile (firstPlace r (the r f)) (length us)) (header-size p s) (f .told);
+      first = f .first;
+      later = f .later;
+      modes-are = refl;
+      answered = controlled-as plant p (t .judged) table idle x
+          ∙ call-finds r z (splits p) (Good r (rule r)) (λ b us g. g .shape) table [] (t .tree) is (t .works) x held;
+      unread = λ other q.
+          controlled-as plant p (t .judged) other idle x
+          ∙ w .same other (subst (λ (m : ℕ). take m table ≡ take m other) (sym end) q)
+          ∙ sym (controlled-as plant p (t .judged) table idle x);
+    }
+
+-- ---- of every table, accepted or not
+
+-- An idle call was answered so: by the tile whose modes stand from `from` up to `end`, and the same on every table that agrees up to there.
+pub record Unread (plant table : List ℕ) (x : List ℤ) (u : ℕ) (then : State) : Type 0 where
+  pub p : Plant
+  pub judged : plantJudged plant ≡ good p
+  pub from : ℕ
+  pub modes : List ℕ
+  pub found : find (rulesOf p) (p .d) table 2 (rootOf p) x ≡ Found.Tile from (length modes)
+  pub end : ℕ
+  pub are : modesAt (p .modes) (length modes) table from ≡ read modes end
+  pub same : (other : List ℕ) → take end table ≡ take end other → controlled plant other idle x ≡ Answer.Mode u then
+
+refused-mode : {e : Refusal} {u : ℕ} {then : State} → Answer.Refused e ≡ Answer.Mode u then → ⊥
+refused-mode q = never cc
+
+found-tile : (s : List ℕ) (f : Found) (u : ℕ) (then : State) → onFound s f ≡ Answer.Mode u then → (from k : ℕ) × (f ≡ Found.Tile from k)
+found-tile s (Found.Refused e) u then q = absurd (refused-mode q)
+found-tile s (Found.Tile from k) u then q = (from, k, refl)
+
+-- a call that was answered has read the header and found a tile
+record Went (p : Plant) (table : List ℕ) (x : List ℤ) : Type 0 where
+  at : ℕ
+  from : ℕ
+  k : ℕ
+  head : header (p .n) table ≡ Walk.Next at
+  found : find (rulesOf p) (p .d) table at (rootOf p) x ≡ Found.Tile from k
+
+went : (p : Plant) (table : List ℕ) (x : List ℤ) (u : ℕ) (then : State) → call (rulesOf p) table idle x ≡ Answer.Mode u then → Went p table x
+unfolding C.call
+went p table x u then a =
+    let r = rulesOf p in
+    let w = walk-went (header (p .n) table) Answer.Refused (λ at. idleCall r table at 0 x) (λ _. refused-mode) a in
+    let g = guard-passed (holds r (rootOf p) x) (λ _. onFound table (find r (p .d) table (w .0) (rootOf p) x)) refused-mode (w .2) in
+    let f = found-tile table (find r (p .d) table (w .0) (rootOf p) x) u then (g .1) in
+    record { at = w .0; from = f .0; k = f .1; head = w .1; found = f .2 }
+
+pub unread : (plant table : List ℕ) (x : List ℤ) (u : ℕ) (then : State) → controlled plant table idle x ≡ Answer.Mode u then → Unread plant table x u then
+unfolding T.controlled
+unread plant table x u then = go (plantJudged plant) refl
+  where
+    of : (p : Plant) → plantJudged plant ≡ good p → call (rulesOf p) table idle x ≡ Answer.Mode u then → Went p table x → Unread plant table x u then
+    of p e a w =
+        let r = rulesOf p in
+        let s = judged-sound plant p e in
+        let z = unseen r (sizes p s) x table (w .at) (w .from) (w .k) (w .head) (w .found) in
+        let m = modes-stand (p .modes) (w .k) table (w .from) (z .modes) (z .end) (z .are) in
+        let count : length (z .modes) ≡ w .k = m .count in
+        let begin : w .at ≡ 2 = omega (arith, header-stands (p .n) table (w .at) (w .head) .end, header-size p s) in
+        record {
+          p = p;
+          judged = e;
+          from = w .from;
+          modes = z .modes;
+          found = rw count (rw begin at (w .found));
+          end = z .end;
+          are = rw count (z .are);
+          same = λ other q. controlled-as plant p e other idle x ∙ z .same other q ∙ a;
+        }
+
+    go : (j : Judged Plant) → plantJudged plant ≡ j → onPlant j Answer.Refused (λ p. call (rulesOf p) table idle x) ≡ Answer.Mode u then
+        → Unread plant table x u then
+    go (bad e) q a = absurd (refused-mode a)
+    go (good p) q a = of p q a (went p table x u then a)

@@ -1,0 +1,244 @@
+-- The walk and the layout: what is walked over without a refusal is the layout of a tree of sound shape that stands there, and such a layout is
+-- walked over. So of a tile's modes, and of the header. Every judge of a tile is served, and so is the passing of a subtree.
+-- Over any rules; that what stands is read needs numbers that fit five bytes.
+use Prim.Native.Nat.{ℕ, zero, suc, _+_, _^_, _≤_, _<_}
+use mathlib.Core.Path.{_≡_, refl, sym, ap, _∙_}
+use mathlib.Core.List.{List, [], _∷_, _++_, append-assoc}
+use native.Mathlib.Omega.{arith}
+use native.Mathlib.Nat.{zero-add}
+use lib.ListN.{length}
+use lib.Seq.{drop-append-seam}
+use lib.Dec.{ltb, eqb}
+use borrow.Author.Tests.{ltb-true, eqb-true, lt-ltb, eq-eqb}
+use Rattle.laws.specs.Guards.{guard}
+use Rattle.laws.specs.Standing.{Stands, stand-nil, stand-join, stand-front, stand-back}
+use Rattle.laws.specs.Tests.{never, guard-passed}
+use Rattle.meaning.specs.declared.Refusal.{Refusal}
+use Rattle.meaning.specs.declared.Number.{Number}
+use Rattle.meaning.specs.declared.Rule.{Rule}
+use Rattle.meaning.specs.declared.Rule.the-variants.{Works, Leaves, Misses}
+use Rattle.meaning.specs.declared.Walk.{Walk}
+use Rattle.meaning.specs.Refusals.{broken, wrongForm, badTable}
+use Rattle.meaning.specs.Numbers.{numberAt, bytesOf}
+use Rattle.meaning.specs.Files.{Read, read, refused, before}
+use Rattle.meaning.specs.Rules.{Rules}
+use Rattle.meaning.specs.Trees.{Tree, Forest, split, tile, leaf, more, modesBytes, layout, layouts, below, Pattern, tableOf, Over, Overs}
+use Rattle.meaning.specs.Verdicts.{onNumber, onRule, onModes, each, splitAt, modesAt, walk, header}
+use Rattle.promises.specs.files.Numbers.{reads, was}
+use Rattle.promises.specs.tables.Laws.{Sizes}
+use Rattle.promises.specs.tables.Shapes.{Good}
+use Rattle.promises.specs.tables.Walking.{number-read, walk-went, NodeWas, was-split, was-tile, node-was, walk-split, walk-tile}
+
+refused-read : {A : Type 0} {e : Refusal} {a : A} {m : ℕ} → refused e ≡ read a m → ⊥
+refused-read e = never cc
+
+refused-next : {e : Refusal} {m : ℕ} → Walk.Refused e ≡ Walk.Next m → ⊥
+refused-next e = never cc
+
+-- a split's number
+pub split-read : (f : Forest) (s : List ℕ) (at m : ℕ) → Stands s at (bytesOf 0 ++ layouts f) m → numberAt s at ≡ Number.Value 0 (at + length (bytesOf 0))
+split-read f s at m p = reads 0 at (at + length (bytesOf 0)) s (omega arith) (stand-front (bytesOf 0) (layouts f) p)
+
+-- ---- a tile's modes
+
+module _ (N : ℕ) where
+  pub record ModesStand (k : ℕ) (s : List ℕ) (at : ℕ) (us : List ℕ) (m : ℕ) : Type 0 where
+    pub count : length us ≡ k
+    pub modes : below N us
+    pub stand : Stands s at (modesBytes us) m
+
+  pub modes-stand : (k : ℕ) (s : List ℕ) (at : ℕ) (us : List ℕ) (m : ℕ) → modesAt N k s at ≡ read us m → ModesStand k s at us m
+  unfolding modesAt below modesBytes
+  modes-stand zero s at us m e =
+      let p : us ≡ [] = cc in
+      let q : m ≡ at = cc in
+      rw (p, q) (record { count = refl; modes = tt; stand = stand-nil s at })
+  modes-stand (suc k) s at us m e =
+      let v = number-read (numberAt s at) (λ u next. guard (ltb u N) (refused (badTable at)) λ _. before u (modesAt N k s next)) refused-read e in
+      let g = guard-passed (ltb (v .0) N) (λ _. before (v .0) (modesAt N k s (v .1))) refused-read (v .3) in
+      go (v .0) (v .1) (was (v .0) at (v .1) s (v .2) .1) (ltb-true (v .0) N (g .0)) (λ us m q. modes-stand k s (v .1) us m q) (modesAt N k s (v .1)) refl (g .1)
+    where
+      go : (u next : ℕ) → Stands s at (bytesOf u) next → u < N → ((us : List ℕ) (m : ℕ) → modesAt N k s next ≡ read us m → ModesStand k s next us m)
+          → (o : Read (List ℕ)) → modesAt N k s next ≡ o → before u o ≡ read us m → ModesStand (suc k) s at us m
+      go u next p l ih (refused x) q e = absurd (refused-read e)
+      go u next p l ih (read vs y) q e =
+          let a : us ≡ u ∷ vs = cc in
+          let b : m ≡ y = cc in
+          let h = ih vs y q in
+          rw (a, b) (record { count = ap suc (h .count); modes = (l, h .modes); stand = stand-join p (h .stand) })
+
+  -- the first of modes that stand there
+  pub first-read : N ≤ 2 ^ 35 → (u : ℕ) (us s : List ℕ) (at m : ℕ) → below N (u ∷ us) → Stands s at (modesBytes (u ∷ us)) m
+      → numberAt s at ≡ Number.Value u (at + length (bytesOf u))
+  unfolding below modesBytes
+  first-read small u us s at m h p = reads u at (at + length (bytesOf u)) s (omega (arith, h .0)) (stand-front (bytesOf u) (modesBytes us) p)
+
+  pub modes-read : N ≤ 2 ^ 35 → (us s : List ℕ) (at m : ℕ) → below N us → Stands s at (modesBytes us) m → modesAt N (length us) s at ≡ read us m
+  unfolding modesAt below modesBytes
+  modes-read small [] s at m h p = let q : m ≡ at = omega (arith, p .end) in rw q refl
+  modes-read small (u ∷ us) s at m h p =
+      let ih = modes-read small us s (at + length (bytesOf u)) m (h .1) (stand-back (bytesOf u) (modesBytes us) p) in
+      simp (first-read small u us s at m h p, lt-ltb u N (h .0), ih)
+
+-- ---- the header
+
+module _ (n : ℕ) where
+  -- the place behind it
+  abbrev pub headed : ℕ
+  headed = length (bytesOf 1 ++ bytesOf n)
+
+  pub header-stands : (s : List ℕ) (at : ℕ) → header n s ≡ Walk.Next at → Stands s 0 (bytesOf 1 ++ bytesOf n) at
+  unfolding header
+  header-stands s at e =
+      let f = number-read (numberAt s 0) (λ form p. guard (eqb form 1) (Walk.Refused wrongForm) λ _. second p) refused-next e in
+      let form = f .0 in
+      let p = f .1 in
+      let one = guard-passed (eqb form 1) (λ _. second p) refused-next (f .3) in
+      let g = number-read (numberAt s p) (λ m next. guard (eqb m n) (Walk.Refused (badTable p)) λ _. Walk.Next next) refused-next (one .1) in
+      let m = g .0 in
+      let next = g .1 in
+      let same = guard-passed (eqb m n) (λ _. Walk.Next next) refused-next (g .3) in
+      let a : form ≡ 1 = eqb-true form 1 (one .0) in
+      let b : m ≡ n = eqb-true m n (same .0) in
+      let c : next ≡ at = cc (same .1) in
+      stand-join (rw a at (was form 0 p s (f .2) .1)) (rw (b, c) at (was m p next s (g .2) .1))
+    where
+      -- the header's second number, at p
+      second : ℕ → Walk
+      second p = onNumber (numberAt s p) (Walk.Refused (broken p)) λ m next. guard (eqb m n) (Walk.Refused (badTable p)) λ _. Walk.Next next
+
+  pub header-read : n < 2 ^ 35 → (s : List ℕ) (at : ℕ) → Stands s 0 (bytesOf 1 ++ bytesOf n) at → header n s ≡ Walk.Next at
+  unfolding header
+  header-read small s at p =
+      let a = reads 1 0 (0 + length (bytesOf 1)) s (omega arith) (stand-front (bytesOf 1) (bytesOf n) p) in
+      let b = reads n (0 + length (bytesOf 1)) at s small (stand-back (bytesOf 1) (bytesOf n) p) in
+      simp (a, b, eq-eqb n n refl)
+
+-- ---- a tree
+
+module _ (r : Rules) where
+  open Rules r using (Box, children, n, K, N)
+
+  -- a tree over the box, its layout from `at` up to m; a forest over the boxes
+  pub record TreeStands (judge : Box → List ℕ → Rule) (d : ℕ) (s : List ℕ) (at : ℕ) (b : Box) (m : ℕ) : Type 0 where
+    pub tree : Tree
+    pub over : Over r (Good r judge) tree d b
+    pub stand : Stands s at (layout tree) m
+
+  record ForestStands (judge : Box → List ℕ → Rule) (d : ℕ) (s : List ℕ) (at : ℕ) (bs : List Box) (m : ℕ) : Type 0 where
+    forest : Forest
+    over : Overs r (Good r judge) forest d bs
+    stand : Stands s at (layouts forest) m
+
+  module _ (judge : Box → List ℕ → Rule) where
+    tile-stands : (b : Box) (k d : ℕ) (s : List ℕ) (at from m : ℕ) → numberAt s at ≡ Number.Value k from → 1 ≤ k → k ≤ K
+        → onModes (modesAt N k s from) at (judge b) ≡ Walk.Next m → TreeStands judge d s at b m
+    unfolding layout Over
+    tile-stands b k d s at from m q l h e = go (modesAt N k s from) refl e
+      where
+        judged : (us : List ℕ) (y : ℕ) → ModesStand N k s from us y → (o : Rule) → judge b us ≡ o → onRule o at y ≡ Walk.Next m → TreeStands judge d s at b m
+        judged us y w Works p e =
+            let f : m ≡ y = cc in
+            let c : length us ≡ k = w .count in
+            record {
+              tree = tile us;
+              over = record { shape = record { some = omega arith; few = omega arith; modes = w .modes }; works = p };
+              stand = rw (c, f) (stand-join (was k at from s q .1) (w .stand));
+            }
+        judged us y w (Leaves i) p e = absurd (refused-next e)
+        judged us y w (Misses i) p e = absurd (refused-next e)
+
+        go : (o : Read (List ℕ)) → modesAt N k s from ≡ o → onModes o at (judge b) ≡ Walk.Next m → TreeStands judge d s at b m
+        go (read us y) p e = judged us y (modes-stand N k s from us y p) (judge b us) refl e
+        go (refused x) p e = absurd (refused-next e)
+
+    each-stands : (d : ℕ) (s : List ℕ) → ((at : ℕ) (b : Box) (m : ℕ) → walk r judge d s at b ≡ Walk.Next m → TreeStands judge d s at b m)
+        → (bs : List Box) (at m : ℕ) → each (λ p c. walk r judge d s p c) bs at ≡ Walk.Next m → ForestStands judge d s at bs m
+    unfolding each layout Over
+    each-stands d s ih [] at m e = let q : m ≡ at = cc in rw q (record { forest = leaf; over = tt; stand = stand-nil s at })
+    each-stands d s ih (b ∷ bs) at m e =
+        let w = walk-went (walk r judge d s at b) Walk.Refused (λ y. each (λ p c. walk r judge d s p c) bs y) (λ _. refused-next) e in
+        let t = ih at b (w .0) (w .1) in
+        let f = each-stands d s ih bs (w .0) m (w .2) in
+        record { forest = more (t .tree) (f .forest); over = (t .over, f .over); stand = stand-join (t .stand) (f .stand) }
+
+    split-stands : (d : ℕ) (s : List ℕ) (at from : ℕ) (b : Box) (m : ℕ) → numberAt s at ≡ Number.Value 0 from
+        → ((bs : List Box) → each (λ p c. walk r judge d s p c) bs from ≡ Walk.Next m → ForestStands judge d s from bs m)
+        → splitAt (children b) (Walk.Refused (badTable at)) (λ cs. each (λ p c. walk r judge d s p c) cs from) ≡ Walk.Next m → TreeStands judge (suc d) s at b m
+    unfolding layout Over
+    split-stands d s at from b m q ih = go (children b) refl
+      where
+        go : (bs : List Box) → children b ≡ bs → splitAt bs (Walk.Refused (badTable at)) (λ cs. each (λ p c. walk r judge d s p c) cs from) ≡ Walk.Next m
+            → TreeStands judge (suc d) s at b m
+        go [] p e = absurd (refused-next e)
+        go (c ∷ cs) p e =
+            let f = ih (c ∷ cs) e in
+            record {
+              tree = split (f .forest);
+              over = ((λ z. never cc), rw p (f .over));
+              stand = stand-join (was 0 at from s q .1) (f .stand);
+            }
+
+    pub walk-stands : (d : ℕ) (s : List ℕ) (at : ℕ) (b : Box) (m : ℕ) → walk r judge d s at b ≡ Walk.Next m → TreeStands judge d s at b m
+    unfolding walk
+    walk-stands zero s at b m e =
+        go (node-was K s at Walk.Refused (λ _. Walk.Refused (badTable at)) (λ k y. onModes (modesAt N k s y) at (judge b)) (λ _. refused-next) e)
+      where
+        go : NodeWas K s at (λ _. Walk.Refused (badTable at)) (λ k y. onModes (modesAt N k s y) at (judge b)) (Walk.Next m) → TreeStands judge zero s at b m
+        go (was-split y q p) = absurd (refused-next p)
+        go (was-tile k y q l h p) = tile-stands b k zero s at y m q l h p
+    walk-stands (suc d) s at b m e =
+        go (λ p c y f. walk-stands d s p c y f)
+        (node-was K s at Walk.Refused (λ y. splitAt (children b) (Walk.Refused (badTable at)) λ cs. each (λ p c. walk r judge d s p c) cs y)
+        (λ k y. onModes (modesAt N k s y) at (judge b)) (λ _. refused-next) e)
+      where
+        go : ((at : ℕ) (b : Box) (m : ℕ) → walk r judge d s at b ≡ Walk.Next m → TreeStands judge d s at b m)
+            → NodeWas K s at (λ y. splitAt (children b) (Walk.Refused (badTable at)) λ cs. each (λ p c. walk r judge d s p c) cs y)
+            (λ k y. onModes (modesAt N k s y) at (judge b)) (Walk.Next m)
+            → TreeStands judge (suc d) s at b m
+        go ih (was-split y q p) = split-stands d s at y b m q (λ bs f. each-stands d s ih bs y m f) p
+        go ih (was-tile k y q l h p) = tile-stands b k (suc d) s at y m q l h p
+
+  -- a table with any bytes behind it: its header, and its tree
+  pub table-stands : (s rest : List ℕ) (t : Tree) → s ≡ tableOf r t ++ rest
+      → Stands s 0 (bytesOf 1 ++ bytesOf n) (headed n) × Stands s (headed n) (layout t) (length (tableOf r t))
+  table-stands s rest t e =
+      let q = append-assoc (bytesOf 1) (bytesOf n) (layout t) in
+      let p : Stands s 0 ((bytesOf 1 ++ bytesOf n) ++ layout t) (length (tableOf r t)) =
+      rw (q, e) (record { end = omega arith; bytes = ap (λ (l : List ℕ). tableOf r t ++ l) (sym (drop-append-seam (tableOf r t) rest)) }) in
+      (rw zero-add at (stand-front (bytesOf 1 ++ bytesOf n) (layout t) p), rw zero-add at (stand-back (bytesOf 1 ++ bytesOf n) (layout t) p))
+
+  module _ (sizes : Sizes r) where
+    pub table-header : (s rest : List ℕ) (t : Tree) → s ≡ tableOf r t ++ rest → header n s ≡ Walk.Next (headed n)
+    table-header s rest t e = header-read n (sizes .dimensions) s (headed n) (table-stands s rest t e .0)
+
+    -- a tile's number, and its modes behind it
+    pub tile-read : (us s : List ℕ) (at m : ℕ) → Pattern K N us → Stands s at (bytesOf (length us) ++ modesBytes us) m
+        → (numberAt s at ≡ Number.Value (length us) (at + length (bytesOf (length us)))) × (modesAt N (length us) s (at + length (bytesOf (length us))) ≡ read us m)
+    tile-read us s at m g p = (
+      reads (length us) at (at + length (bytesOf (length us))) s (omega (arith, g .few, sizes .nodes)) (stand-front (bytesOf (length us)) (modesBytes us) p),
+      modes-read N (sizes .modes) us s (at + length (bytesOf (length us))) m (g .modes) (stand-back (bytesOf (length us)) (modesBytes us) p),
+    )
+
+    module _ (judge : Box → List ℕ → Rule) where
+      mutual
+        unfolding layout Over each
+
+        pub walk-reads : (t : Tree) (d : ℕ) (s : List ℕ) (at : ℕ) (b : Box) (m : ℕ) → Over r (Good r judge) t d b → Stands s at (layout t) m
+            → walk r judge d s at b ≡ Walk.Next m
+        walk-reads (tile us) d s at b m o p =
+            let q = tile-read us s at m (o .shape) p in
+            walk-tile r judge d s at b (length us) (at + length (bytesOf (length us))) (q .0) (o .shape .some) (o .shape .few) ∙ rw (q .1) (rw (o .works) refl)
+        walk-reads (split f) zero s at b m o p = absurd o
+        walk-reads (split f) (suc d) s at b m o p =
+            walk-split r judge (suc d) s at b (at + length (bytesOf 0)) d (split-read f s at m p) refl (o .0)
+            ∙ each-reads f d s (at + length (bytesOf 0)) (children b) m (o .1) (stand-back (bytesOf 0) (layouts f) p)
+
+        each-reads : (f : Forest) (d : ℕ) (s : List ℕ) (at : ℕ) (bs : List Box) (m : ℕ) → Overs r (Good r judge) f d bs → Stands s at (layouts f) m
+            → each (λ p c. walk r judge d s p c) bs at ≡ Walk.Next m
+        each-reads leaf d s at [] m o p = let q : m ≡ at = omega (arith, p .end) in rw q refl
+        each-reads leaf d s at (b ∷ bs) m o p = absurd o
+        each-reads (more t f) d s at [] m o p = absurd o
+        each-reads (more t f) d s at (b ∷ bs) m o p =
+            rw (walk-reads t d s at b (at + length (layout t)) (o .0) (stand-front (layout t) (layouts f) p))
+            (each-reads f d s (at + length (layout t)) bs m (o .1) (stand-back (layout t) (layouts f) p))
