@@ -27,7 +27,7 @@ use lib.ListN.{replicate}
 use lib.IntN.{pos, negℤ}
 use Rattle.meaning.specs.declared.Number.{Number}
 use Rattle.meaning.specs.declared.Signed.{Signed}
-use Rattle.meaning.specs.declared.Rule.{Rule}
+use Rattle.meaning.specs.declared.Tried.{Tried}
 use Rattle.meaning.specs.declared.Verdict.{Verdict}
 use Rattle.meaning.specs.declared.Written.{Written}
 use Rattle.meaning.specs.declared.Answer.{Answer}
@@ -249,9 +249,9 @@ impl Page {
     fn rule(&mut self, fields: &[Field], of: &Box, pattern: &[u8]) {
         let plant = read_plant(&file(fields)).expect("a plant");
         let right = match tile_rule(&plant, of, pattern, 0) {
-            Ok(()) => "Rule.Works".into(),
-            Err(refusal) if refusal.number == 7 => format!("Rule.Leaves {}", refusal.step),
-            Err(refusal) => format!("Rule.Misses {}", refusal.step),
+            Ok(()) => "Tried.Works".into(),
+            Err(refusal) if refusal.number == 7 => format!("Tried.Leaves {}", refusal.step),
+            Err(refusal) => format!("Tried.Misses {}", refusal.step),
         };
         let modes = list(pattern, |mode| mode.to_string());
         self.equation(&format!("rule (rulesOf (plantOf ({}))) ({}) ({modes})", wholes(&field_values(fields)), boxed(of)), &right);

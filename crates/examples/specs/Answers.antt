@@ -7,7 +7,7 @@ use lib.ListN.{replicate}
 use lib.IntN.{pos, negℤ}
 use Rattle.meaning.specs.declared.Number.{Number}
 use Rattle.meaning.specs.declared.Signed.{Signed}
-use Rattle.meaning.specs.declared.Rule.{Rule}
+use Rattle.meaning.specs.declared.Tried.{Tried}
 use Rattle.meaning.specs.declared.Verdict.{Verdict}
 use Rattle.meaning.specs.declared.Written.{Written}
 use Rattle.meaning.specs.declared.Answer.{Answer}
@@ -343,19 +343,19 @@ answer-78 : image (stepOf (plantOf (pos 1 ∷ pos 3 ∷ pos 3 ∷ pos 8 ∷ pos 
 unfolding computing
 answer-78 = refl
 
-answer-79 : rule (rulesOf (plantOf (pos 1 ∷ pos 2 ∷ pos 2 ∷ pos 4 ∷ pos 3 ∷ pos 2 ∷ pos 0 ∷ pos 9 ∷ negℤ (pos 5) ∷ pos 14 ∷ pos 10 ∷ pos 19 ∷ pos 5 ∷ pos 24 ∷ negℤ (pos 2) ∷ pos 2 ∷ negℤ (pos 3) ∷ pos 3 ∷ pos 2 ∷ pos 0 ∷ pos 9 ∷ pos 0 ∷ pos 2 ∷ pos 29 ∷ pos 3 ∷ negℤ (pos 1) ∷ pos 15 ∷ pos 1 ∷ pos 2 ∷ pos 23 ∷ []))) (side (pos 0) (pos 9) ∷ side (pos 10) (pos 19) ∷ []) (0 ∷ []) ≡ Rule.Works
+answer-79 : rule (rulesOf (plantOf (pos 1 ∷ pos 2 ∷ pos 2 ∷ pos 4 ∷ pos 3 ∷ pos 2 ∷ pos 0 ∷ pos 9 ∷ negℤ (pos 5) ∷ pos 14 ∷ pos 10 ∷ pos 19 ∷ pos 5 ∷ pos 24 ∷ negℤ (pos 2) ∷ pos 2 ∷ negℤ (pos 3) ∷ pos 3 ∷ pos 2 ∷ pos 0 ∷ pos 9 ∷ pos 0 ∷ pos 2 ∷ pos 29 ∷ pos 3 ∷ negℤ (pos 1) ∷ pos 15 ∷ pos 1 ∷ pos 2 ∷ pos 23 ∷ []))) (side (pos 0) (pos 9) ∷ side (pos 10) (pos 19) ∷ []) (0 ∷ []) ≡ Tried.Works
 unfolding computing
 answer-79 = refl
 
-answer-80 : rule (rulesOf (plantOf (pos 1 ∷ pos 2 ∷ pos 2 ∷ pos 4 ∷ pos 3 ∷ pos 2 ∷ pos 0 ∷ pos 9 ∷ negℤ (pos 5) ∷ pos 14 ∷ pos 10 ∷ pos 19 ∷ pos 5 ∷ pos 24 ∷ negℤ (pos 2) ∷ pos 2 ∷ negℤ (pos 3) ∷ pos 3 ∷ pos 2 ∷ pos 0 ∷ pos 9 ∷ pos 0 ∷ pos 2 ∷ pos 29 ∷ pos 3 ∷ negℤ (pos 1) ∷ pos 15 ∷ pos 1 ∷ pos 2 ∷ pos 23 ∷ []))) (side (pos 0) (pos 4) ∷ side (pos 10) (pos 14) ∷ []) (1 ∷ 0 ∷ []) ≡ Rule.Works
+answer-80 : rule (rulesOf (plantOf (pos 1 ∷ pos 2 ∷ pos 2 ∷ pos 4 ∷ pos 3 ∷ pos 2 ∷ pos 0 ∷ pos 9 ∷ negℤ (pos 5) ∷ pos 14 ∷ pos 10 ∷ pos 19 ∷ pos 5 ∷ pos 24 ∷ negℤ (pos 2) ∷ pos 2 ∷ negℤ (pos 3) ∷ pos 3 ∷ pos 2 ∷ pos 0 ∷ pos 9 ∷ pos 0 ∷ pos 2 ∷ pos 29 ∷ pos 3 ∷ negℤ (pos 1) ∷ pos 15 ∷ pos 1 ∷ pos 2 ∷ pos 23 ∷ []))) (side (pos 0) (pos 4) ∷ side (pos 10) (pos 14) ∷ []) (1 ∷ 0 ∷ []) ≡ Tried.Works
 unfolding computing
 answer-80 = refl
 
-answer-81 : rule (rulesOf (plantOf (pos 1 ∷ pos 2 ∷ pos 2 ∷ pos 4 ∷ pos 3 ∷ pos 2 ∷ pos 0 ∷ pos 9 ∷ negℤ (pos 5) ∷ pos 14 ∷ pos 10 ∷ pos 19 ∷ pos 5 ∷ pos 24 ∷ negℤ (pos 2) ∷ pos 2 ∷ negℤ (pos 3) ∷ pos 3 ∷ pos 2 ∷ pos 0 ∷ pos 9 ∷ pos 0 ∷ pos 2 ∷ pos 29 ∷ pos 3 ∷ negℤ (pos 1) ∷ pos 15 ∷ pos 1 ∷ pos 2 ∷ pos 23 ∷ []))) (side (negℤ (pos 5)) (pos 14) ∷ side (pos 5) (pos 24) ∷ []) (1 ∷ 1 ∷ 1 ∷ []) ≡ Rule.Leaves 1
+answer-81 : rule (rulesOf (plantOf (pos 1 ∷ pos 2 ∷ pos 2 ∷ pos 4 ∷ pos 3 ∷ pos 2 ∷ pos 0 ∷ pos 9 ∷ negℤ (pos 5) ∷ pos 14 ∷ pos 10 ∷ pos 19 ∷ pos 5 ∷ pos 24 ∷ negℤ (pos 2) ∷ pos 2 ∷ negℤ (pos 3) ∷ pos 3 ∷ pos 2 ∷ pos 0 ∷ pos 9 ∷ pos 0 ∷ pos 2 ∷ pos 29 ∷ pos 3 ∷ negℤ (pos 1) ∷ pos 15 ∷ pos 1 ∷ pos 2 ∷ pos 23 ∷ []))) (side (negℤ (pos 5)) (pos 14) ∷ side (pos 5) (pos 24) ∷ []) (1 ∷ 1 ∷ 1 ∷ []) ≡ Tried.Leaves 1
 unfolding computing
 answer-81 = refl
 
-answer-82 : rule (rulesOf (plantOf (pos 1 ∷ pos 3 ∷ pos 3 ∷ pos 8 ∷ pos 2 ∷ pos 1 ∷ negℤ (pos 12) ∷ pos 11 ∷ negℤ (pos 30) ∷ pos 25 ∷ negℤ (pos 7) ∷ negℤ (pos 7) ∷ negℤ (pos 20) ∷ pos 6 ∷ pos 3 ∷ pos 18 ∷ negℤ (pos 9) ∷ pos 40 ∷ negℤ (pos 4) ∷ pos 4 ∷ negℤ (pos 3) ∷ pos 4 ∷ negℤ (pos 5) ∷ pos 2 ∷ pos 5 ∷ pos 1 ∷ pos 0 ∷ negℤ (pos 3) ∷ pos 1 ∷ pos 2 ∷ negℤ (pos 1) ∷ negℤ (pos 40) ∷ pos 0 ∷ negℤ (pos 2) ∷ pos 4 ∷ pos 38 ∷ pos 4 ∷ negℤ (pos 1) ∷ pos 1 ∷ pos 9 ∷ pos 0 ∷ pos 3 ∷ pos 1 ∷ negℤ (pos 33) ∷ pos 1 ∷ pos 1 ∷ pos 3 ∷ pos 20 ∷ pos 3 ∷ pos 0 ∷ negℤ (pos 2) ∷ negℤ (pos 11) ∷ pos 1 ∷ pos 1 ∷ pos 2 ∷ negℤ (pos 60) ∷ negℤ (pos 1) ∷ pos 0 ∷ pos 5 ∷ pos 41 ∷ []))) (side (negℤ (pos 12)) (pos 11) ∷ side (negℤ (pos 7)) (negℤ (pos 7)) ∷ side (pos 3) (pos 18) ∷ []) (2 ∷ 0 ∷ []) ≡ Rule.Misses 2
+answer-82 : rule (rulesOf (plantOf (pos 1 ∷ pos 3 ∷ pos 3 ∷ pos 8 ∷ pos 2 ∷ pos 1 ∷ negℤ (pos 12) ∷ pos 11 ∷ negℤ (pos 30) ∷ pos 25 ∷ negℤ (pos 7) ∷ negℤ (pos 7) ∷ negℤ (pos 20) ∷ pos 6 ∷ pos 3 ∷ pos 18 ∷ negℤ (pos 9) ∷ pos 40 ∷ negℤ (pos 4) ∷ pos 4 ∷ negℤ (pos 3) ∷ pos 4 ∷ negℤ (pos 5) ∷ pos 2 ∷ pos 5 ∷ pos 1 ∷ pos 0 ∷ negℤ (pos 3) ∷ pos 1 ∷ pos 2 ∷ negℤ (pos 1) ∷ negℤ (pos 40) ∷ pos 0 ∷ negℤ (pos 2) ∷ pos 4 ∷ pos 38 ∷ pos 4 ∷ negℤ (pos 1) ∷ pos 1 ∷ pos 9 ∷ pos 0 ∷ pos 3 ∷ pos 1 ∷ negℤ (pos 33) ∷ pos 1 ∷ pos 1 ∷ pos 3 ∷ pos 20 ∷ pos 3 ∷ pos 0 ∷ negℤ (pos 2) ∷ negℤ (pos 11) ∷ pos 1 ∷ pos 1 ∷ pos 2 ∷ negℤ (pos 60) ∷ negℤ (pos 1) ∷ pos 0 ∷ pos 5 ∷ pos 41 ∷ []))) (side (negℤ (pos 12)) (pos 11) ∷ side (negℤ (pos 7)) (negℤ (pos 7)) ∷ side (pos 3) (pos 18) ∷ []) (2 ∷ 0 ∷ []) ≡ Tried.Misses 2
 unfolding computing
 answer-82 = refl
 

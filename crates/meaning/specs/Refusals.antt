@@ -8,7 +8,7 @@ use lib.IntN.{ℤ, pos}
 use Rattle.meaning.specs.declared.Refusal.{Refusal}
 use Rattle.meaning.specs.declared.Number.{Number}
 use Rattle.meaning.specs.declared.Signed.{Signed}
-use Rattle.meaning.specs.declared.Rule.{Rule}
+use Rattle.meaning.specs.declared.Tried.{Tried}
 use Rattle.meaning.specs.declared.Walk.{Walk}
 use Rattle.meaning.specs.declared.Found.{Found}
 use Rattle.meaning.specs.declared.Whole.{Whole}
@@ -113,10 +113,10 @@ signedShown at (Signed.Value v next) = done (v ∷ pos next ∷ [])
 signedShown at Signed.Broken = told (broken at) []
 
 -- a tile's pattern, the tile's first byte being at a place
-abbrev pub ruleShown : ℕ → Rule → Shown
-ruleShown at Rule.Works = done []
-ruleShown at (Rule.Leaves i) = told (leaves at i) []
-ruleShown at (Rule.Misses i) = told (misses at i) []
+abbrev pub triedShown : ℕ → Tried → Shown
+triedShown at Tried.Works = done []
+triedShown at (Tried.Leaves i) = told (leaves at i) []
+triedShown at (Tried.Misses i) = told (misses at i) []
 
 -- the place behind what was walked over; the place of a tile's first mode and how many modes it has
 abbrev pub walkShown : Walk → Shown

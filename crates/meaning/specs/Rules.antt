@@ -4,8 +4,8 @@ use Prim.Native.Nat.{ℕ, suc}
 use mathlib.Core.Bool.{Bool, true, false}
 use mathlib.Core.List.{List, [], _∷_}
 use Rattle.laws.specs.Lists.{all, firstFalse}
-use Rattle.meaning.specs.declared.Rule.{Rule}
-use Rattle.meaning.specs.declared.Rule.the-variants.{Works, Leaves, Misses}
+use Rattle.meaning.specs.declared.Tried.{Tried}
+use Rattle.meaning.specs.declared.Tried.the-variants.{Works, Leaves, Misses}
 
 pub record Rules : Type 1 where
   pub Box : Type 0
@@ -32,11 +32,11 @@ pub record Rules : Type 1 where
   -- whether a reading may follow another in a mode
   pub follows : ℕ → Reading → Reading → Bool
 
-abbrev pub onGoal : Bool → ℕ → Rule
+abbrev pub onGoal : Bool → ℕ → Tried
 onGoal true i = Works
 onGoal false i = Misses i
 
-abbrev pub onSafe : Bool → ℕ → (ℕ → Rule) → Rule
+abbrev pub onSafe : Bool → ℕ → (ℕ → Tried) → Tried
 onSafe true i rest = rest (suc i)
 onSafe false i rest = Leaves (suc i)
 
@@ -45,11 +45,11 @@ module _ (r : Rules) where
 
   -- Tile rule: a pattern works for a box when each successive image lies in S and the last lies in R. i steps are done;
   -- a step is told from 1 on, and leaving S comes before missing R.
-  unfoldable pub ruleFrom : ℕ → Kept → List ℕ → Rule
+  unfoldable pub ruleFrom : ℕ → Kept → List ℕ → Tried
   ruleFrom i b [] = onGoal (within (kept b) goal) i
   ruleFrom i b (u ∷ us) = let c = image u b in onSafe (within (kept c) safe) i λ m. ruleFrom m c us
 
-  abbrev pub rule : Box → List ℕ → Rule
+  abbrev pub rule : Box → List ℕ → Tried
   rule b us = ruleFrom 0 (begin b) us
 
   -- whether a box holds a reading, and the first dimension, from 0, in which it does not

@@ -8,8 +8,8 @@ use lib.Dec.{ltb, leb, eqb}
 use Rattle.laws.specs.Guards.{guard}
 use Rattle.meaning.specs.declared.Refusal.{Refusal}
 use Rattle.meaning.specs.declared.Number.{Number}
-use Rattle.meaning.specs.declared.Rule.{Rule}
-use Rattle.meaning.specs.declared.Rule.the-variants.{Works, Leaves, Misses}
+use Rattle.meaning.specs.declared.Tried.{Tried}
+use Rattle.meaning.specs.declared.Tried.the-variants.{Works, Leaves, Misses}
 use Rattle.meaning.specs.declared.Walk.{Walk}
 use Rattle.meaning.specs.declared.Verdict.{Verdict}
 use Rattle.meaning.specs.Refusals.{broken, wrongForm, badTable, leaves, misses}
@@ -26,15 +26,15 @@ onWalk (Walk.Refused e) refuse rest = refuse e
 onWalk (Walk.Next at) refuse rest = rest at
 
 -- a tile's judge has spoken
-abbrev pub onRule : Rule → ℕ → ℕ → Walk
-onRule Works at next = Walk.Next next
-onRule (Leaves i) at next = Walk.Refused (leaves at i)
-onRule (Misses i) at next = Walk.Refused (misses at i)
+abbrev pub onTried : Tried → ℕ → ℕ → Walk
+onTried Works at next = Walk.Next next
+onTried (Leaves i) at next = Walk.Refused (leaves at i)
+onTried (Misses i) at next = Walk.Refused (misses at i)
 
 -- a tile's modes were read
-abbrev pub onModes : Read (List ℕ) → ℕ → (List ℕ → Rule) → Walk
+abbrev pub onModes : Read (List ℕ) → ℕ → (List ℕ → Tried) → Walk
 onModes (refused e) at judge = Walk.Refused e
-onModes (read us next) at judge = onRule (judge us) at next
+onModes (read us next) at judge = onTried (judge us) at next
 
 -- children one after another
 unfoldable pub each : {B : Type 0} → (ℕ → B → Walk) → List B → ℕ → Walk
@@ -78,7 +78,7 @@ module _ (r : Rules) where
   open Rules r using (Box, children, root, n, D, K, N)
 
   -- the tree at `at`, over a box with depth d left
-  unfoldable pub walk : (Box → List ℕ → Rule) → ℕ → List ℕ → ℕ → Box → Walk
+  unfoldable pub walk : (Box → List ℕ → Tried) → ℕ → List ℕ → ℕ → Box → Walk
   walk judge zero s at b = nodeAt K s at Walk.Refused
       (λ next. Walk.Refused (badTable at))
       (λ k next. onModes (modesAt N k s next) at (judge b))

@@ -57,7 +57,7 @@ pub struct PlantRead {
 }
 
 // A pattern tried on a box: it works, an image leaves S at that step, or the last one, of that step, is not in R.
-pub enum Rule {
+pub enum Tried {
     Works,
     Leaves(usize),
     Misses(usize),

@@ -2,13 +2,13 @@
 use mathlib.Core.Bool.{Bool, true, false}
 use mathlib.Core.List.{List}
 use Prim.Native.Nat.{ℕ}
-use Rattle.meaning.specs.declared.Rule.{Rule}
-use Rattle.meaning.specs.declared.Rule.the-variants.{Works}
+use Rattle.meaning.specs.declared.Tried.{Tried}
+use Rattle.meaning.specs.declared.Tried.the-variants.{Works}
 use Rattle.meaning.specs.declared.Walk.{Walk}
 use Rattle.meaning.specs.Rules.{Rules, rule}
 use Rattle.meaning.specs.Verdicts.{walk}
 
-abbrev pub judgeBy : Bool → (r : Rules) → Rules.Box r → List ℕ → Rule
+abbrev pub judgeBy : Bool → (r : Rules) → Rules.Box r → List ℕ → Tried
 judgeBy true r b us = rule r b us
 judgeBy false r b us = Works
 

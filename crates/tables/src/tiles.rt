@@ -5,7 +5,7 @@ use crate::boxes;
 use crate::boxes::Bx;
 use crate::frames::Counts;
 use crate::images;
-use meaning::Rule;
+use meaning::Tried;
 ghost use mathlib.Core.Path.{_≡_};
 ghost use Rattle.meaning.specs.Plants.{edgeLimit};
 ghost use Rattle.meaning.specs.Rules.{rule};
@@ -21,7 +21,7 @@ pub fn tile_rule(
     k: usize,
     us: [usize; 6],
     b: Bx,
-) -> Rule
+) -> Tried
     requires plant { ⌜ FrameSound (frameFrom f (now edges)) (now coef) × Small edgeLimit (boxOf (f .n) b) ⌝ }
     requires pattern { ⌜ Pattern (f .modes) k us ⌝ }
     ensures { λ r. ⌜ r ≡ rule (rulesIn (frameFrom f (now (edges .entry))) (now (coef .entry))) (boxOf (f .n) b) (patternOf k us) ⌝ }
@@ -44,12 +44,12 @@ pub fn tile_rule(
         if boxes::within(f.n, c, safe) {
             i += 1;
         } else {
-            return Rule::Leaves(i + 1);
+            return Tried::Leaves(i + 1);
         }
     }
     if boxes::within(f.n, c, goal) {
-        Rule::Works
+        Tried::Works
     } else {
-        Rule::Misses(k)
+        Tried::Misses(k)
     }
 }

@@ -10,7 +10,7 @@ use crate::refusals;
 use crate::tiles;
 use files::numbers;
 use meaning::Number;
-use meaning::Rule;
+use meaning::Tried;
 use meaning::Walk;
 ghost use mathlib.Core.Path.{_≡_};
 ghost use Prim.Native.Nat.{_≤_};
@@ -44,9 +44,9 @@ fn tile(
             if judged {
                 let us = read.us;
                 match tiles::tile_rule(f, edges, coef, k, us, b) {
-                    Rule::Works => Walk::Next(next),
-                    Rule::Leaves(i) => Walk::Refused(refusals::leaves(at, i)),
-                    Rule::Misses(i) => Walk::Refused(refusals::misses(at, i)),
+                    Tried::Works => Walk::Next(next),
+                    Tried::Leaves(i) => Walk::Refused(refusals::leaves(at, i)),
+                    Tried::Misses(i) => Walk::Refused(refusals::misses(at, i)),
                 }
             } else {
                 Walk::Next(next)

@@ -17,7 +17,7 @@ use Rattle.laws.specs.Tests.{never}
 use Rattle.meaning.specs.declared.Refusal.{Refusal}
 use Rattle.meaning.specs.declared.Number.{Number}
 use Rattle.meaning.specs.declared.Signed.{Signed}
-use Rattle.meaning.specs.declared.Rule.{Rule}
+use Rattle.meaning.specs.declared.Tried.{Tried}
 use Rattle.meaning.specs.declared.Walk.{Walk}
 use Rattle.meaning.specs.declared.Found.{Found}
 use Rattle.meaning.specs.declared.Plant.{Plant}
@@ -25,7 +25,7 @@ use Rattle.meaning.specs.declared.Verdict.{Verdict}
 use Rattle.meaning.specs.declared.Written.{Written}
 use Rattle.meaning.specs.declared.State.{State}
 use Rattle.meaning.specs.declared.Answer.{Answer}
-use Rattle.meaning.specs.Refusals.{Shown, numberShown, signedShown, ruleShown, walkShown, foundShown, verdictShown, writtenShown, answerShown, badTable, noTable, short}
+use Rattle.meaning.specs.Refusals.{Shown, numberShown, signedShown, triedShown, walkShown, foundShown, verdictShown, writtenShown, answerShown, badTable, noTable, short}
 use Rattle.meaning.specs.Control as C
 use Rattle.meaning.specs.Control.{idle, stateWith, onFound, find}
 use Rattle.meaning.specs.Files.{good}
@@ -46,7 +46,7 @@ use Rattle.promises.specs.files.Numbers.{reads, was, restored-stored, st
 use Rattle.promises.specs.tables.Patterns.{Lands, works-exactly, staying, landing, leaves-exactly, misses-exactly}
 use Rattle.promises.specs.tables.PlantRules.{judged-sizes, checked-as, controlled-as}
 use Rattle.promises.specs.tables.Promise.{promise}
-use Rattle.promises.specs.paper.Shows.{shows, refusing, noMode, same-refusal, Some, number-exactly, signed-exactly, rule-exactly, written-exactly, walk-exactly, verdict-exactly, answer-exactly, accepted-some, refused-some, mode-some, call-some}
+use Rattle.promises.specs.paper.Shows.{shows, refusing, noMode, same-refusal, Some, number-exactly, signed-exactly, tried-exactly, written-exactly, walk-exactly, verdict-exactly, answer-exactly, accepted-some, refused-some, mode-some, call-some}
 use Rattle.promises.specs.paper.Told.{checker-some, controller-some}
 
 -- ---- S1: 0 with the value and the place behind it exactly where the number's bytes stand there, and else 1 there
@@ -99,16 +99,16 @@ module _ (s : List ℕ) (at : ℕ) where
 -- ---- S5: 0 exactly where the pattern works; 7 with the first step whose image leaves S; 8 with the last step
 
 module _ (r : Rules) (at : ℕ) (b : r .Box) (us : List ℕ) where
-  pub works-shown : (ruleShown at (rule r b us) ≡ shows 0 0 0 []) ↔ Lands r (r .begin b) us
-  works-shown = Iff·trans (rule-exactly at (rule r b us) Rule.Works) (works-exactly r b us)
+  pub works-shown : (triedShown at (rule r b us) ≡ shows 0 0 0 []) ↔ Lands r (r .begin b) us
+  works-shown = Iff·trans (tried-exactly at (rule r b us) Tried.Works) (works-exactly r b us)
 
-  pub leaves-shown : (i : ℕ) → (ruleShown at (rule r b us) ≡ shows 7 at i [])
+  pub leaves-shown : (i : ℕ) → (triedShown at (rule r b us) ≡ shows 7 at i [])
       ↔ ((all (staying r (r .begin b) us) ≡ false) × (i ≡ suc (firstFalse (staying r (r .begin b) us))))
-  leaves-shown i = Iff·trans (rule-exactly at (rule r b us) (Rule.Leaves i)) (leaves-exactly r b us i)
+  leaves-shown i = Iff·trans (tried-exactly at (rule r b us) (Tried.Leaves i)) (leaves-exactly r b us i)
 
-  pub misses-shown : (i : ℕ) → (ruleShown at (rule r b us) ≡ shows 8 at i [])
+  pub misses-shown : (i : ℕ) → (triedShown at (rule r b us) ≡ shows 8 at i [])
       ↔ ((all (staying r (r .begin b) us) ≡ true) × (landing r (r .begin b) us ≡ false) × (i ≡ length us))
-  misses-shown i = Iff·trans (rule-exactly at (rule r b us) (Rule.Misses i)) (misses-exactly r b us i)
+  misses-shown i = Iff·trans (tried-exactly at (rule r b us) (Tried.Misses i)) (misses-exactly r b us i)
 
 -- ---- S6: 0 exactly where the table is that of a tree whose tiles all keep the tile rule
 
@@ -175,7 +175,7 @@ module _ (plant table : List ℕ) (st : State) (x : List ℤ) where
 pub header-shown : (n : ℕ) → n < 2 ^ 35 → (s : List ℕ) (m : ℕ) → (walkShown (header n s) ≡ shows 0 0 0 (pos m ∷ [])) ↔ Stands s 0 (bytesOf 1 ++ bytesOf n) m
 header-shown n small s m = Iff·trans (walk-exactly (header n s) (Walk.Next m)) (λ e. header-stands n s m e, λ w. header-read n small s m w)
 
-pub walk-shown : (r : Rules) → Sizes r → (s : List ℕ) (judge : r .Box → List ℕ → Rule) (d at : ℕ) (b : r .Box) (m : ℕ)
+pub walk-shown : (r : Rules) → Sizes r → (s : List ℕ) (judge : r .Box → List ℕ → Tried) (d at : ℕ) (b : r .Box) (m : ℕ)
     → (walkShown (walk r judge d s at b) ≡ shows 0 0 0 (pos m ∷ [])) ↔ TreeStands r judge d s at b m
 walk-shown r z s judge d at b m =
     Iff·trans (walk-exactly (walk r judge d s at b) (Walk.Next m)) (λ e. walk-stands r judge d s at b m e, λ w. walk-reads r z judge (w .tree) d s at b m (w .over) (w .stand))

@@ -10,14 +10,14 @@ use Rattle.laws.specs.Tests.{never}
 use Rattle.meaning.specs.declared.Refusal.{Refusal}
 use Rattle.meaning.specs.declared.Number.{Number}
 use Rattle.meaning.specs.declared.Signed.{Signed}
-use Rattle.meaning.specs.declared.Rule.{Rule}
+use Rattle.meaning.specs.declared.Tried.{Tried}
 use Rattle.meaning.specs.declared.Walk.{Walk}
 use Rattle.meaning.specs.declared.Whole.{Whole}
 use Rattle.meaning.specs.declared.Verdict.{Verdict}
 use Rattle.meaning.specs.declared.Written.{Written}
 use Rattle.meaning.specs.declared.State.{State}
 use Rattle.meaning.specs.declared.Answer.{Answer}
-use Rattle.meaning.specs.Refusals.{Shown, numberShown, signedShown, ruleShown, walkShown, wholeShown, verdictShown, writtenShown, answerShown}
+use Rattle.meaning.specs.Refusals.{Shown, numberShown, signedShown, triedShown, walkShown, wholeShown, verdictShown, writtenShown, answerShown}
 
 -- number, place, step and values
 abbrev pub shows : ℕ → ℕ → ℕ → List ℤ → Shown
@@ -75,19 +75,19 @@ module _ (at : ℕ) where
       go Signed.Broken (Signed.Value v n) e = differ 1 0 (λ q. omega arith) e
       go Signed.Broken Signed.Broken e = refl
 
-  pub rule-exactly : (a b : Rule) → (ruleShown at a ≡ ruleShown at b) ↔ (a ≡ b)
-  rule-exactly a b = (go a b, λ e. ap (ruleShown at) e)
+  pub tried-exactly : (a b : Tried) → (triedShown at a ≡ triedShown at b) ↔ (a ≡ b)
+  tried-exactly a b = (go a b, λ e. ap (triedShown at) e)
     where
-      go : (a b : Rule) → ruleShown at a ≡ ruleShown at b → a ≡ b
-      go Rule.Works Rule.Works e = refl
-      go Rule.Works (Rule.Leaves j) e = differ 0 7 (λ q. omega arith) e
-      go Rule.Works (Rule.Misses j) e = differ 0 8 (λ q. omega arith) e
-      go (Rule.Leaves i) Rule.Works e = differ 7 0 (λ q. omega arith) e
-      go (Rule.Leaves i) (Rule.Leaves j) e = ap Rule.Leaves (same-step e)
-      go (Rule.Leaves i) (Rule.Misses j) e = differ 7 8 (λ q. omega arith) e
-      go (Rule.Misses i) Rule.Works e = differ 8 0 (λ q. omega arith) e
-      go (Rule.Misses i) (Rule.Leaves j) e = differ 8 7 (λ q. omega arith) e
-      go (Rule.Misses i) (Rule.Misses j) e = ap Rule.Misses (same-step e)
+      go : (a b : Tried) → triedShown at a ≡ triedShown at b → a ≡ b
+      go Tried.Works Tried.Works e = refl
+      go Tried.Works (Tried.Leaves j) e = differ 0 7 (λ q. omega arith) e
+      go Tried.Works (Tried.Misses j) e = differ 0 8 (λ q. omega arith) e
+      go (Tried.Leaves i) Tried.Works e = differ 7 0 (λ q. omega arith) e
+      go (Tried.Leaves i) (Tried.Leaves j) e = ap Tried.Leaves (same-step e)
+      go (Tried.Leaves i) (Tried.Misses j) e = differ 7 8 (λ q. omega arith) e
+      go (Tried.Misses i) Tried.Works e = differ 8 0 (λ q. omega arith) e
+      go (Tried.Misses i) (Tried.Leaves j) e = differ 8 7 (λ q. omega arith) e
+      go (Tried.Misses i) (Tried.Misses j) e = ap Tried.Misses (same-step e)
 
 pub whole-exactly : (k : ℕ) (a b : Whole) → (wholeShown k a ≡ wholeShown k b) ↔ (a ≡ b)
 whole-exactly k a b = (go a b, λ e. ap (wholeShown k) e)

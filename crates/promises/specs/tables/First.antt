@@ -11,7 +11,7 @@ use native.Mathlib.Decide.{ℕ-discrete, decLt}
 use lib.ListN.{length}
 use Rattle.laws.specs.Guards.{guard}
 use Rattle.laws.specs.Tests.{never}
-use Rattle.meaning.specs.declared.Rule.the-variants.{Works}
+use Rattle.meaning.specs.declared.Tried.the-variants.{Works}
 use Rattle.meaning.specs.Rules.{Rules, rule, ruleFrom}
 use Rattle.meaning.specs.Trees.{below, Pattern}
 use Rattle.meaning.specs.Defined.{orElse, mapSome, firstMode, exactly, shortest, firstPattern}
@@ -33,7 +33,7 @@ same (then {u = u} p) (then q) = ap (λ (x : List ℕ). u ∷ x) (same p q)
 -- ---- modes tried in order
 
 -- what was found by trying modes u, u + 1, .., m of them
-record Tried (try : ℕ → Option (List ℕ)) (m u : ℕ) (us : List ℕ) : Type 0 where
+record FirstMode (try : ℕ → Option (List ℕ)) (m u : ℕ) (us : List ℕ) : Type 0 where
   v : ℕ
   vs : List ℕ
   is : us ≡ v ∷ vs
@@ -42,17 +42,17 @@ record Tried (try : ℕ → Option (List ℕ)) (m u : ℕ) (us : List ℕ) : Typ
   found-it : try v ≡ some vs
   before : (y : ℕ) → u ≤ y → y < v → try y ≡ none
 
-tried : (try : ℕ → Option (List ℕ)) (m u : ℕ) (us : List ℕ) → firstMode try m u ≡ some us → Tried try m u us
+first-some : (try : ℕ → Option (List ℕ)) (m u : ℕ) (us : List ℕ) → firstMode try m u ≡ some us → FirstMode try m u us
 unfolding firstMode
-tried try zero u us e = never cc
-tried try (suc m) u us e = go (try u) refl e (λ q. tried try m (suc u) us q)
+first-some try zero u us e = never cc
+first-some try (suc m) u us e = go (try u) refl e (λ q. first-some try m (suc u) us q)
   where
     here : try u ≡ none → (v y : ℕ) → (suc u ≤ y → y < v → try y ≡ none) → u ≤ y → y < v → Dec (u ≡ y) → try y ≡ none
     here q v y k l h (yes c) = rw (← c) q
     here q v y k l h (no c) = k (omega arith) h
 
     go : (o : Option (List ℕ)) → try u ≡ o → orElse (mapSome (λ us. u ∷ us) o) (λ _. firstMode try m (suc u)) ≡ some us
-        → (firstMode try m (suc u) ≡ some us → Tried try m (suc u) us) → Tried try (suc m) u us
+        → (firstMode try m (suc u) ≡ some us → FirstMode try m (suc u) us) → FirstMode try (suc m) u us
     go (some vs) q e h =
         let z : us ≡ u ∷ vs = cc in
         record { v = u; vs = vs; is = z; from = omega arith; under = omega arith; found-it = q; before = λ y l m. absurd (omega arith) }
@@ -107,9 +107,9 @@ module _ (r : Rules) where
       go : (t : Bool) → within (kept k) goal ≡ t → guard t none (λ _. some []) ≡ some us → FirstOf zero k us
       go true q e = let z : us ≡ [] = cc in rw z (record { count = refl; modes = tt; works = λ i. rw q refl })
       go false q e = never cc
-  exactly-works (suc m) k us e = go (tried (behind m k) N 0 us e) (λ c vs q. exactly-works m c vs q)
+  exactly-works (suc m) k us e = go (first-some (behind m k) N 0 us e) (λ c vs q. exactly-works m c vs q)
     where
-      inside : (t : Tried (behind m k) N 0 us) → (c : Bool) → within (kept (image (t .v) k)) safe ≡ c
+      inside : (t : FirstMode (behind m k) N 0 us) → (c : Bool) → within (kept (image (t .v) k)) safe ≡ c
           → guard c none (λ _. exactly r m (image (t .v) k)) ≡ some (t .vs)
           → ((c : Kept) (vs : List ℕ) → exactly r m c ≡ some vs → FirstOf m c vs) → FirstOf (suc m) k (t .v ∷ t .vs)
       inside t true q e ih =
@@ -117,7 +117,7 @@ module _ (r : Rules) where
           record { count = ap suc (h .count); modes = (omega (arith, t .under), h .modes); works = λ i. rw q (h .works (suc i)) }
       inside t false q e ih = never cc
 
-      go : Tried (behind m k) N 0 us → ((c : Kept) (vs : List ℕ) → exactly r m c ≡ some vs → FirstOf m c vs) → FirstOf (suc m) k us
+      go : FirstMode (behind m k) N 0 us → ((c : Kept) (vs : List ℕ) → exactly r m c ≡ some vs → FirstOf m c vs) → FirstOf (suc m) k us
       go t ih = let z : us ≡ t .v ∷ t .vs = t .is in rw z (inside t (within (kept (image (t .v) k)) safe) refl (t .found-it) ih)
 
   exactly-none : (m : ℕ) (k : Kept) (us : List ℕ) (i : ℕ) → exactly r m k ≡ none → length us ≡ m → below N us → ruleFrom r i k us ≡ Works → ⊥
@@ -141,7 +141,7 @@ module _ (r : Rules) where
   exactly-foremost (suc m) k us [] i e l h w = absurd (omega arith)
   exactly-foremost (suc m) k us (v ∷ vs) i e l h w =
       let s = safe-works (within (kept (image v k)) safe) i (λ j. ruleFrom r j (image v k) vs) .0 w in
-      go (s .0) (tried (behind m k) N 0 us e)
+      go (s .0) (first-some (behind m k) N 0 us e)
       (λ q. exactly-none m (image v k) vs (suc i) q (omega arith) (h .1) (s .1))
       (λ ws q. exactly-foremost m (image v k) ws vs (suc i) q (omega arith) (h .1) (s .1))
     where
@@ -152,7 +152,7 @@ module _ (r : Rules) where
       cases c u ws q b never ih (no l) (yes d) = rw d (then (ih ws (rw (d, c) at q)))
       cases c u ws q b never ih (no l) (no d) = absurd (never (rw c at (b v (omega arith) (omega arith))))
 
-      go : within (kept (image v k)) safe ≡ true → Tried (behind m k) N 0 us
+      go : within (kept (image v k)) safe ≡ true → FirstMode (behind m k) N 0 us
           → (exactly r m (image v k) ≡ none → ⊥) → ((ws : List ℕ) → exactly r m (image v k) ≡ some ws → NotAfter ws vs) → NotAfter us (v ∷ vs)
       go c t never ih = let z : us ≡ t .v ∷ t .vs = t .is in rw z (cases c (t .v) (t .vs) (t .found-it) (t .before) never ih (decLt (t .v) v) (ℕ-discrete (t .v) v))
 

@@ -13,8 +13,8 @@ use Rattle.laws.specs.Every.{Every, every-append, every-parts}
 use Rattle.laws.specs.Standing.{Stands, stand-front, stand-back}
 use Rattle.laws.specs.Tests.{never}
 use Rattle.meaning.specs.declared.Refusal.{Refusal}
-use Rattle.meaning.specs.declared.Rule.{Rule}
-use Rattle.meaning.specs.declared.Rule.the-variants.{Works, Leaves, Misses}
+use Rattle.meaning.specs.declared.Tried.{Tried}
+use Rattle.meaning.specs.declared.Tried.the-variants.{Works, Leaves, Misses}
 use Rattle.meaning.specs.declared.Verdict.{Verdict}
 use Rattle.meaning.specs.declared.Walk.{Walk}
 use Rattle.meaning.specs.Numbers.{bytesOf}
@@ -24,7 +24,7 @@ use Rattle.meaning.specs.Rules.{Rules, ruleFrom, rule}
 use Rattle.meaning.specs.Trees as Y
 use Rattle.meaning.specs.Trees.{Tree, Forest, split, tile, leaf, more, layout, layouts, Pattern, tableOf, Over, Overs, Tile, tilesOf, tilesIn}
 use Rattle.meaning.specs.Verdicts as C
-use Rattle.meaning.specs.Verdicts.{onRule, onWalk, each, walk, verdict}
+use Rattle.meaning.specs.Verdicts.{onTried, onWalk, each, walk, verdict}
 use Rattle.promises.specs.tables.Laws.{Sizes}
 use Rattle.promises.specs.tables.Layouts.{tile-read, split-read, headed, table-stands, table-header}
 use Rattle.promises.specs.tables.Patterns as T
@@ -111,14 +111,14 @@ module _ (r : Rules) where
 
   -- ---- tiles judged in file order, from a walk over them: the first that does not work is told
 
-  abbrev toldOf : (Box → List ℕ → Rule) → Tile r → Walk
-  toldOf judge t = onRule (judge (t .box) (t .modes)) (t .place) 0
+  abbrev toldOf : (Box → List ℕ → Tried) → Tile r → Walk
+  toldOf judge t = onTried (judge (t .box) (t .modes)) (t .place) 0
 
-  unfoldable tilesJudged : (Box → List ℕ → Rule) → List (Tile r) → ℕ → Walk
+  unfoldable tilesJudged : (Box → List ℕ → Tried) → List (Tile r) → ℕ → Walk
   tilesJudged judge [] end = Walk.Next end
   tilesJudged judge (t ∷ ts) end = onWalk (toldOf judge t) Walk.Refused λ _. tilesJudged judge ts end
 
-  module _ (judge : Box → List ℕ → Rule) where
+  module _ (judge : Box → List ℕ → Tried) where
     -- some tiles, and then those of the rest of the walk
     judged-join : (ts later : List (Tile r)) (mid end : ℕ) (rest : ℕ → Walk) → rest mid ≡ tilesJudged judge later end
         → onWalk (tilesJudged judge ts mid) Walk.Refused rest ≡ tilesJudged judge (ts ++ later) end
@@ -138,7 +138,7 @@ module _ (r : Rules) where
     judged-first [] one back end e h q = rw q refl
     judged-first (t ∷ front) one back end e h q = rw (h .0) (judged-first front one back end e (h .1) q)
 
-    one-judged : (o : Rule) (at m : ℕ) → onRule o at m ≡ onWalk (onRule o at 0) Walk.Refused λ _. Walk.Next m
+    one-judged : (o : Tried) (at m : ℕ) → onTried o at m ≡ onWalk (onTried o at 0) Walk.Refused λ _. Walk.Next m
     one-judged Works at m = refl
     one-judged (Leaves i) at m = refl
     one-judged (Misses i) at m = refl

@@ -15,15 +15,15 @@ use Rattle.laws.specs.Standing.{Stands, stand-nil, stand-join, stand-front, sta
 use Rattle.laws.specs.Tests.{never, guard-passed}
 use Rattle.meaning.specs.declared.Refusal.{Refusal}
 use Rattle.meaning.specs.declared.Number.{Number}
-use Rattle.meaning.specs.declared.Rule.{Rule}
-use Rattle.meaning.specs.declared.Rule.the-variants.{Works, Leaves, Misses}
+use Rattle.meaning.specs.declared.Tried.{Tried}
+use Rattle.meaning.specs.declared.Tried.the-variants.{Works, Leaves, Misses}
 use Rattle.meaning.specs.declared.Walk.{Walk}
 use Rattle.meaning.specs.Refusals.{broken, wrongForm, badTable}
 use Rattle.meaning.specs.Numbers.{numberAt, bytesOf}
 use Rattle.meaning.specs.Files.{Read, read, refused, before}
 use Rattle.meaning.specs.Rules.{Rules}
 use Rattle.meaning.specs.Trees.{Tree, Forest, split, tile, leaf, more, modesBytes, layout, layouts, below, Pattern, tableOf, Over, Overs}
-use Rattle.meaning.specs.Verdicts.{onNumber, onRule, onModes, each, splitAt, modesAt, walk, header}
+use Rattle.meaning.specs.Verdicts.{onNumber, onTried, onModes, each, splitAt, modesAt, walk, header}
 use Rattle.promises.specs.files.Numbers.{reads, was}
 use Rattle.promises.specs.tables.Laws.{Sizes}
 use Rattle.promises.specs.tables.Shapes.{Good}
@@ -120,23 +120,23 @@ module _ (r : Rules) where
   open Rules r using (Box, children, n, K, N)
 
   -- a tree over the box, its layout from `at` up to m; a forest over the boxes
-  pub record TreeStands (judge : Box → List ℕ → Rule) (d : ℕ) (s : List ℕ) (at : ℕ) (b : Box) (m : ℕ) : Type 0 where
+  pub record TreeStands (judge : Box → List ℕ → Tried) (d : ℕ) (s : List ℕ) (at : ℕ) (b : Box) (m : ℕ) : Type 0 where
     pub tree : Tree
     pub over : Over r (Good r judge) tree d b
     pub stand : Stands s at (layout tree) m
 
-  record ForestStands (judge : Box → List ℕ → Rule) (d : ℕ) (s : List ℕ) (at : ℕ) (bs : List Box) (m : ℕ) : Type 0 where
+  record ForestStands (judge : Box → List ℕ → Tried) (d : ℕ) (s : List ℕ) (at : ℕ) (bs : List Box) (m : ℕ) : Type 0 where
     forest : Forest
     over : Overs r (Good r judge) forest d bs
     stand : Stands s at (layouts forest) m
 
-  module _ (judge : Box → List ℕ → Rule) where
+  module _ (judge : Box → List ℕ → Tried) where
     tile-stands : (b : Box) (k d : ℕ) (s : List ℕ) (at from m : ℕ) → numberAt s at ≡ Number.Value k from → 1 ≤ k → k ≤ K
         → onModes (modesAt N k s from) at (judge b) ≡ Walk.Next m → TreeStands judge d s at b m
     unfolding layout Over
     tile-stands b k d s at from m q l h e = go (modesAt N k s from) refl e
       where
-        judged : (us : List ℕ) (y : ℕ) → ModesStand N k s from us y → (o : Rule) → judge b us ≡ o → onRule o at y ≡ Walk.Next m → TreeStands judge d s at b m
+        judged : (us : List ℕ) (y : ℕ) → ModesStand N k s from us y → (o : Tried) → judge b us ≡ o → onTried o at y ≡ Walk.Next m → TreeStands judge d s at b m
         judged us y w Works p e =
             let f : m ≡ y = cc in
             let c : length us ≡ k = w .count in
@@ -220,7 +220,7 @@ module _ (r : Rules) where
       modes-read N (sizes .modes) us s (at + length (bytesOf (length us))) m (g .modes) (stand-back (bytesOf (length us)) (modesBytes us) p),
     )
 
-    module _ (judge : Box → List ℕ → Rule) where
+    module _ (judge : Box → List ℕ → Tried) where
       mutual
         unfolding layout Over each
 

@@ -9,8 +9,8 @@ use lib.ListN.{length, take, length-append}
 use Rattle.laws.specs.Guards.{choose}
 use Rattle.meaning.specs.declared.Refusal.{Refusal}
 use Rattle.meaning.specs.declared.Number.{Number}
-use Rattle.meaning.specs.declared.Rule.{Rule}
-use Rattle.meaning.specs.declared.Rule.the-variants.{Works}
+use Rattle.meaning.specs.declared.Tried.{Tried}
+use Rattle.meaning.specs.declared.Tried.the-variants.{Works}
 use Rattle.meaning.specs.declared.Walk.{Walk}
 use Rattle.meaning.specs.declared.Found.{Found}
 use Rattle.meaning.specs.Refusals.{badTable}
@@ -81,7 +81,7 @@ module _ (r : Rules) where
         let w = modes-stand N k s i us m q in
         ap (λ (j : ℕ). modesAt N j z i) (sym (w .count)) ∙ modes-read N (sizes .modes) us z i m (w .modes) (stand-agreed s z (modesBytes us) i m e (w .stand) l t)
 
-    walk-agreed : (judge : Box → List ℕ → Rule) (d : ℕ) (b : Box) (i m e : ℕ) (s z : List ℕ) → walk r judge d s i b ≡ Walk.Next m → m ≤ e → take e s ≡ take e z
+    walk-agreed : (judge : Box → List ℕ → Tried) (d : ℕ) (b : Box) (i m e : ℕ) (s z : List ℕ) → walk r judge d s i b ≡ Walk.Next m → m ≤ e → take e s ≡ take e z
         → walk r judge d z i b ≡ Walk.Next m
     walk-agreed judge d b i m e s z q l t =
         let w = walk-stands r judge d s i b m q in

@@ -15,8 +15,8 @@ use Rattle.laws.specs.Guards.{guard}
 use Rattle.laws.specs.Lists as L
 use Rattle.laws.specs.Lists.{all, firstFalse}
 use Rattle.laws.specs.Tests.{never}
-use Rattle.meaning.specs.declared.Rule.{Rule}
-use Rattle.meaning.specs.declared.Rule.the-variants.{Works, Leaves, Misses}
+use Rattle.meaning.specs.declared.Tried.{Tried}
+use Rattle.meaning.specs.declared.Tried.the-variants.{Works, Leaves, Misses}
 use Rattle.meaning.specs.Rules as R
 use Rattle.meaning.specs.Rules.{Rules, onGoal, onSafe, ruleFrom, rule, holds}
 use Rattle.promises.specs.tables.Laws.{Motion}
@@ -55,7 +55,7 @@ pub goal-works : (t : Bool) (i : ℕ) → (onGoal t i ≡ Works) ↔ (t ≡ true
 goal-works true i = (λ e. refl, λ e. refl)
 goal-works false i = (λ e. cc, λ e. cc)
 
-pub safe-works : (t : Bool) (i : ℕ) (rest : ℕ → Rule) → (onSafe t i rest ≡ Works) ↔ ((t ≡ true) × (rest (suc i) ≡ Works))
+pub safe-works : (t : Bool) (i : ℕ) (rest : ℕ → Tried) → (onSafe t i rest ≡ Works) ↔ ((t ≡ true) × (rest (suc i) ≡ Works))
 safe-works true i rest = (λ e. (refl, e), λ e. e .1)
 safe-works false i rest = (λ e. (cc, cc), λ e. cc (e .0))
 

@@ -14,7 +14,7 @@ use Rattle.laws.specs.Every.{Every, every-tab}
 use Rattle.laws.specs.Lists.{at}
 use Rattle.laws.specs.Tabs.{length-tab, getD-tab}
 use Rattle.meaning.specs.declared.Plant.{Plant}
-use Rattle.meaning.specs.declared.Rule.the-variants.{Works}
+use Rattle.meaning.specs.declared.Tried.the-variants.{Works}
 use Rattle.meaning.specs.Boxes.{Side, within}
 use Rattle.meaning.specs.Images.{Step}
 use Rattle.meaning.specs.Plants.{rootOf, safeOf, rowOf, stepOf}

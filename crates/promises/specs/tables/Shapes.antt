@@ -5,8 +5,8 @@ use mathlib.Core.Path.{_≡_}
 use mathlib.Core.List.{List, [], _∷_}
 use native.Mathlib.Omega.{arith}
 use lib.ListN.{length}
-use Rattle.meaning.specs.declared.Rule.{Rule}
-use Rattle.meaning.specs.declared.Rule.the-variants.{Works}
+use Rattle.meaning.specs.declared.Tried.{Tried}
+use Rattle.meaning.specs.declared.Tried.the-variants.{Works}
 use Rattle.meaning.specs.Rules.{Rules, rule}
 use Rattle.meaning.specs.Trees.{Tree, Forest, split, tile, leaf, more, longest, longestOf, Pattern, Over, Overs}
 
@@ -14,7 +14,7 @@ module _ (r : Rules) where
   open Rules r using (Box, children, root, D, K, N)
 
   -- a tile of sound shape that the judge lets be
-  pub record Good (judge : Box → List ℕ → Rule) (b : Box) (us : List ℕ) : Type 0 where
+  pub record Good (judge : Box → List ℕ → Tried) (b : Box) (us : List ℕ) : Type 0 where
     pub shape : Pattern K N us
     pub works : judge b us ≡ Works
 

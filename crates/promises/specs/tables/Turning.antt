@@ -14,7 +14,7 @@ use Rattle.laws.specs.Division.{floorZ, ceilZ}
 use Rattle.laws.specs.Integers.{P, N, zarith, add, mul, neg, apart, to-eq}
 use Rattle.laws.specs.Tests.{first, both, orders, ordered}
 use Rattle.meaning.specs.declared.Plant.{Plant}
-use Rattle.meaning.specs.declared.Rule.the-variants.{Works}
+use Rattle.meaning.specs.declared.Tried.the-variants.{Works}
 use Rattle.meaning.specs.Boxes.{Side, side, within}
 use Rattle.meaning.specs.Computing.{computing}
 use Rattle.meaning.specs.Files.{good, fileOf}

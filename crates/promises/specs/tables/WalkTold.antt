@@ -14,8 +14,8 @@ use Rattle.laws.specs.Lists.{firstFalse}
 use Rattle.laws.specs.Standing.{stand-within}
 use Rattle.meaning.specs.declared.Refusal.{Refusal}
 use Rattle.meaning.specs.declared.Number.{Number}
-use Rattle.meaning.specs.declared.Rule.{Rule}
-use Rattle.meaning.specs.declared.Rule.the-variants.{Works, Leaves, Misses}
+use Rattle.meaning.specs.declared.Tried.{Tried}
+use Rattle.meaning.specs.declared.Tried.the-variants.{Works, Leaves, Misses}
 use Rattle.meaning.specs.declared.Walk.{Walk}
 use Rattle.meaning.specs.declared.Found.{Found}
 use Rattle.meaning.specs.Refusals.{broken, badTable}
@@ -23,7 +23,7 @@ use Rattle.meaning.specs.Numbers.{numberAt, bytesOf}
 use Rattle.meaning.specs.Files.{Read, read, refused, before}
 use Rattle.meaning.specs.Rules.{Rules, rule, holds}
 use Rattle.meaning.specs.Verdicts as W
-use Rattle.meaning.specs.Verdicts.{onNumber, onWalk, onRule, onModes, each, splitAt, onSize, modesAt, nodeAt, walk, header}
+use Rattle.meaning.specs.Verdicts.{onNumber, onWalk, onTried, onModes, each, splitAt, onSize, modesAt, nodeAt, walk, header}
 use Rattle.meaning.specs.Control as C
 use Rattle.meaning.specs.Control.{tileFound, among, find}
 use Rattle.promises.specs.files.Bytes.{bytes-some}
@@ -118,9 +118,9 @@ module _ (numbers s : List ℕ) (one : oneOf numbers 1 ≡ true) (six : oneOf nu
     open Rules r using (Box, Reading, children, K, N)
 
     -- and what the judge of a tile tells at its first byte
-    module _ (judge : Box → List ℕ → Rule)
+    module _ (judge : Box → List ℕ → Tried)
         (judged : (b : Box) (us : List ℕ) (at next : ℕ) → 1 ≤ length us → length us ≤ K → at ≤ length s → next ≤ length s
-        → WalkTells numbers (length s) (onRule (judge b us) at next)) where
+        → WalkTells numbers (length s) (onTried (judge b us) at next)) where
       tile-tells : (b : Box) (k at next : ℕ) → 1 ≤ k → k ≤ K → at ≤ length s → next ≤ length s → WalkTells numbers (length s) (onModes (modesAt N k s next) at (judge b))
       tile-tells b k at next some few l m = go (modesAt N k s next) refl (modes-tell N k next m)
         where
@@ -187,10 +187,10 @@ images-size r k (u ∷ us) = ap suc (images-size r (r .image u k) us)
 
 module _ (r : Rules) (numbers s : List ℕ) (seven : oneOf numbers 7 ≡ true) (eight : oneOf numbers 8 ≡ true) (most : r .K ≤ 6) where
   pub rule-tells : (b : r .Box) (us : List ℕ) (at next : ℕ) → 1 ≤ length us → length us ≤ r .K → at ≤ length s → next ≤ length s
-      → WalkTells numbers (length s) (onRule (rule r b us) at next)
+      → WalkTells numbers (length s) (onTried (rule r b us) at next)
   rule-tells b us at next some few l m = go (rule r b us) refl
     where
-      go : (o : Rule) → rule r b us ≡ o → WalkTells numbers (length s) (onRule o at next)
+      go : (o : Tried) → rule r b us ≡ o → WalkTells numbers (length s) (onTried o at next)
       go Works q = m
       go (Leaves i) q =
           let tests = staying r (r .begin b) us in

@@ -14,8 +14,8 @@ use Rattle.laws.specs.Guards.{guard}
 use Rattle.laws.specs.Tests.{guard-passed}
 use Rattle.meaning.specs.declared.Refusal.{Refusal}
 use Rattle.meaning.specs.declared.Number.{Number}
-use Rattle.meaning.specs.declared.Rule.{Rule}
-use Rattle.meaning.specs.declared.Rule.the-variants.{Works}
+use Rattle.meaning.specs.declared.Tried.{Tried}
+use Rattle.meaning.specs.declared.Tried.the-variants.{Works}
 use Rattle.meaning.specs.declared.Walk.{Walk}
 use Rattle.meaning.specs.declared.Found.{Found}
 use Rattle.meaning.specs.Refusals.{broken, badTable}
@@ -134,7 +134,7 @@ module _ (r : Rules) where
   open Rules r using (Box, Reading, children, K, N)
 
   -- a node that is walked over
-  module _ (judge : Box → List ℕ → Rule) (d : ℕ) (s : List ℕ) (at : ℕ) (b : Box) where
+  module _ (judge : Box → List ℕ → Tried) (d : ℕ) (s : List ℕ) (at : ℕ) (b : Box) where
     pub walk-broken : numberAt s at ≡ Number.Broken → walk r judge d s at b ≡ Walk.Refused (broken at)
     unfolding walk
     walk-broken e = elim d [ zero ↦ simp e | suc m ↦ simp e ]

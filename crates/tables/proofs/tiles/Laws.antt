@@ -7,7 +7,7 @@ use native.Mathlib.Numerals.{add-one}
 use lib.IntN.{ℤ}
 use Rattle.laws.specs.Lists.{tab}
 use Rattle.laws.specs.Tabs.{tab-step, tab-done}
-use Rattle.meaning.specs.declared.Rule.the-variants.{Works, Leaves, Misses}
+use Rattle.meaning.specs.declared.Tried.the-variants.{Works, Leaves, Misses}
 use Rattle.meaning.specs.Boxes.{Side, within}
 use Rattle.meaning.specs.Plants.{edgeLimit}
 use Rattle.meaning.specs.Rules.{Rules, ruleFrom}

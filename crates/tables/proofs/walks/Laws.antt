@@ -9,13 +9,13 @@ use lib.IntN.{ℤ}
 use lib.ListN.{length, getD, drop}
 use Rattle.meaning.specs.declared.Number.{Number}
 use Rattle.meaning.specs.declared.Refusal.{Refusal}
-use Rattle.meaning.specs.declared.Rule.{Rule}
+use Rattle.meaning.specs.declared.Tried.{Tried}
 use Rattle.meaning.specs.declared.Walk.{Walk}
 use Rattle.meaning.specs.Boxes.{Side, children}
 use Rattle.meaning.specs.Files.{Read}
 use Rattle.meaning.specs.Numbers.{numberAt}
 use Rattle.meaning.specs.Refusals.{broken, badTable}
-use Rattle.meaning.specs.Verdicts.{onRule, onModes, each, modesAt}
+use Rattle.meaning.specs.Verdicts.{onTried, onModes, each, modesAt}
 use Rattle.promises.specs.tables.Walking.{each-done, each-more, each-refused, walk-broken, walk-deep, walk-stuck, walk-split, walk-over, walk-tile}
 use Rattle.tables.specs.declared.frames.Frame.{Frame}
 use Rattle.tables.specs.Frames.{rulesIn}
@@ -24,11 +24,11 @@ use Rattle.tables.specs.Walks.{judgeBy, walkBy}
 
 -- ---- a tile: what its modes were told as, and what its judge says of them
 
-module _ (modes : Read (List ℕ)) (at : ℕ) (judge : List ℕ → Rule) (a : Walk) (us : List ℕ) (q : told a us ≡ modes) where
+module _ (modes : Read (List ℕ)) (at : ℕ) (judge : List ℕ → Tried) (a : Walk) (us : List ℕ) (q : told a us ≡ modes) where
   pub tile-stopped : (e : Refusal) → a ≡ Walk.Refused e → Walk.Refused e ≡ onModes modes at judge
   tile-stopped e h = rw (← q, h) refl
 
-  pub tile-judged : (m : ℕ) → a ≡ Walk.Next m → (v : Rule) → v ≡ judge us → onRule v at m ≡ onModes modes at judge
+  pub tile-judged : (m : ℕ) → a ≡ Walk.Next m → (v : Tried) → v ≡ judge us → onTried v at m ≡ onModes modes at judge
   tile-judged m h v e = rw (← q, h, e) refl
 
 none : (bs : List (List Side)) → length bs ≡ 0 → bs ≡ []
@@ -36,7 +36,7 @@ none [] h = refl
 none (b ∷ bs) h = absurd (omega arith)
 
 module _ (f : Frame) (coef : List ℤ) (judged : Bool) where
-  abbrev judge : List Side → List ℕ → Rule
+  abbrev judge : List Side → List ℕ → Tried
   judge = judgeBy judged (rulesIn f coef)
 
   -- the walk over the tree at `at`, over box b with depth d left

@@ -65,8 +65,8 @@ abbrev Node : ℕ → Type 0
 Node t = find-lts.After-known-told (claims t) (find-at t) reads.Post find-Inv-loop find-μ-loop
 
 -- a child of the node was made, and the reading tried on it
-abbrev Tried : ℕ → Type 0
-Tried t = find-lts.After-missed (claims t) (find-at t) reads.Post find-Inv-loop find-μ-loop
+abbrev Looked : ℕ → Type 0
+Looked t = find-lts.After-missed (claims t) (find-at t) reads.Post find-Inv-loop find-μ-loop
 
 module _ {t : ℕ} (s : Begin t) where
   abbrev frame : Frame
@@ -94,7 +94,7 @@ module _ {t : ℕ} (z : Node t) where
   number : numberAt (bytes start) (start .args .at) ≡ Number.Value size behind
   number = sym (z .before .before .before .number .ensures) ∙ z .before .k .given .1
 
-module _ {t : ℕ} (y : Tried t) where
+module _ {t : ℕ} (y : Looked t) where
   abbrev outset : Begin t
   outset = y .before .before .before .before .before .before .before .before .before .before .before .before .before .before
 

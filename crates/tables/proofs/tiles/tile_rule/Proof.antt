@@ -8,7 +8,7 @@ use borrow.Author.Needs.{needs}
 use lib.IntN.{ℤ}
 use Rattle.laws.specs.Lists.{tab}
 use Rattle.laws.specs.Tabs.{tab-all}
-use Rattle.meaning.specs.declared.Rule.the-variants.{Misses}
+use Rattle.meaning.specs.declared.Tried.the-variants.{Misses}
 use Rattle.meaning.specs.Boxes.{Side}
 use Rattle.meaning.specs.Plants.{edgeLimit}
 use Rattle.meaning.specs.Rules.{Rules, rule, ruleFrom}

@@ -6,11 +6,11 @@ use mathlib.Core.List.{List}
 use native.Mathlib.Omega.{arith}
 use denote.Ref.{now}
 use borrow.Author.Needs.{needs}
-use Rattle.meaning.specs.declared.Rule.{Rule}
-use Rattle.meaning.specs.declared.Rule.the-variants.{Works}
+use Rattle.meaning.specs.declared.Tried.{Tried}
+use Rattle.meaning.specs.declared.Tried.the-variants.{Works}
 use Rattle.meaning.specs.declared.Walk.{Walk}
 use Rattle.meaning.specs.Files.{Read}
-use Rattle.meaning.specs.Verdicts.{onRule, onModes, modesAt}
+use Rattle.meaning.specs.Verdicts.{onTried, onModes, modesAt}
 use Rattle.tables.specs.Boxes.{boxOf}
 use Rattle.tables.specs.Frames.{frameFrom, rulesIn}
 use Rattle.tables.specs.Modes.{told}
@@ -35,7 +35,7 @@ module _ (c : tie.After-read-modes) where
   abbrev pattern : List ℕ
   pattern = patternOf (from .args .k) (c .read-modes .result .us)
 
-  abbrev judge : Bool → List ℕ → Rule
+  abbrev judge : Bool → List ℕ → Tried
   judge flag us = judgeBy flag (rulesIn (frameFrom (from .args .f) (now (from .args .edges))) (now (from .args .coef))) (boxOf (from .args .f .n) (from .args .b)) us
 
   read-as : told (c .read-modes .result .answer) pattern ≡ modes
@@ -60,15 +60,15 @@ module _ (c : tie.After-known-told2) where
       (sym (read-as past) ∙ ap (λ (w : Walk). told w (pattern past)) went)
 
   -- what the judge of one of the two kinds says, where it is the one that is asked for
-  judged : (flag : Bool) → start .args .judged ≡ flag → (v : Rule) → v ≡ judge past flag (pattern past)
-      → onRule v (start .args .at) next ≡ onModes (modes past) (start .args .at) (judge past (start .args .judged))
+  judged : (flag : Bool) → start .args .judged ≡ flag → (v : Tried) → v ≡ judge past flag (pattern past)
+      → onTried v (start .args .at) next ≡ onModes (modes past) (start .args .at) (judge past (start .args .judged))
   judged flag e v q = tile-judged (modes past) (start .args .at) (judge past (start .args .judged)) (past .read-modes .result .answer) (pattern past) (read-as past) next went v
       (q ∙ ap (λ (t : Bool). judge past t (pattern past)) (sym e))
 
 -- by the tile rule
-ruled : (c : tie.After-tile-rule) → (w : Rule) → c .tile-rule .result ≡ w
+ruled : (c : tie.After-tile-rule) → (w : Tried) → c .tile-rule .result ≡ w
     → let k = c .before .before .before in
-    onRule w (start k .args .at) (next k) ≡ onModes (modes (past k)) (start k .args .at) (judge (past k) (start k .args .judged))
+    onTried w (start k .args .at) (next k) ≡ onModes (modes (past k)) (start k .args .at) (judge (past k) (start k .args .judged))
 ruled c w e = judged (c .before .before .before) true (c .before .before .if1 .taken) w (sym e ∙ c .tile-rule .ensures)
 
 read-modes-requires : tie.Need-read-modes-requires
