@@ -69,7 +69,7 @@ onChain n root safe (read vs next) refuse rest =
     let kept = tab (held n root vs safe) (above vs) 0 in
     guard (all kept) (refuse (notHeld (firstFalse kept + 1))) λ _. rest vs next
 
--- a start file's, and one with nothing behind it, for a plant
+-- for a plant: the chain that a start file begins with; and a chain by itself, with nothing behind it
 abbrev pub onStart : {A : Type 0} → Plant → List ℕ → (Refusal → A) → (List ℤ → ℕ → A) → A
 onStart p s = onChain (p .n) (rootOf p) (safeOf p) (valuesAt (chainForm (p .n)) s 0)
 
@@ -103,14 +103,14 @@ startOf n vs ts = fileOf (chainForm n) vs ++ partsOf ts
 -- ---- Checker: plant; form, m, edges; 15; then each table's length and the table, read within it; bytes left over last
 
 module _ (r : ℕ → Rules) (s : List ℕ) where
-  -- m tables, the first of them box i's
+  -- k tables, the first of them box i's
   unfoldable pub tablesAt : ℕ → ℕ → ℕ → Verdict
   tablesAt zero i at = guard (eqb at (length s)) (Verdict.Refused (unfit at)) λ _. Verdict.Accepted
-  tablesAt (suc m) i at =
+  tablesAt (suc k) i at =
       onLength s at Verdict.Refused λ first size.
       onWalk (tableEnd (r i) (part s first size)) (λ e. Verdict.Refused (moved first e)) λ next.
       guard (eqb next size) (Verdict.Refused (unfit at)) λ _.
-      tablesAt m (suc i) (first + size)
+      tablesAt k (suc i) (first + size)
 
 unfoldable pub startChecked : List ℕ → List ℕ → Verdict
 startChecked plant start =
@@ -129,10 +129,10 @@ abbrev pub tableBefore : Judged (List ℕ) → (Unit {0} → Judged (List (List 
 tableBefore (bad e) rest = bad e
 tableBefore (good t) rest = tableWith t (rest tt)
 
--- m defined tables, the first of them box i's
+-- k defined tables, the first of them box i's
 unfoldable pub tablesFrom : (ℕ → Rules) → ℕ → ℕ → Judged (List (List ℕ))
 tablesFrom r zero i = good []
-tablesFrom r (suc m) i = tableBefore (definedTable i (r i)) λ _. tablesFrom r m (suc i)
+tablesFrom r (suc k) i = tableBefore (definedTable i (r i)) λ _. tablesFrom r k (suc i)
 
 abbrev pub startBytes : ℕ → List ℤ → Judged (List (List ℕ)) → Judged (List ℕ)
 startBytes n vs (bad e) = bad e
@@ -176,8 +176,8 @@ module _ (p : Plant) (vs : List ℤ) (s : List ℕ) (at : ℕ) where
   callIn i st x = onPart i s at StartAnswer.Refused λ first size. answerIn i first (call (boxRules p vs i) (part s first size) st x)
 
   -- idle: the smallest box that holds the reading, of equal ones the lowest index; outside Rm it is 11
-  abbrev pub idleStart : List ℤ → StartAnswer
-  idleStart x =
+  abbrev pub chosenCall : List ℤ → StartAnswer
+  chosenCall x =
       let r = boxRules p vs (above vs) in
       guard (holds r (r .root) x) (StartAnswer.Refused (outside (missed r (r .root) x))) λ _.
       callIn (chosen (p .n) (rootOf p) vs x) idle x
@@ -189,7 +189,7 @@ module _ (p : Plant) (vs : List ℤ) (s : List ℕ) (at : ℕ) where
   abbrev pub startCall : StartState → List ℤ → StartAnswer
   startCall st x =
       guard (canIndex (st .index) (st .state)) (StartAnswer.Refused badState) λ _.
-      choose (isIdle (st .state)) (λ _. idleStart x) (λ _. callIn (st .index) (st .state) x)
+      choose (isIdle (st .state)) (λ _. chosenCall x) (λ _. callIn (st .index) (st .state) x)
 
 unfoldable pub startControlled : List ℕ → List ℕ → StartState → List ℤ → StartAnswer
 startControlled plant start st x =

@@ -1,23 +1,18 @@
 -- Boxes as the code holds them, what it asks of their edges, and one side of a child by the child's number. Definitions alone.
-use Prim.Native.Nat.{ℕ, _/_, _%_, _≤_}
+use Prim.Native.Nat.{ℕ, _/_, _%_}
 use mathlib.Core.Bool.{cond}
 use mathlib.Core.List.{List, [], _∷_}
 use lib.Dec.{eqb}
-use lib.IntN.{pos, natAbs, _+ℤ_}
-use lib.Signed.{_≤ℤ_}
+use lib.IntN.{pos, _+ℤ_}
 use Rattle.meaning.specs.Boxes.{Side, side, sidesOf, long, middle}
+use Rattle.promises.specs.files.Sound.{Bounded}
 use Rattle.tables.specs.declared.boxes.Bx.{Bx}
 
 -- the first n sides
 abbrev pub boxOf : ℕ → Bx → List Side
 boxOf n b = sidesOf n (b .lo) (b .hi)
 
--- edges within ±k, and a side that is not empty
-pub record Bounded (k : ℕ) (s : Side) : Type 0 where
-  pub low : natAbs (s .lo) ≤ k
-  pub high : natAbs (s .hi) ≤ k
-  pub order : s .lo ≤ℤ s .hi
-
+-- each side of a box, not of two arrays (promises' `Edges`): boxes are computed, too
 unfoldable pub Small : ℕ → List Side → Type 0
 Small k [] = Unit {0}
 Small k (s ∷ ss) = Bounded k s × Small k ss

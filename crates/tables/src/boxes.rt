@@ -68,9 +68,9 @@ pub fn child(n: usize, b: Bx, x: usize) -> Bx
 {
     let mut kid = b;
     let mut bits = x;
-    let mut left = n;
-    while 0 < left {
-        let j = n - left;
+    let mut due = n;
+    while 0 < due {
+        let j = n - due;
         let l = b.lo[j];
         let h = b.hi[j];
         let e = half(l, h, bits);
@@ -79,7 +79,7 @@ pub fn child(n: usize, b: Bx, x: usize) -> Bx
         kid.lo[j] = el;
         kid.hi[j] = eh;
         bits = e.bits;
-        left -= 1;
+        due -= 1;
     }
     kid
 }

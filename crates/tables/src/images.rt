@@ -10,7 +10,8 @@ ghost use Rattle.laws.specs.Lists.{at};
 ghost use Rattle.meaning.specs.Boxes.{side, sideAt, sidesOf};
 ghost use Rattle.meaning.specs.Images.{leastOf, greatestOf, imageSide, image};
 ghost use Rattle.meaning.specs.Plants.{edgeLimit, bandLimit, entryLimit, rowStart};
-ghost use Rattle.tables.specs.Boxes.{boxOf, Bounded, Small};
+ghost use Rattle.tables.specs.Boxes.{boxOf, Small};
+ghost use Rattle.promises.specs.files.Sound.{Bounded};
 ghost use Rattle.tables.specs.Images.{rowLimit, entriesOf, rowAt, stepFrom, RowSound, StepSound, Extremes};
 
 // A least and a greatest number.

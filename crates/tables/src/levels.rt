@@ -12,7 +12,8 @@ ghost use Rattle.laws.specs.Lists.{at};
 ghost use Rattle.meaning.specs.Boxes.{side};
 ghost use Rattle.meaning.specs.Images.{leastOf, greatestOf};
 ghost use Rattle.meaning.specs.Plants.{edgeLimit, entryLimit};
-ghost use Rattle.tables.specs.Boxes.{boxOf, Bounded, Small};
+ghost use Rattle.tables.specs.Boxes.{boxOf, Small};
+ghost use Rattle.promises.specs.files.Sound.{Bounded};
 ghost use Rattle.tables.specs.Images.{rowLimit, entriesOf, RowSound, Extremes};
 ghost use Rattle.tables.specs.Levels.{wide, room, sideIn, boxIn, stored};
 

@@ -133,7 +133,7 @@ pub fn step(
     ensures stays { λ r. ⌜ r ≡ staysLent n (now (coef .entry)) (now (limits .entry)) u (boxIn n (now (boxes .entry)) place) ⌝ }
     ensures image { λ r. ⌜ (r ≡ true → boxIn n (now (boxes .exit)) (place + wide) ≡ imageLent n q (now (coef .entry)) (now (limits .entry)) u (boxIn n (now (boxes .entry)) place)) ⌝ }
     ensures beside { λ r. ⌜ Beside (place + wide) (now (boxes .entry)) (now (boxes .exit)) ⌝ }
-    ensures left { λ r. ⌜ (r ≡ false → now (boxes .exit) ≡ now (boxes .entry)) ⌝ }
+    ensures untouched { λ r. ⌜ (r ≡ false → now (boxes .exit) ≡ now (boxes .entry)) ⌝ }
 {
     let mut slo = [0i64; 4];
     let mut shi = [0i64; 4];

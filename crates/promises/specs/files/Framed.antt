@@ -1,6 +1,6 @@
 -- What plant and sheet files share: the header, the edges of R and S, and the bands, as facts from the form that they were read by (page Forms).
--- `Framed` says it of the values, before they make a plant (`Sound`) or a sheet (`Ranges`). Relies on page Headers for the test of a range. Leaves out what
--- stands behind the bands (pages Judged and SheetSound).
+-- `framed` says it of the values, before they make a plant or a sheet. Relies on page Headers for the test of a range. Leaves out what stands behind the
+-- bands (pages Judged and SheetSound).
 use Prim.Native.Nat.{ℕ, _+_, _*_, _≤_, _<_}
 use mathlib.Core.Path.{_≡_, refl, _∙_}
 use mathlib.Core.Bool.{true}
@@ -16,22 +16,16 @@ use Rattle.laws.specs.Integers as Z
 use Rattle.laws.specs.Lists.{at, all}
 use Rattle.laws.specs.Tabs.{padded-size, padded-at, map-tab}
 use Rattle.laws.specs.Tests.{first, second, orders, all-tab}
-use Rattle.meaning.specs.Boxes.{sideAt, sidesOf}
+use Rattle.meaning.specs.Boxes.{side, sideAt, sidesOf}
 use Rattle.meaning.specs.Files.{Form}
 use Rattle.meaning.specs.Plants as P
 use Rattle.meaning.specs.Plants.{edgeLimit, bandLimit, limited, span, times, edgesAndBands, headed, column, wide}
 use Rattle.promises.specs.files.Forms as F
 use Rattle.promises.specs.files.Forms.{Right, times-right}
 use Rattle.promises.specs.files.Headers.{least-of, most-of}
-use Rattle.promises.specs.files.Sound.{Edges}
+use Rattle.promises.specs.files.Sound.{Bounded, Edges, Ranges}
 
 -- ---- the parts of the form, as facts
-
--- a..b lies within ± a limit
-pub record Spans (limit : ℕ) (a b : ℤ) : Type 0 where
-  pub low : natAbs a ≤ limit
-  pub high : natAbs b ≤ limit
-  pub order : a ≤ℤ b
 
 module _ (vs : List ℤ) where
   pub limited-right : (limit : ℕ) (rest : Form) (i : ℕ) → Right (limited limit rest) vs i → (natAbs (at vs i) ≤ limit) × Right rest vs (i + 1)
@@ -41,7 +35,7 @@ module _ (vs : List ℤ) where
       let k = orders (negℤ (pos limit)) z z (pos limit) (h .0) in
       (Z.within limit (k .0) (k .1), h .1)
 
-  pub span-right : (limit : ℕ) (rest : Form) (i : ℕ) → Right (span limit rest) vs i → Spans limit (at vs i) (at vs (i + 1)) × Right rest vs (i + 2)
+  pub span-right : (limit : ℕ) (rest : Form) (i : ℕ) → Right (span limit rest) vs i → Bounded limit (side (at vs i) (at vs (i + 1))) × Right rest vs (i + 2)
   unfolding F.Right
   span-right limit rest i h =
       let a = at vs i in
@@ -54,8 +48,8 @@ module _ (vs : List ℤ) where
 
   -- R lo, R hi, S lo, S hi
   record EdgesAt (i : ℕ) : Type 0 where
-    root : Spans edgeLimit (at vs i) (at vs (i + 1))
-    safe : Spans edgeLimit (at vs (i + 2)) (at vs (i + 2 + 1))
+    root : Bounded edgeLimit (side (at vs i) (at vs (i + 1)))
+    safe : Bounded edgeLimit (side (at vs (i + 2)) (at vs (i + 2 + 1)))
 
   edges-right : (rest : Form) (i : ℕ) → Right (span edgeLimit (span edgeLimit rest)) vs i → EdgesAt i × Right rest vs (i + 4)
   edges-right rest i h =
@@ -67,14 +61,12 @@ module _ (vs : List ℤ) where
 -- ---- the arrays of edges and bands
 
 module _ (vs : List ℤ) (n : ℕ) where
-  column-edges : (limit from to by : ℕ) → n ≤ 4 → to ≡ from + 1 → ((i : ℕ) → i < n → Spans limit (at vs (from + by * i)) (at vs (from + by * i + 1)))
+  column-edges : (limit from to by : ℕ) → n ≤ 4 → to ≡ from + 1 → ((i : ℕ) → i < n → Bounded limit (side (at vs (from + by * i)) (at vs (from + by * i + 1))))
       → Edges limit n (column vs from by n) (column vs to by n)
   column-edges limit from to by few e spans = record {
     lo-size = padded-size (λ i. at vs (from + by * i)) 4 n few;
     hi-size = padded-size (λ i. at vs (to + by * i)) 4 n few;
-    low = λ i h. rw (lo-at i h) (spans i h .low);
-    high = λ i h. rw (hi-at i h) (spans i h .high);
-    order = λ i h. rw (lo-at i h, hi-at i h) (spans i h .order);
+    sides = λ i h. rw (lo-at i h, hi-at i h) (spans i h);
   }
     where
       lo-at : (i : ℕ) → i < n → at (column vs from by n) i ≡ at vs (from + by * i)
@@ -92,25 +84,14 @@ wide-bands q n lo hi e i h =
 
 -- ---- header, edges and bands
 
--- the third number of the header is in 1..most
-pub record Framed (most : ℕ) (vs : List ℤ) (n m q k d : ℕ) : Type 0 where
-  pub n-low : 1 ≤ n
-  pub n-high : n ≤ 4
-  pub m-low : 1 ≤ m
-  pub m-high : m ≤ most
-  pub q-low : 1 ≤ q
-  pub q-high : q ≤ 10_000
-  pub k-low : 1 ≤ k
-  pub k-high : k ≤ 6
-  pub d-high : d ≤ 6
-  pub nd-high : n * d ≤ 12
-  pub root : Edges edgeLimit n (column vs 6 4 n) (column vs 7 4 n)
-  pub safe : Edges edgeLimit n (column vs 8 4 n) (column vs 9 4 n)
-  pub band : Edges bandLimit n (column vs (6 + 4 * n) 2 n) (column vs (7 + 4 * n) 2 n)
+-- the values of a file as arrays
+abbrev pub RangesAt : ℕ → List ℤ → ℕ → ℕ → ℕ → ℕ → ℕ → Type 0
+RangesAt most vs n m q k d =
+    Ranges most n m q k d (column vs 6 4 n) (column vs 7 4 n) (column vs 8 4 n) (column vs 9 4 n) (column vs (6 + 4 * n) 2 n) (column vs (7 + 4 * n) 2 n)
 
 -- and what comes behind
 pub framed : (most : ℕ) (rest : ℕ → ℕ → Form) (vs : List ℤ) → Right (headed most (λ n m. edgesAndBands n (rest n m))) vs 0
-    → Framed most vs (natAbs (at vs 1)) (natAbs (at vs 2)) (natAbs (at vs 3)) (natAbs (at vs 4)) (natAbs (at vs 5))
+    → RangesAt most vs (natAbs (at vs 1)) (natAbs (at vs 2)) (natAbs (at vs 3)) (natAbs (at vs 4)) (natAbs (at vs 5))
     × Right (rest (natAbs (at vs 1)) (natAbs (at vs 2))) vs (6 + 4 * natAbs (at vs 1) + 2 * natAbs (at vs 1))
 unfolding F.Right P.headed P.edgesAndBands
 framed most rest vs h =
@@ -121,7 +102,7 @@ framed most rest vs h =
     let d = natAbs (at vs 5) in
     let few = most-of 1 4 n (h .1 .0) in
     let edges = times-right vs (λ more. span edgeLimit (span edgeLimit more)) 4 (EdgesAt vs) (edges-right vs) n (times n (span bandLimit) (rest n m)) 6 (h .1 .1 .1 .1 .1 .1) in
-    let bands = times-right vs (span bandLimit) 2 (λ i. Spans bandLimit (at vs i) (at vs (i + 1))) (span-right vs bandLimit) n (rest n m) (6 + 4 * n) (edges .1) in (
+    let bands = times-right vs (span bandLimit) 2 (λ i. Bounded bandLimit (side (at vs i) (at vs (i + 1)))) (span-right vs bandLimit) n (rest n m) (6 + 4 * n) (edges .1) in (
       record {
         n-low = least-of 1 4 n (h .1 .0);
         n-high = few;

@@ -1,5 +1,5 @@
 -- What document 01 says of the numbers of a plant ("The plant and its readings"), as facts: its ranges, every lo ≤ its hi, R within S, each
--- band wide enough. Definitions alone; a plant that was judged good is sound (page Judged).
+-- band wide enough; the ranges are said once, of a sheet's numbers too. Definitions alone; a plant that was judged good is sound (page Judged).
 use Prim.Native.Nat.{ℕ, _+_, _*_, _≤_, _<_}
 use mathlib.Core.Path.{_≡_}
 use mathlib.Core.Bool.{true}
@@ -9,31 +9,39 @@ use lib.IntN.{ℤ, pos, natAbs, _-ℤ_}
 use lib.Signed.{_≤ℤ_}
 use Rattle.laws.specs.Lists.{at}
 use Rattle.meaning.specs.declared.Plant.{Plant}
-use Rattle.meaning.specs.Boxes.{within}
+use Rattle.meaning.specs.Boxes.{Side, sideAt, within}
 use Rattle.meaning.specs.Plants.{edgeLimit, bandLimit, entryLimit, offsetLimit, rootOf, safeOf, rowStart}
 
--- the first n of two arrays of 4 edges: within ± a limit, and lo ≤ hi
+-- a side within ± a limit, and not empty
+pub record Bounded (limit : ℕ) (s : Side) : Type 0 where
+  pub low : natAbs (s .lo) ≤ limit
+  pub high : natAbs (s .hi) ≤ limit
+  pub order : s .lo ≤ℤ s .hi
+
+-- the first n sides of two arrays of 4 edges
 pub record Edges (limit n : ℕ) (lo hi : List ℤ) : Type 0 where
   pub lo-size : length lo ≡ 4
   pub hi-size : length hi ≡ 4
-  pub low : (i : ℕ) → i < n → natAbs (at lo i) ≤ limit
-  pub high : (i : ℕ) → i < n → natAbs (at hi i) ≤ limit
-  pub order : (i : ℕ) → i < n → at lo i ≤ℤ at hi i
+  pub sides : (i : ℕ) → i < n → Bounded limit (sideAt lo hi i)
+
+-- header, R, S and w, of a plant and of a sheet; the third number of the header, N or r, is in 1..most
+pub record Ranges (most n m q k d : ℕ) (rlo rhi slo shi wlo whi : List ℤ) : Type 0 where
+  pub n-low : 1 ≤ n
+  pub n-high : n ≤ 4
+  pub m-low : 1 ≤ m
+  pub m-high : m ≤ most
+  pub q-low : 1 ≤ q
+  pub q-high : q ≤ 10_000
+  pub k-low : 1 ≤ k
+  pub k-high : k ≤ 6
+  pub d-high : d ≤ 6
+  pub nd-high : n * d ≤ 12
+  pub root : Edges edgeLimit n rlo rhi
+  pub safe : Edges edgeLimit n slo shi
+  pub band : Edges bandLimit n wlo whi
 
 pub record Sound (p : Plant) : Type 0 where
-  pub n-low : 1 ≤ p .n
-  pub n-high : p .n ≤ 4
-  pub modes-low : 1 ≤ p .modes
-  pub modes-high : p .modes ≤ 16
-  pub q-low : 1 ≤ p .q
-  pub q-high : p .q ≤ 10_000
-  pub k-low : 1 ≤ p .k
-  pub k-high : p .k ≤ 6
-  pub d-high : p .d ≤ 6
-  pub nd-high : p .n * p .d ≤ 12
-  pub root : Edges edgeLimit (p .n) (p .rlo) (p .rhi)
-  pub safe : Edges edgeLimit (p .n) (p .slo) (p .shi)
-  pub band : Edges bandLimit (p .n) (p .wlo) (p .whi)
+  pub ranges : Ranges 16 (p .n) (p .modes) (p .q) (p .k) (p .d) (p .rlo) (p .rhi) (p .slo) (p .shi) (p .wlo) (p .whi)
   pub root-safe : within (rootOf p) (safeOf p) ≡ true
   pub wide : (i : ℕ) → i < p .n → (pos (p .q) -ℤ pos 1) ≤ℤ (at (p .whi) i -ℤ at (p .wlo) i)
   -- row i of mode u, its n entries of A and b_i behind them

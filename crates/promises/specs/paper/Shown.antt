@@ -143,11 +143,11 @@ pub chosen-shown : (plant table : List ℕ) (t : Tiled plant table) (x : List �
     ≡ shows 0 0 0 (pos (c .first) ∷ pos (stateWith (c .later) (nextPlace (firstPlace (rulesOf (t .p)) (c .the)) (c .first)) .place) ∷ pos (length (c .later)) ∷ []))
 chosen-shown plant table t x h =
     let c = chosen plant table t x h in
-    (c, ap foundShown (c .found), ap answerShown (c .answered) ∙ left (c .later) (c .first) (nextPlace (firstPlace (rulesOf (t .p)) (c .the)) (c .first)))
+    (c, ap foundShown (c .found), ap answerShown (c .answered) ∙ state-shown (c .later) (c .first) (nextPlace (firstPlace (rulesOf (t .p)) (c .the)) (c .first)))
   where
-    left : (us : List ℕ) (u place : ℕ) → answerShown (Answer.Mode u (stateWith us place)) ≡ shows 0 0 0 (pos u ∷ pos (stateWith us place .place) ∷ pos (length us) ∷ [])
-    left [] u place = refl
-    left (v ∷ us) u place = refl
+    state-shown : (us : List ℕ) (u place : ℕ) → answerShown (Answer.Mode u (stateWith us place)) ≡ shows 0 0 0 (pos u ∷ pos (stateWith us place .place) ∷ pos (length us) ∷ [])
+    state-shown [] u place = refl
+    state-shown (v ∷ us) u place = refl
 
 -- ---- S9: no call of a run on an accepted table shows another number than 0, and each shows a mode of the plant
 

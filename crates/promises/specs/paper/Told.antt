@@ -148,7 +148,7 @@ checker-told plant table e = go (plantJudged plant) refl
 
     go : (j : Judged Plant) → plantJudged plant ≡ j → onPlant j Verdict.Refused (λ p. verdict (rulesOf p) table) ≡ Verdict.Refused e → Told plant table checkerNumbers e
     go (bad f) q a = let z : f ≡ e = cc in let w = rw z at q in of-plant w (plant-told plant e w)
-    go (good p) q a = of-table p q (of (rulesOf p) (verdict (rulesOf p) table) (verdict-tells (rulesOf p) table (judged-sound plant p q .k-high)) a)
+    go (good p) q a = of-table p q (of (rulesOf p) (verdict (rulesOf p) table) (verdict-tells (rulesOf p) table (judged-sound plant p q .ranges .k-high)) a)
 
 pub controller-told : (plant table : List ℕ) (st : State) (x : List ℤ) (e : Refusal) → controlled plant table st x ≡ Answer.Refused e
     → Told plant table controllerNumbers e
@@ -162,7 +162,7 @@ controller-told plant table st x e = go (plantJudged plant) refl
     go : (j : Judged Plant) → plantJudged plant ≡ j → onPlant j Answer.Refused (λ p. call (rulesOf p) table st x) ≡ Answer.Refused e → Told plant table controllerNumbers e
     go (bad f) q a = let z : f ≡ e = cc in let w = rw z at q in of-plant w (plant-told plant e w)
     go (good p) q a =
-        let n = judged-sound plant p q .n-high in
+        let n = judged-sound plant p q .ranges .n-high in
         let sides : (lo hi : List ℤ) → length (sidesOf (p .n) lo hi) ≤ 4 = λ lo hi. omega (arith, length-tab (sideAt lo hi) (p .n) 0) in
         of-table p q (of (rulesOf p) (call (rulesOf p) table st x) (call-tells (rulesOf p) table
         (λ y. (fits-size (p .n) n (rootOf p) (sides (p .rlo) (p .rhi)) y, fits-size (p .n) n (safeOf p) (sides (p .slo) (p .shi)) y)) x st) a)

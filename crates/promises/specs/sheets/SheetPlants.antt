@@ -53,16 +53,16 @@ module _ (h : Sheet) (s : SoundSheet h) where
 
   edges-pass : (i : ℕ) → i < h .n → (rest : Form) (vs : List ℤ) → Passes rest vs → Passes (span edgeLimit (span edgeLimit rest)) (edges h i ++ vs)
   edges-pass i l rest vs p =
-      let r = s .ranges .root in
-      let t = s .ranges .safe in
-      span-passes edgeLimit (omega arith) (span edgeLimit rest) (at (h .rlo) i) (at (h .rhi) i) _ (r .low i l) (r .high i l) (r .order i l)
-      (span-passes edgeLimit (omega arith) rest (at (h .slo) i) (at (h .shi) i) vs (t .low i l) (t .high i l) (t .order i l) p)
+      let r = s .ranges .root .sides i l in
+      let t = s .ranges .safe .sides i l in
+      span-passes edgeLimit (omega arith) (span edgeLimit rest) (at (h .rlo) i) (at (h .rhi) i) _ (r .low) (r .high) (r .order)
+      (span-passes edgeLimit (omega arith) rest (at (h .slo) i) (at (h .shi) i) vs (t .low) (t .high) (t .order) p)
 
   -- lo ≤ hi is kept, and so is the width
   wider : (i : ℕ) → i < h .n → (at (h .wlo) i -ℤ pos (widening h)) ≤ℤ (at (h .whi) i +ℤ pos (widening h))
   wider i l =
       let w = pos (widening h) in
-      let k = s .ranges .band .order i l in
+      let k = s .ranges .band .sides i l .order in
       omega (zarith, k, sub (at (h .wlo) i) w, add (at (h .whi) i) w)
 
   ends-pass : (i : ℕ) → i < h .n → (rest : Form) (vs : List ℤ) → Passes rest vs → Passes (span bandLimit rest) (ends h i ++ vs)

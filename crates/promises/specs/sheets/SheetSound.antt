@@ -1,6 +1,6 @@
 -- What document 01 says of the whole numbers of a sheet ("The sheet"), as facts of one that was judged good: its ranges, every lo ≤ its hi, R within S, each
 -- band wide enough, and that the plant can hold every number made of it. Relies on pages Framed and Related. What is asked of its floats is page SheetFloats.
-use Prim.Native.Nat.{ℕ, _*_, _≤_, _<_}
+use Prim.Native.Nat.{ℕ, _<_}
 use mathlib.Core.Path.{_≡_, subst}
 use mathlib.Core.Bool.{true}
 use mathlib.Core.List.{List, map}
@@ -10,53 +10,25 @@ use Rattle.laws.specs.Lists.{at, all}
 use Rattle.meaning.specs.declared.Sheet.{Sheet}
 use Rattle.meaning.specs.Boxes.{within}
 use Rattle.meaning.specs.Files.{end, valuesOf, good}
-use Rattle.meaning.specs.Plants.{edgeLimit, bandLimit, times, wide}
+use Rattle.meaning.specs.Plants.{times, wide}
 use Rattle.meaning.specs.Sheets as S
 use Rattle.meaning.specs.Sheets.{floating, above, anyFloat, roomForm, sheetForm, sheetOf, madeNumbers, isNear, rootSheet, safeSheet, sheetJudged}
 use Rattle.promises.specs.files.Files.{file-writes}
 use Rattle.promises.specs.files.Forms.{Right, values-right}
 use Rattle.promises.specs.files.Framed.{wide-bands, framed}
 use Rattle.promises.specs.files.Related.{good-sheet}
-use Rattle.promises.specs.files.Sound.{Edges}
+use Rattle.promises.specs.files.Sound.{Ranges}
 
 -- the whole numbers, from the form that the sheet was read by
-pub record Ranges (h : Sheet) : Type 0 where
-  pub n-low : 1 ≤ h .n
-  pub n-high : h .n ≤ 4
-  pub r-low : 1 ≤ h .r
-  pub r-high : h .r ≤ 1_000
-  pub q-low : 1 ≤ h .q
-  pub q-high : h .q ≤ 10_000
-  pub k-low : 1 ≤ h .k
-  pub k-high : h .k ≤ 6
-  pub d-high : h .d ≤ 6
-  pub nd-high : h .n * h .d ≤ 12
-  pub root : Edges edgeLimit (h .n) (h .rlo) (h .rhi)
-  pub safe : Edges edgeLimit (h .n) (h .slo) (h .shi)
-  pub band : Edges bandLimit (h .n) (h .wlo) (h .whi)
+abbrev SheetRanges : Sheet → Type 0
+SheetRanges h = Ranges 1_000 (h .n) (h .r) (h .q) (h .k) (h .d) (h .rlo) (h .rhi) (h .slo) (h .shi) (h .wlo) (h .whi)
 
-right-ranges : (vs : List ℤ) → Right sheetForm vs 0 → Ranges (sheetOf vs)
+right-ranges : (vs : List ℤ) → Right sheetForm vs 0 → SheetRanges (sheetOf vs)
 unfolding S.sheetForm S.sheetOf
-right-ranges vs h =
-    let f = framed 1_000 (λ n r. floating above (floating anyFloat (times n (roomForm n) end))) vs h .0 in
-    record {
-      n-low = f .n-low;
-      n-high = f .n-high;
-      r-low = f .m-low;
-      r-high = f .m-high;
-      q-low = f .q-low;
-      q-high = f .q-high;
-      k-low = f .k-low;
-      k-high = f .k-high;
-      d-high = f .d-high;
-      nd-high = f .nd-high;
-      root = f .root;
-      safe = f .safe;
-      band = f .band;
-    }
+right-ranges vs h = framed 1_000 (λ n r. floating above (floating anyFloat (times n (roomForm n) end))) vs h .0
 
 pub record SoundSheet (h : Sheet) : Type 0 where
-  pub ranges : Ranges h
+  pub ranges : SheetRanges h
   pub root-safe : within (rootSheet h) (safeSheet h) ≡ true
   pub wide : (i : ℕ) → i < h .n → (pos (h .q) -ℤ pos 1) ≤ℤ (at (h .whi) i -ℤ at (h .wlo) i)
   pub fit : all (map isNear (madeNumbers h)) ≡ true
@@ -67,7 +39,7 @@ judged-sound s h e =
     let g = good-sheet (valuesOf sheetForm s) h e in
     let w = file-writes sheetForm s (g .was) in
     record {
-      ranges = subst Ranges (g .sheet) (right-ranges (g .values) (values-right sheetForm s 0 (g .values) (g .next) (w .0)));
+      ranges = subst SheetRanges (g .sheet) (right-ranges (g .values) (values-right sheetForm s 0 (g .values) (g .next) (w .0)));
       root-safe = g .root-safe;
       wide = wide-bands (h .q) (h .n) (h .wlo) (h .whi) (g .bands-wide);
       fit = g .fit;

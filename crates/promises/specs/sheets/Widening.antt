@@ -90,9 +90,9 @@ module _ (u : ℕ) where
         omega (arith, mul-le-mul-left u enough)
 
     -- what the whole row leaves, times u, is what the exact row leaves and the gap
-    left-over : (y : ℤ) → pos u *ℤ (pos q *ℤ y -ℤ (dot cs x +ℤ b)) ≡ pos (q * u) *ℤ y -ℤ (dot es x +ℤ f) -ℤ gap
+    residue : (y : ℤ) → pos u *ℤ (pos q *ℤ y -ℤ (dot cs x +ℤ b)) ≡ pos (q * u) *ℤ y -ℤ (dot es x +ℤ f) -ℤ gap
     unfolding gap
-    left-over y =
+    residue y =
         let d = dot cs x +ℤ b in
         let e = dot es x +ℤ f in
         let t = pos q *ℤ y in
@@ -106,7 +106,7 @@ module _ (u : ℕ) where
         let z = pos (q * u) *ℤ y -ℤ (dot es x +ℤ f) in
         let t = pos q *ℤ y -ℤ (dot cs x +ℤ b) in
         let k = orders (pos u *ℤ low) z z (pos u *ℤ high) r in
-        let c = left-over y in
+        let c = residue y in
         let l : (pos u *ℤ (low -ℤ pos wider)) ≤ℤ (pos u *ℤ t) =
         rw (mul-add (pos u) low (negℤ (pos wider)), mul-neg (pos u) (pos wider), c)
         (omega (zarith, k, sub z gap, add (pos u *ℤ low) (negℤ (pos (u * wider))), neg (pos (u * wider)), gap-size, abs gap)) in

@@ -15,7 +15,7 @@ use Rattle.laws.specs.Lists.{at, tab, all}
 use Rattle.laws.specs.Tabs.{length-tab}
 use Rattle.laws.specs.Tests.{first, second, all-tab}
 use Rattle.meaning.specs.declared.Plant.{Plant}
-use Rattle.meaning.specs.Boxes.{Side, sideAt, within}
+use Rattle.meaning.specs.Boxes.{Side, side, sideAt, within}
 use Rattle.meaning.specs.Files.{end, read, valuesAt}
 use Rattle.meaning.specs.Plants.{edgeLimit, span, rootOf, safeOf, stepOf}
 use Rattle.meaning.specs.Rules.{holds}
@@ -25,16 +25,12 @@ use Rattle.meaning.specs.Tables.{readingOf}
 use Rattle.promises.specs.tables.Boxes.{within-itself, within-trans, within-fits}
 use Rattle.promises.specs.files.Forms as F
 use Rattle.promises.specs.files.Forms.{Right, values-right, times-right}
-use Rattle.promises.specs.files.Framed.{Spans, span-right}
+use Rattle.promises.specs.files.Framed.{span-right}
 use Rattle.promises.specs.files.Headers.{most-of}
 use Rattle.promises.specs.tables.Laws.{Sizes, Splits, Motion}
 use Rattle.promises.specs.tables.PlantMotion.{splits-from, motion-from}
 use Rattle.promises.specs.tables.PlantRules.{sizes-over}
-use Rattle.promises.specs.files.Sound.{Sound}
-
--- a side within ± the limit of edges, lo ≤ hi
-abbrev pub Edged : Side → Type 0
-Edged s = Spans edgeLimit (s .lo) (s .hi)
+use Rattle.promises.specs.files.Sound.{Bounded, Sound}
 
 -- Ri of a plant
 abbrev pub boxOf : Plant → List ℤ → ℕ → List Side
@@ -43,7 +39,7 @@ boxOf p vs i = boxAt (p .n) (rootOf p) vs i
 -- the boxes that the values vs add to a plant's R
 pub record Chained (p : Plant) (vs : List ℤ) : Type 0 where
   pub few : above vs ≤ 8
-  pub sides : (i : ℕ) → i ≤ above vs → Every Edged (boxOf p vs i)
+  pub sides : (i : ℕ) → i ≤ above vs → Every (Bounded edgeLimit) (boxOf p vs i)
   pub in-next : (i : ℕ) → i < above vs → within (boxOf p vs i) (boxOf p vs (suc i)) ≡ true
   pub in-safe : (i : ℕ) → i ≤ above vs → within (boxOf p vs i) (safeOf p) ≡ true
 
@@ -51,27 +47,23 @@ pub record Chained (p : Plant) (vs : List ℤ) : Type 0 where
 
 -- m, and each pair of edges
 chain-right : (n : ℕ) (vs : List ℤ) → Right (chainForm n) vs 0
-    → (above vs ≤ 8) × ((t : ℕ) → t < above vs * n → Spans edgeLimit (at vs (2 + 2 * t)) (at vs (2 + 2 * t + 1)))
+    → (above vs ≤ 8) × ((t : ℕ) → t < above vs * n → Bounded edgeLimit (side (at vs (2 + 2 * t)) (at vs (2 + 2 * t + 1))))
 unfolding F.Right S.chainForm
 chain-right n vs h =
-    (most-of 0 8 (above vs) (h .1 .0), times-right vs (span edgeLimit) 2 (λ i. Spans edgeLimit (at vs i) (at vs (i + 1))) (span-right vs edgeLimit) (above vs * n) end 2 (h .1 .1) .0)
+    (most-of 0 8 (above vs) (h .1 .0), times-right vs (span edgeLimit) 2 (λ i. Bounded edgeLimit (side (at vs i) (at vs (i + 1)))) (span-right vs edgeLimit) (above vs * n) end 2 (h .1 .1) .0)
 
 pub chain-few : (n : ℕ) (vs : List ℤ) (s : List ℕ) (next : ℕ) → valuesAt (chainForm n) s 0 ≡ read vs next → above vs ≤ 8
 chain-few n vs s next e = chain-right n vs (values-right (chainForm n) s 0 vs next e) .0
 
 module _ (p : Plant) (sound : Sound p) (vs : List ℤ) where
   -- R itself has its edges from the plant
-  root-sides : Every Edged (rootOf p)
-  root-sides = every-tab Edged (sideAt (p .rlo) (p .rhi)) (p .n) 0 (λ j _ l. record {
-    low = sound .root .low j (omega arith);
-    high = sound .root .high j (omega arith);
-    order = sound .root .order j (omega arith);
-  })
+  root-sides : Every (Bounded edgeLimit) (rootOf p)
+  root-sides = every-tab (Bounded edgeLimit) (sideAt (p .rlo) (p .rhi)) (p .n) 0 (λ j _ l. sound .ranges .root .sides j (omega arith))
 
-  box-sides : ((t : ℕ) → t < above vs * p .n → Spans edgeLimit (at vs (2 + 2 * t)) (at vs (2 + 2 * t + 1))) → (i : ℕ) → i ≤ above vs → Every Edged (boxOf p vs i)
+  box-sides : ((t : ℕ) → t < above vs * p .n → Bounded edgeLimit (side (at vs (2 + 2 * t)) (at vs (2 + 2 * t + 1)))) → (i : ℕ) → i ≤ above vs → Every (Bounded edgeLimit) (boxOf p vs i)
   box-sides edges zero h = root-sides
   box-sides edges (suc i) h =
-      every-tab Edged (chainSide (p .n) vs i) (p .n) 0 (λ j _ l. edges (i * p .n + j) (omega (arith, mul-le-mul h (le-refl (p .n)))))
+      every-tab (Bounded edgeLimit) (chainSide (p .n) vs i) (p .n) 0 (λ j _ l. edges (i * p .n + j) (omega (arith, mul-le-mul h (le-refl (p .n)))))
 
   module _ (kept : all (tab (held (p .n) (rootOf p) vs (safeOf p)) (above vs) 0) ≡ true) where
     -- 15, box by box

@@ -72,7 +72,7 @@ started-length plant start t =
     let form = chainForm (p .n) in
     let b = 2 + most (2 ^ p .n) 7 (p .d) in
     let each : (i : ℕ) → i < length (t .tables) → length (getD (t .tables) i []) ≤ b = λ i l. over-most p s _ _ (box-size p (t .vs) i) (getD (t .tables) i []) (t .each i l) in
-    let small : b < 2 ^ 21 = omega (arith, L.cap (p .n) (p .d) (s .n-low) (s .n-high) (s .d-high) (s .nd-high)) in
+    let small : b < 2 ^ 21 = omega (arith, L.cap (p .n) (p .d) (s .ranges .n-low) (s .ranges .n-high) (s .ranges .d-high) (s .ranges .nd-high)) in
     let nine : length (t .tables) ≤ 9 = omega (arith, t .count, chain-few (p .n) (t .vs) start (t .next) (t .chain)) in
     omega (
       arith,
@@ -82,7 +82,7 @@ started-length plant start t =
       chain-longest (p .n) .most start 0 (t .chain),
       parts-length b small (t .tables) each,
       mul-le-mul nine (le-refl (3 + b)),
-      cap (p .n) (p .d) (s .n-low) (s .n-high) (s .d-high) (s .nd-high),
+      cap (p .n) (p .d) (s .ranges .n-low) (s .ranges .n-high) (s .ranges .d-high) (s .ranges .nd-high),
     )
 
 pub accepted-length : (plant start : List ℕ) → startChecked plant start ≡ Verdict.Accepted → length start ≤ 270_476

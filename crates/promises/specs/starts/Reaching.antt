@@ -23,7 +23,7 @@ use Rattle.meaning.specs.Files.{read, valuesAt, good}
 use Rattle.meaning.specs.Plants.{plantJudged, rootOf, safeOf}
 use Rattle.meaning.specs.Rules.{Rules, holds}
 use Rattle.meaning.specs.Starts as S
-use Rattle.meaning.specs.Starts.{chainForm, above, boxAt, held, chosen, onStart, boxRules, part, isIdle, stateIn, answerIn, callIn, idleStart, canIndex, startCall, startControlled}
+use Rattle.meaning.specs.Starts.{chainForm, above, boxAt, held, chosen, onStart, boxRules, part, isIdle, stateIn, answerIn, callIn, chosenCall, canIndex, startCall, startControlled}
 use Rattle.promises.specs.files.Judged.{judged-sound}
 use Rattle.promises.specs.tables.Modes.{isMode, call-below}
 use Rattle.promises.specs.starts.Before.{plant-went, chain-went}
@@ -96,7 +96,7 @@ module _ (plant start : List ℕ) (st : StartState) (x : List ℤ) where
     where
       go : (b : Bool) → isIdle (st .state) ≡ b → (b ≡ true → holds (boxRules (r .p) (r .vs) (above (r .vs))) (boxAt (r .p .n) (rootOf (r .p)) (r .vs) (above (r .vs))) x ≡ true)
           → TableAt start (cond b (chosen (r .p .n) (rootOf (r .p)) (r .vs) x) (st .index)) (r .next) (r .place) (r .size)
-          → choose b (λ _. idleStart (r .p) (r .vs) start (r .next) x) (λ _. callIn (r .p) (r .vs) start (r .next) (st .index) (st .state) x)
+          → choose b (λ _. chosenCall (r .p) (r .vs) start (r .next) x) (λ _. callIn (r .p) (r .vs) start (r .next) (st .index) (st .state) x)
           ≡ answerIn (cond b (chosen (r .p .n) (rootOf (r .p)) (r .vs) x) (st .index)) (r .place) (call (boxRules (r .p) (r .vs) (cond b (chosen (r .p .n) (rootOf (r .p)) (r .vs) x) (st .index))) (part start (r .place) (r .size)) (st .state) x)
       go true e inside there = rw (inside refl, idle-is (st .state) e) (on-part start StartAnswer.Refused _ there)
       go false e inside there = on-part start StartAnswer.Refused _ there
@@ -111,7 +111,7 @@ module _ (plant start : List ℕ) (st : StartState) (x : List ℤ) where
       of p (a .1) (b .0) (b .1) (b .2) (b .3) (b .4)
     where
       way : (p : Plant) (vs : List ℤ) (next : ℕ) (b : Bool)
-          → choose b (λ _. idleStart p vs start next x) (λ _. callIn p vs start next (st .index) (st .state) x) ≡ StartAnswer.Mode u then
+          → choose b (λ _. chosenCall p vs start next x) (λ _. callIn p vs start next (st .index) (st .state) x) ≡ StartAnswer.Mode u then
           → (b ≡ true → holds (boxRules p vs (above vs)) (boxAt (p .n) (rootOf p) vs (above vs)) x ≡ true)
           × (place size : ℕ) × TableAt start (cond b (chosen (p .n) (rootOf p) vs x) (st .index)) next place size
       way p vs next true e =

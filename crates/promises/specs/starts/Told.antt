@@ -29,7 +29,7 @@ use Rattle.meaning.specs.Plants.{plantJudged, rootOf, safeOf}
 use Rattle.meaning.specs.Refusals.{broken, unfit, badState, moved, verdictShown, writtenShown, startAnswerShown}
 use Rattle.meaning.specs.Rules.{Rules, holds}
 use Rattle.meaning.specs.Starts as S
-use Rattle.meaning.specs.Starts.{chainForm, above, onStart, boxRules, part, tablesAt, startChecked, startMade, startLeft, isIdle, answerIn, onPart, callIn, idleStart, canIndex, startCall, startControlled}
+use Rattle.meaning.specs.Starts.{chainForm, above, onStart, boxRules, part, tablesAt, startChecked, startMade, startLeft, isIdle, answerIn, onPart, callIn, chosenCall, canIndex, startCall, startControlled}
 use Rattle.meaning.specs.Tables.{readingOf, onPlant}
 use Rattle.meaning.specs.Verdicts.{tableEnd}
 use Rattle.promises.specs.sheets.Faults.{dimension-in, plant-told}
@@ -150,7 +150,7 @@ module _ (s : List ℕ) where
 
   module _ (p : Plant) (sound : Sound p) (vs : List ℤ) (at : ℕ) (inside : at ≤ length s) (x : List ℤ) where
     few : (b : List Side) → length b ≡ p .n → (y : List ℤ) → length (fits b (readingOf (p .n) y)) ≤ 4
-    few b e y = fits-size (p .n) (sound .n-high) b (omega (arith, sound .n-high)) y
+    few b e y = fits-size (p .n) (sound .ranges .n-high) b (omega (arith, sound .ranges .n-high)) y
 
     call-in-tells : (i : ℕ) (st : State) → Answers (callIn p vs s at i st x)
     call-in-tells i st =
@@ -160,7 +160,7 @@ module _ (s : List ℕ) where
     state-told : StartTelling startControllerNumbers (length s) badState
     state-told = record { number = refl; place = refl; step = refl }
 
-    idle-tells : Answers (idleStart p vs s at x)
+    idle-tells : Answers (chosenCall p vs s at x)
     idle-tells =
         let b = boxOf p vs (above vs) in
         guard-keeps Answers (holds (boxRules p vs (above vs)) b x) _
@@ -170,7 +170,7 @@ module _ (s : List ℕ) where
     start-call-tells : (st : StartState) → Answers (startCall p vs s at st x)
     start-call-tells st = guard-keeps Answers (canIndex p vs s at (st .index) (st .state)) _ (λ _. state-told) (λ _. go (isIdle (st .state)))
       where
-        go : (t : Bool) → Answers (choose t (λ _. idleStart p vs s at x) (λ _. callIn p vs s at (st .index) (st .state) x))
+        go : (t : Bool) → Answers (choose t (λ _. chosenCall p vs s at x) (λ _. callIn p vs s at (st .index) (st .state) x))
         go true = idle-tells
         go false = call-in-tells (st .index) (st .state)
 
@@ -187,7 +187,7 @@ start-checker-told plant start e q = of (startChecked plant start) q tells
     tells : VerdictIs (StartTold plant start startCheckerNumbers) (startChecked plant start)
     tells =
         begin-keeps (VerdictIs (StartTold plant start startCheckerNumbers)) Verdict.Refused plant start startCheckerNumbers refl (λ e t. t) (λ p vs next. tablesAt (boxRules p vs) start (above vs + 1) 0 next)
-        (λ p j vs next l. verdict-more (λ e t. of-start p j t) (tablesAt (boxRules p vs) start (above vs + 1) 0 next) (tables-tell start (boxRules p vs) (λ _. judged-sound plant p j .k-high) (above vs + 1) 0 next l))
+        (λ p j vs next l. verdict-more (λ e t. of-start p j t) (tablesAt (boxRules p vs) start (above vs + 1) 0 next) (tables-tell start (boxRules p vs) (λ _. judged-sound plant p j .ranges .k-high) (above vs + 1) 0 next l))
 
 pub start-maker-told : (plant chain buf : List ℕ) (e : Refusal) → startLeft plant chain buf .answer ≡ Written.Refused e → StartTold plant chain startMakerNumbers e
 unfolding S.startLeft

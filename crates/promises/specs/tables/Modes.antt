@@ -129,7 +129,7 @@ mode-most plant u = go (plantJudged plant) refl
   where
     go : (j : Judged Plant) → plantJudged plant ≡ j → onPlant j (λ _. false) (λ p. ltb u (p .modes)) ≡ true → u ≤ 15
     go (bad f) q e = never e
-    go (good p) q e = omega (arith, ltb-true u (p .modes) e, judged-sound plant p q .modes-high)
+    go (good p) q e = omega (arith, ltb-true u (p .modes) e, judged-sound plant p q .ranges .m-high)
 
 -- so one byte carries what is answered
 pub answered-most : (plant table : List ℕ) (st : State) (x : List ℤ) {u : ℕ} {then : State} → controlled plant table st x ≡ Answer.Mode u then → u ≤ 15

@@ -119,14 +119,14 @@ module _ (p : Plant) (s : Sound p) (u : ℕ) (b : List Side) (h : Boxed (p .n) b
   image-boxed : Boxed (p .n) (rulesOf p .image u b)
   image-boxed = rw image-sides (record {
     sides = length-tab sideBy (p .n) 0;
-    filled = every-tab (λ t. t .lo ≤ℤ t .hi) sideBy (p .n) 0 (λ i a c. side-filled (p .q) b (rowOf p u i) (s .q-low) (s .wide i (omega arith)) (h .filled));
+    filled = every-tab (λ t. t .lo ≤ℤ t .hi) sideBy (p .n) 0 (λ i a c. side-filled (p .q) b (rowOf p u i) (s .ranges .q-low) (s .wide i (omega arith)) (h .filled));
   })
 
   can-follow : (i : ℕ) → i < p .n → (v : ℤ) → Reached (p .q) b (rowOf p u i) v → CanFollow p u b i v
   can-follow i l v r =
       let x = r .point in
       let here : reached (p .q) x (rowOf p u (0 + i)) v ≡ true = rw zero-add (r .reaches) in
-      let w = beside (p .q) (s .q-low) x (rowOf p u) (p .n) 0 (λ k a c. s .wide k (omega arith)) i l v here in
+      let w = beside (p .q) (s .ranges .q-low) x (rowOf p u) (p .n) 0 (λ k a c. s .wide k (omega arith)) i l v here in
       let e = whole (p .n) x (held-size b x (r .held) ∙ h .sides) in
       let f = whole (p .n) (w .0) (reached-size (p .q) x (stepOf p u .rows) (w .0) (w .1) ∙ length-tab (rowOf p u) (p .n) 0) in
       record { point = x; held = rw e (r .held); reading = w .0; follows = rw (e, f) (w .1); count = w .2 }
@@ -139,7 +139,7 @@ module _ (p : Plant) (s : Sound p) (u : ℕ) (b : List Side) (h : Boxed (p .n) b
   }
     where
       edges : (i : ℕ) → i < p .n → Reached (p .q) b (rowOf p u i) (sideBy i .lo) × Reached (p .q) b (rowOf p u i) (sideBy i .hi)
-      edges i l = edges-reached (p .q) b (rowOf p u i) (s .q-low) (s .wide i l) (h .filled)
+      edges i l = edges-reached (p .q) b (rowOf p u i) (s .ranges .q-low) (s .wide i l) (h .filled)
 
 sound-along : (p : Plant) → Sound p → (us : List ℕ) (b : List Side) → Boxed (p .n) b → Along p b us (images (rulesOf p) b us)
 unfolding T.images
@@ -158,7 +158,7 @@ module _ (plant : List ℕ) (p : Plant) (e : plantJudged plant ≡ good p) where
   root-boxed =
       let s = judged-sound plant p e in
       let sides = sideAt (p .rlo) (p .rhi) in
-      record { sides = length-tab sides (p .n) 0; filled = every-tab (λ t. t .lo ≤ℤ t .hi) sides (p .n) 0 (λ i a c. s .root .order i (omega arith)) }
+      record { sides = length-tab sides (p .n) 0; filled = every-tab (λ t. t .lo ≤ℤ t .hi) sides (p .n) 0 (λ i a c. s .ranges .root .sides i (omega arith) .order) }
 
   -- each edge of an image is reached from the box
   pub image-reached : (u : ℕ) (b : List Side) → Boxed (p .n) b → ImageReached p u b

@@ -63,7 +63,7 @@ module _ (p : Plant) where
 
   module _ (s : Sound p) where
     pub motion : Motion (rulesOf p)
-    motion = motion-from (p .n) (p .modes) (p .k) (p .d) (rootOf p) (rootOf p) (safeOf p) (stepOf p) (λ u. s .q-low) (s .root-safe)
+    motion = motion-from (p .n) (p .modes) (p .k) (p .d) (rootOf p) (rootOf p) (safeOf p) (stepOf p) (λ u. s .ranges .q-low) (s .root-safe)
 
     -- S5: where a pattern works for a box, every run through it from a reading of the box stays in S and ends in R
     pub plant-works : (b : List Side) (us : List ℕ) → rule (rulesOf p) b us ≡ Works
@@ -75,6 +75,6 @@ module _ (p : Plant) where
     plant-follows u x =
         let z = readingOf (p .n) x in
         let wide : Every (Wide (p .q)) (stepOf p u .rows) = every-tab (Wide (p .q)) (rowOf p u) (p .n) 0 (λ i l h. s .wide i (omega arith)) in
-        let f = some-follows (stepOf p u) z (s .q-low) wide in
+        let f = some-follows (stepOf p u) z (s .ranges .q-low) wide in
         let e = reached-size (p .q) z (stepOf p u .rows) (f .0) (f .1) ∙ length-tab (rowOf p u) (p .n) 0 in
         (f .0, rw (whole (p .n) (f .0) e) (f .1))

@@ -33,7 +33,7 @@ use Rattle.promises.specs.files.Sound.{Sound}
 module _ (p : Plant) (s : Sound p) where
   -- n is at most 4, K at most 6, N at most 16: numbers of five bytes hold them, whatever is tiled and wherever patterns end
   pub sizes-over : (root goal : List Side) → Sizes (tableRules p root goal)
-  sizes-over root goal = record { dimensions = omega (arith, s .n-high); nodes = omega (arith, s .k-high); modes = omega (arith, s .modes-high) }
+  sizes-over root goal = record { dimensions = omega (arith, s .ranges .n-high); nodes = omega (arith, s .ranges .k-high); modes = omega (arith, s .ranges .m-high) }
 
   pub sizes : Sizes (rulesOf p)
   sizes = sizes-over (rootOf p) (rootOf p)
@@ -45,7 +45,7 @@ module _ (p : Plant) (s : Sound p) where
         arith,
         length-append (bytesOf 1) (bytesOf (p .n)),
         ap length (one-byte 1 (omega arith)),
-        ap length (one-byte (p .n) (omega (arith, s .n-high))),
+        ap length (one-byte (p .n) (omega (arith, s .ranges .n-high))),
       )
 
   pub table-size : (t : Tree) → length (tableOf (rulesOf p) t) ≡ 2 + length (layout t)

@@ -191,10 +191,10 @@ module _ (p : Plant) (s : Sound p) (root goal : List Side) (sides : length root 
   pub over-most : length table ≤ 2 + most (2 ^ p .n) 7 (p .d)
   over-most =
       let t = accepted-exactly (tableRules p root goal) (sizes-over p s root goal) table .0 a in
-      rw (t .2) (table-length (p .n) (p .modes) (p .k) (p .d) root goal (safeOf p) (stepOf p) (s .n-high) (omega (arith, s .modes-high)) (s .k-high) sides (t .0) (t .1))
+      rw (t .2) (table-length (p .n) (p .modes) (p .k) (p .d) root goal (safeOf p) (stepOf p) (s .ranges .n-high) (omega (arith, s .ranges .m-high)) (s .ranges .k-high) sides (t .0) (t .1))
 
   pub over-box : length table ≤ 30_039
-  over-box = omega (arith, over-most, cap (p .n) (p .d) (s .n-low) (s .n-high) (s .d-high) (s .nd-high))
+  over-box = omega (arith, over-most, cap (p .n) (p .d) (s .ranges .n-low) (s .ranges .n-high) (s .ranges .d-high) (s .ranges .nd-high))
 
 pub at-most : (plant table : List ℕ) → checked plant table ≡ Verdict.Accepted → length table ≤ 30_039
 at-most plant table a =

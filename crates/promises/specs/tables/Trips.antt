@@ -35,7 +35,7 @@ module _ {State Reading : Type 0} (idle : State) (gives : State → Reading → 
       Leads = Samples idle gives starts follows
 
       -- a trip of m samples, by what they lead to
-      pub record Made (m : ℕ) (x : Reading) : Type 0 where
+      pub record Travelled (m : ℕ) (x : Reading) : Type 0 where
         pub some : 1 ≤ m
         -- while there are fewer, the reading lies in S, the call is answered, and only the first is idle
         pub during : {i : ℕ} {st : State} {y : Reading} → Leads i idle x st y → i < m
@@ -49,10 +49,10 @@ module _ {State Reading : Type 0} (idle : State) (gives : State → Reading → 
       after (next {m = i} g f rest) zero l h = absurd (omega arith)
       after (next {m = i} g f rest) (suc m) l h = let e : suc m - suc i ≡ m - i = omega arith in rw e (after rest m (omega arith) (h .2 .leads g f))
 
-      pub made : (m : ℕ) (x : Reading) → Trip m x → Made m x
+      pub travelled : (m : ℕ) (x : Reading) → Trip m x → Travelled m x
       unfolding ToGo
-      made zero x t = absurd t
-      made (suc m) x t = record { some = omega arith; during = during; ends = λ k. ends k refl }
+      travelled zero x t = absurd t
+      travelled (suc m) x t = record { some = omega arith; during = during; ends = λ k. ends k refl }
         where
           going : (k : ℕ) {st : State} {y : Reading} → 1 ≤ k → ToGo k st y → (safe y ≡ true) × (st ≡ idle → ⊥) × Answered st y
           going zero l h = absurd (omega arith)
@@ -122,7 +122,7 @@ module _ {State Reading : Type 0} (idle : State) (gives : State → Reading → 
           in-root = λ run. idle-begins (run-goes run) refl;
           returns = λ {x} run.
               let w = trips x (idle-begins (run-goes run) refl) in
-              let t = made (w .0) x (w .2) in
+              let t = travelled (w .0) x (w .2) in
               (w .0, t .some, w .1, λ st y k. let e = t .ends k in record { again = e .1; in-goal = e .2; in-root = home y (e .2) });
         }
 

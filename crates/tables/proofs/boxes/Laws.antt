@@ -19,7 +19,8 @@ use Rattle.laws.specs.Lists.{at, tab}
 use Rattle.laws.specs.Tabs.{tab-step, tab-done, tab-snoc, tab-same, at-below, at-stored}
 use Rattle.meaning.specs.Boxes.{Side, side, sideAt, has, fits, covers, lies, long, middle, inFront, pieces, anyLong, children}
 use Rattle.promises.specs.tables.Boxes.{middle-in}
-use Rattle.tables.specs.Boxes.{Bounded, Small, lower, upper, pieceOf, restOf}
+use Rattle.tables.specs.Boxes.{Small, lower, upper, pieceOf, restOf}
+use Rattle.promises.specs.files.Sound.{Bounded}
 
 -- ---- boxes by their number
 
@@ -204,32 +205,32 @@ module _ (lo hi : List ℤ) (j : ℕ) (u v : ℤ) (h : j < length lo) (k : j < l
   sides-stored =
       tab-snoc (sideAt (set lo j u) (set hi j v)) j 0 ∙ rw (tab-same (sideAt (set lo j u) (set hi j v)) (sideAt lo hi) j 0 kept, new) refl
 
--- of a child of the box bl, bh the sides that are done stand in lo, hi; m sides are left
+-- of a child of the box bl, bh the sides that are done stand in lo, hi; `due` sides are not
 abbrev pub Cut : List ℤ → List ℤ → List ℤ → List ℤ → ℕ → ℕ → ℕ → List Side → Type 0
-Cut bl bh lo hi n left bits whole = tab (sideAt lo hi) (n - left) 0 ++ childAt (tab (sideAt bl bh) left (n - left)) bits ≡ whole
+Cut bl bh lo hi n due bits whole = tab (sideAt lo hi) (n - due) 0 ++ childAt (tab (sideAt bl bh) due (n - due)) bits ≡ whole
 
 pub cut-none : (bl bh lo hi : List ℤ) (n bits : ℕ) → Cut bl bh lo hi n n bits (childAt (tab (sideAt bl bh) n 0) bits)
 unfolding tab
 cut-none bl bh lo hi n bits = let q : n - n ≡ 0 = omega arith in rw q refl
 
-module _ (bl bh lo hi : List ℤ) (n left bits : ℕ) (whole : List Side) where
-  pub cut-done : left ≡ 0 → Cut bl bh lo hi n left bits whole → tab (sideAt lo hi) n 0 ≡ whole
+module _ (bl bh lo hi : List ℤ) (n due bits : ℕ) (whole : List Side) where
+  pub cut-done : due ≡ 0 → Cut bl bh lo hi n due bits whole → tab (sideAt lo hi) n 0 ≡ whole
   unfolding tab childAt
   cut-done e c =
-      let q : n - left ≡ n = omega arith in
+      let q : n - due ≡ n = omega arith in
       sym (append-nil (tab (sideAt lo hi) n 0)) ∙ (rw (q, e) at c)
 
-  cut-step : 0 < left → childAt (tab (sideAt bl bh) left (n - left)) bits
-      ≡ pieceOf (sideAt bl bh (n - left)) bits ∷ childAt (tab (sideAt bl bh) (left - 1) (n - left + 1)) (restOf (sideAt bl bh (n - left)) bits)
+  cut-step : 0 < due → childAt (tab (sideAt bl bh) due (n - due)) bits
+      ≡ pieceOf (sideAt bl bh (n - due)) bits ∷ childAt (tab (sideAt bl bh) (due - 1) (n - due + 1)) (restOf (sideAt bl bh (n - due)) bits)
   unfolding tab childAt
-  cut-step p = let q : left ≡ suc (left - 1) = omega arith in ap (λ (m : ℕ). childAt (tab (sideAt bl bh) m (n - left)) bits) q
+  cut-step p = let q : due ≡ suc (due - 1) = omega arith in ap (λ (m : ℕ). childAt (tab (sideAt bl bh) m (n - due)) bits) q
 
-  pub cut-more : (u v : ℤ) (y : ℕ) → 0 < left → left ≤ n → n - left < length lo → n - left < length hi
-      → side u v ≡ pieceOf (sideAt bl bh (n - left)) bits → y ≡ restOf (sideAt bl bh (n - left)) bits
-      → Cut bl bh lo hi n left bits whole → Cut bl bh (set lo (n - left) u) (set hi (n - left) v) n (left - 1) y whole
+  pub cut-more : (u v : ℤ) (y : ℕ) → 0 < due → due ≤ n → n - due < length lo → n - due < length hi
+      → side u v ≡ pieceOf (sideAt bl bh (n - due)) bits → y ≡ restOf (sideAt bl bh (n - due)) bits
+      → Cut bl bh lo hi n due bits whole → Cut bl bh (set lo (n - due) u) (set hi (n - due) v) n (due - 1) y whole
   cut-more u v y p l g h e f c =
-      let q : n - (left - 1) ≡ n - left + 1 = omega arith in
-      rw (q, sides-stored lo hi (n - left) u v g h, append-assoc (tab (sideAt lo hi) (n - left) 0) (side u v ∷ []) (childAt (tab (sideAt bl bh) (left - 1) (n - left + 1)) y), e, f)
+      let q : n - (due - 1) ≡ n - due + 1 = omega arith in
+      rw (q, sides-stored lo hi (n - due) u v g h, append-assoc (tab (sideAt lo hi) (n - due) 0) (side u v ∷ []) (childAt (tab (sideAt bl bh) (due - 1) (n - due + 1)) y), e, f)
       (rw (cut-step p) at c)
 
 -- the count, with j sides behind it

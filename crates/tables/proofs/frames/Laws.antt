@@ -14,7 +14,7 @@ use Rattle.tables.specs.declared.frames.Counts.{Counts}
 use Rattle.tables.specs.Boxes.{boxOf, Small}
 use Rattle.tables.specs.Images.{RowSound, StepSound}
 use Rattle.tables.specs.Frames.{frameOf, countsOf, edgesOf, frameFrom, FrameSound}
-use Rattle.promises.specs.files.Sound.{Edges, Sound}
+use Rattle.promises.specs.files.Sound.{Edges, Ranges, Sound}
 use Rattle.tables.proofs.boxes.Laws.{small-tab}
 
 -- ---- what a sound frame gives
@@ -35,7 +35,7 @@ module _ (f : Frame) (c : Counts) (edges : List (List ℤ)) (p : c ≡ countsOf 
 
 edges-small : {k n : ℕ} {lo hi : List ℤ} → Edges k n lo hi → Small k (sidesOf n lo hi)
 edges-small {k} {n} {lo} {hi} e =
-    small-tab (sideAt lo hi) n 0 (λ j a b. record { low = e .low j (omega arith); high = e .high j (omega arith); order = e .order j (omega arith) })
+    small-tab (sideAt lo hi) n 0 (λ j a b. e .sides j (omega arith))
 
 -- row i of mode u ends before 320
 row-inside : (n modes u i : ℕ) → n ≤ 4 → modes ≤ 16 → u < modes → i < n → rowStart n u i + n < 320
@@ -47,29 +47,32 @@ row-inside n modes u i h m l k =
     omega (arith, mul-le-mul d b)
 
 module _ (p : Plant) (g : Sound p) where
+  r : Ranges 16 (p .n) (p .modes) (p .q) (p .k) (p .d) (p .rlo) (p .rhi) (p .slo) (p .shi) (p .wlo) (p .whi)
+  r = g .ranges
+
   row-sound : (u i : ℕ) → u < p .modes → i < p .n → RowSound (p .n) (p .coef) (rowStart (p .n) u i)
   row-sound u i h k = record {
-    some = g .n-low;
-    rooms = g .n-high;
-    inside = row-inside (p .n) (p .modes) u i (g .n-high) (g .modes-high) h k;
+    some = r .n-low;
+    rooms = r .n-high;
+    inside = row-inside (p .n) (p .modes) u i (r .n-high) (r .m-high) h k;
     entries = λ j l. g .entries u i j h k l;
     offset = g .offsets u i h k;
   }
 
   pub own-sound : FrameSound (frameOf p) (p .coef)
   own-sound = record {
-    some = g .n-low;
-    rooms = g .n-high;
-    longest = g .k-high;
-    least = g .q-low;
-    most = g .q-high;
-    modes = g .modes-high;
-    depth = g .d-high;
-    tiles = g .nd-high;
-    root = edges-small (g .root);
-    goal = edges-small (g .root);
-    safe = edges-small (g .safe);
-    band = edges-small (g .band);
+    some = r .n-low;
+    rooms = r .n-high;
+    longest = r .k-high;
+    least = r .q-low;
+    most = r .q-high;
+    modes = r .m-high;
+    depth = r .d-high;
+    tiles = r .nd-high;
+    root = edges-small (r .root);
+    goal = edges-small (r .root);
+    safe = edges-small (r .safe);
+    band = edges-small (r .band);
     in-safe = g .root-safe;
     wide = g .wide;
     rows = row-sound;

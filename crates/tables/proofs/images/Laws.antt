@@ -19,7 +19,8 @@ use Rattle.meaning.specs.Boxes.{Side, side, sideAt, covers, within}
 use Rattle.meaning.specs.Images.{Row, leastOf, greatestOf, extreme, imageSide, image}
 use Rattle.meaning.specs.Plants.{edgeLimit, entryLimit}
 use Rattle.tables.specs.declared.frames.Frame.{Frame}
-use Rattle.tables.specs.Boxes.{boxOf, Bounded, Small}
+use Rattle.tables.specs.Boxes.{boxOf, Small}
+use Rattle.promises.specs.files.Sound.{Bounded}
 use Rattle.tables.specs.Images.{termLimit, rowLimit, entryAt, entriesOf, rowFrom, stepFrom, RowSound, Extremes}
 use Rattle.tables.specs.Frames.{FrameSound}
 use Rattle.tables.proofs.boxes.Laws.{small-at, small-tab, small-side, between, sides-stored, lies-tab}

@@ -14,7 +14,7 @@ use Rattle.laws.specs.Tabs.{at-stored}
 use Rattle.laws.specs.Expressions.{Ex, var, lit, _⊕_, _⊝_, _⊗_, bound, size, exact}
 use Rattle.meaning.specs.Boxes.{Side, side}
 use Rattle.meaning.specs.Plants.{edgeLimit, bandLimit}
-use Rattle.tables.specs.Boxes.{Bounded}
+use Rattle.promises.specs.files.Sound.{Bounded}
 use Rattle.tables.specs.Levels.{room, sideIn, stored}
 use Rattle.tables.specs.Limits.{limitSide, safeAt, goalAt, bandAt, marksAt, lastEntries, Laid, Marked}
 use Rattle.tables.proofs.levels.Laws.{at-other, length-stored, stored-other, stored-more}

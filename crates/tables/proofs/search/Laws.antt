@@ -52,11 +52,8 @@ module _ (w : Moves) where
   abbrev tried : ℕ → List Side → ℕ → Option (List ℕ)
   tried = behind w
 
-  abbrev left : ℕ → List Side → ℕ → List Level → Option (List ℕ)
-  left = rest w
-
   -- nothing is tried yet
-  pub rest-all : (j : ℕ) (b : List Side) → left j b 0 [] ≡ sought w j b
+  pub rest-all : (j : ℕ) (b : List Side) → rest w j b 0 [] ≡ sought w j b
   unfolding leftBelow begun
   rest-all j b = rw sub-zero (go (firstMode (tried j b) (w .modes) 0))
     where
@@ -67,21 +64,21 @@ module _ (w : Moves) where
   module _ (j : ℕ) (b : List Side) (u : ℕ) where
     -- a level is done: the one below it moves on
     module _ (h : w .modes ≤ u) where
-      pub rest-done : left j b u [] ≡ none
+      pub rest-done : rest w j b u [] ≡ none
       unfolding leftBelow
       rest-done = rw (modes-over (tried j b) (w .modes) u h) refl
 
-      pub rest-over : (v : Level) (below : List Level) → left j b u (v ∷ below) ≡ left (suc j) (v .box) (v .mode + 1) below
+      pub rest-over : (v : Level) (below : List Level) → rest w j b u (v ∷ below) ≡ rest w (suc j) (v .box) (v .mode + 1) below
       unfolding leftBelow
       rest-over v below = rw (modes-over (tried j b) (w .modes) u h, add-one) refl
 
     module _ (h : u < w .modes) (below : List Level) where
       -- nothing is found behind mode u
-      pub rest-pass : tried j b u ≡ none → left j b u below ≡ left j b (u + 1) below
+      pub rest-pass : tried j b u ≡ none → rest w j b u below ≡ rest w j b (u + 1) below
       rest-pass e = rw (modes-miss (tried j b) (w .modes) u h e) refl
 
       -- its image stays: a level on top
-      pub rest-enter : w .stays u b ≡ true → left (suc j) b u below ≡ left j (w .image u b) 0 (level b u ∷ below)
+      pub rest-enter : w .stays u b ≡ true → rest w (suc j) b u below ≡ rest w j (w .image u b) 0 (level b u ∷ below)
       unfolding leftBelow begun behind
       rest-enter e = rw (modes-next (tried (suc j) b) (w .modes) u h, e, sub-zero, add-one) (go (firstMode (tried j (w .image u b)) (w .modes) 0))
         where
@@ -95,10 +92,10 @@ module _ (w : Moves) where
 
   -- the last level, whose modes are tried in one go: v is the first that lands, or their number
   module _ (b : List Side) (v : ℕ) (e : oneOf (w .modes) v ≡ firstMode (tried 0 b) (w .modes) 0) (below : List Level) where
-    pub rest-found : v < w .modes → left 0 b 0 below ≡ some (begun below (v ∷ []))
+    pub rest-found : v < w .modes → rest w 0 b 0 below ≡ some (begun below (v ∷ []))
     rest-found h = rw (sub-zero, ← e, lt-ltb v (w .modes) h) refl
 
-    pub rest-none : w .modes ≤ v → left 0 b 0 below ≡ left 0 b v below
+    pub rest-none : w .modes ≤ v → rest w 0 b 0 below ≡ rest w 0 b v below
     rest-none h = rw (modes-over (tried 0 b) (w .modes) v h, sub-zero, ← e, le-ltb v (w .modes) h) refl
 
   -- ---- the lengths up to k: those up to m modes are tried

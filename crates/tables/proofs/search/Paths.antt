@@ -89,7 +89,7 @@ module _ (n N q : ℕ) (coef limits : List ℤ) where
     pub standing : Standing n N q coef limits boxes us
     pub small : Small edgeLimit (levelIn n boxes l)
     pub below : Open N (levelsBelow n boxes us l)
-    pub left : rest (movesLent n N q coef limits) (m - l) (levelIn n boxes l) u (levelsBelow n boxes us l) ≡ whole
+    pub to-find : rest (movesLent n N q coef limits) (m - l) (levelIn n boxes l) u (levelsBelow n boxes us l) ≡ whole
 
   abbrev pub turnsAlong : ℕ → List ℤ → List ℕ → ℕ → ℕ → ℕ
   turnsAlong m boxes us l u = turnsLeft N (m - l) u (levelsBelow n boxes us l)
@@ -104,14 +104,14 @@ module _ (n N q : ℕ) (coef limits : List ℤ) where
       standing = g;
       small = s;
       below = tt;
-      left = let z : m - 0 ≡ m = omega arith in rw z (rest-all (movesLent n N q coef limits) m (levelIn n boxes 0));
+      to-find = let z : m - 0 ≡ m = omega arith in rw z (rest-all (movesLent n N q coef limits) m (levelIn n boxes 0));
     }
 
     module _ (whole : Option (List ℕ)) where
       -- the first level is done
       pub along-done : (l u : ℕ) → l ≡ 0 → N ≤ u → Along m whole boxes us l u → whole ≡ none
       unfolding levelsBelow
-      along-done zero u z h a = sym (a .left) ∙ rest-done (movesLent n N q coef limits) (m - 0) (levelIn n boxes 0) u h
+      along-done zero u z h a = sym (a .to-find) ∙ rest-done (movesLent n N q coef limits) (m - 0) (levelIn n boxes 0) u h
       along-done (suc i) u z h a = absurd (omega arith)
 
       -- another one is, and the level below it goes on behind its mode
@@ -128,7 +128,7 @@ module _ (n N q : ℕ) (coef limits : List ℤ) where
           standing = a .standing;
           small = a .below .0;
           below = a .below .2;
-          left = rw under (sym (rest-over (movesLent n N q coef limits) (m - suc i) (levelIn n boxes (suc i)) u h (level (levelIn n boxes i) (modeAt us i)) (levelsBelow n boxes us i)) ∙ a .left);
+          to-find = rw under (sym (rest-over (movesLent n N q coef limits) (m - suc i) (levelIn n boxes (suc i)) u h (level (levelIn n boxes i) (modeAt us i)) (levelsBelow n boxes us i)) ∙ a .to-find);
         }
 
         fewer : turnsAlong m boxes us i (modeAt us i + 1) < turnsAlong m boxes us (suc i) u
@@ -150,7 +150,7 @@ module _ (n N q : ℕ) (coef limits : List ℤ) where
         last = omega arith
 
         from-first : rest (movesLent n N q coef limits) 0 (levelIn n boxes l) 0 (levelsBelow n boxes us l) ≡ whole
-        from-first = let y : u ≡ 0 = a .fresh z h in rw (last, y) at (a .left)
+        from-first = let y : u ≡ 0 = a .fresh z h in rw (last, y) at (a .to-find)
 
         pub along-found : l < longestPattern → v < N → some (patternOf (m + 1) (set us l v)) ≡ whole
         along-found few k =
@@ -167,7 +167,7 @@ module _ (n N q : ℕ) (coef limits : List ℤ) where
             standing = a .standing;
             small = a .small;
             below = a .below;
-            left = rw last (sym (rest-none (movesLent n N q coef limits) (levelIn n boxes l) v landed (levelsBelow n boxes us l) k) ∙ from-first);
+            to-find = rw last (sym (rest-none (movesLent n N q coef limits) (levelIn n boxes l) v landed (levelsBelow n boxes us l) k) ∙ from-first);
           },
           let y : u ≡ 0 = a .fresh z h in rw (last, y) (turns-last N v (levelsBelow n boxes us l) (omega arith) k),
         )
@@ -195,9 +195,9 @@ module _ (n N q : ℕ) (coef limits : List ℤ) where
         standing = g;
         small = rw here-is (a .small);
         below = rw below-is (a .below);
-        left =
+        to-find =
             rw (here-is, below-is)
-            (sym (rest-pass (movesLent n N q coef limits) (m - l) (levelIn n boxes₀ l) u h (levelsBelow n boxes₀ us₀ l) (rw (more, ← e) refl)) ∙ a .left);
+            (sym (rest-pass (movesLent n N q coef limits) (m - l) (levelIn n boxes₀ l) u h (levelsBelow n boxes₀ us₀ l) (rw (more, ← e) refl)) ∙ a .to-find);
       }
 
       pub along-on : Along m whole boxes us l (u + 1) × (turnsAlong m boxes us l (u + 1) < turnsAlong m boxes₀ us₀ l u)
@@ -221,9 +221,9 @@ module _ (n N q : ℕ) (coef limits : List ℤ) where
         standing = g;
         small = rw top-is (t .small u (levelIn n boxes₀ l) h (a .small) (sym e));
         below = rw path-is (a .small, h, a .below);
-        left =
+        to-find =
             rw (top-is, path-is)
-            (sym (rest-enter (movesLent n N q coef limits) (m - (l + 1)) (levelIn n boxes₀ l) u h (levelsBelow n boxes₀ us₀ l) (sym e)) ∙ (rw more at (a .left)));
+            (sym (rest-enter (movesLent n N q coef limits) (m - (l + 1)) (levelIn n boxes₀ l) u h (levelsBelow n boxes₀ us₀ l) (sym e)) ∙ (rw more at (a .to-find)));
       }
 
       pub along-down : Lent n N q coef limits → Along m whole boxes us (l + 1) 0 × (turnsAlong m boxes us (l + 1) 0 < turnsAlong m boxes₀ us₀ l u)

@@ -35,8 +35,8 @@ module _ (f : Frame) (coef limits : List ℤ) (g : LimitsLaid f coef limits) (u 
   divided-is : (i : ℕ) → i < f .n → dividedAt (f .n) (f .q) coef limits u b i ≡ sides i
   divided-is i h = ap (λ (w : Side). divided (f .q) w (sumsAt (f .n) coef u b i)) (g .laid .in-band i h)
 
-  made-image : tab (dividedAt (f .n) (f .q) coef limits u b) (f .n) 0 ≡ image (stepIn f coef u) b
-  made-image =
+  divided-image : tab (dividedAt (f .n) (f .q) coef limits u b) (f .n) 0 ≡ image (stepIn f coef u) b
+  divided-image =
       tab-same (dividedAt (f .n) (f .q) coef limits u b) sides (f .n) 0 (λ i l h. divided-is i (omega arith))
       ∙ sym (image-tab (f .n) (f .q) (f .band .lo) (f .band .hi) coef u b)
 
@@ -74,7 +74,7 @@ module _ (f : Frame) (coef limits : List ℤ) (g : LimitsLaid f coef limits) whe
     rows = λ u h. λ i k. g .sound .rows u i h k;
     band = rw (tab-same (sideIn limits bandAt) (sideAt (f .band .lo) (f .band .hi)) (f .n) 0 (λ i a b. g .laid .in-band i (omega arith))) (g .sound .band);
     marked = g .marked;
-    small = λ u b h s e. rw (made-image f coef limits g u b) (small-image f coef (g .sound) u b s (sym (covered-safe f coef limits g u b) ∙ e));
+    small = λ u b h s e. rw (divided-image f coef limits g u b) (small-image f coef (g .sound) u b s (sym (covered-safe f coef limits g u b) ∙ e));
   }
 
   -- mode u, and behind it the first j that work from the image: none where the image leaves S
@@ -102,7 +102,7 @@ module _ (f : Frame) (coef limits : List ℤ) (g : LimitsLaid f coef limits) whe
   behind-is zero b u = last-is b u
   behind-is (suc j) b u =
       let c = image (stepIn f coef u) b in
-      rw (covered-safe f coef limits g u b, made-image f coef limits g u b, first-same (lentBehind j c) (defined j c) (behind-is j c) (f .modes) 0) refl
+      rw (covered-safe f coef limits g u b, divided-image f coef limits g u b, first-same (lentBehind j c) (defined j c) (behind-is j c) (f .modes) 0) refl
 
   sought-is : (j : ℕ) (b : List Side) → sought (movesLent (f .n) (f .modes) (f .q) coef limits) j b ≡ exactly (rulesIn f coef) (suc j) b
   unfolding exactly

@@ -14,19 +14,19 @@ use Rattle.meaning.specs.Control.{idle, isMode, canRun, modeAt}
 use Rattle.meaning.specs.Numbers.{numberAt}
 use Rattle.meaning.specs.Refusals.{badState}
 
-no-left : (t : Bool) → (t && false) ≡ false
-no-left true = refl
-no-left false = refl
+and-false : (t : Bool) → (t && false) ≡ false
+and-false true = refl
+and-false false = refl
 
 module _ (K N : ℕ) (s : List ℕ) (place left : ℕ) where
   pub too-many : K < left → false ≡ canRun K N s place left
   too-many h = simp (lt-leb left K h)
 
   pub too-low : place < 2 → false ≡ canRun K N s place left
-  too-low h = simp (lt-leb 2 place h, no-left (leb left K))
+  too-low h = simp (lt-leb 2 place h, and-false (leb left K))
 
   pub too-far : length s < place + left → false ≡ canRun K N s place left
-  too-far h = simp (lt-leb (place + left) (length s) h, no-left (leb left K && leb 2 place))
+  too-far h = simp (lt-leb (place + left) (length s) h, and-false (leb left K && leb 2 place))
 
   -- the number there decides
   module _ (a : left ≤ K) (b : 2 ≤ place) (c : place + left ≤ length s) where

@@ -17,11 +17,11 @@ use Rattle.tables.proofs.boxes.child.Statement.{statement}
 use Rattle.tables.proofs.boxes.child.Tie as tie
 
 abbrev Inv-loop : tie.InvT-loop
-Inv-loop n x b kid₀ bits₀ left₀ kid bits left =
-    (left ≤ n) × (length (kid .lo) ≡ 4) × (length (kid .hi) ≡ 4) × Cut (b .lo) (b .hi) (kid .lo) (kid .hi) n left bits (childAt (boxOf n b) x)
+Inv-loop n x b kid₀ bits₀ due₀ kid bits due =
+    (due ≤ n) × (length (kid .lo) ≡ 4) × (length (kid .hi) ≡ 4) × Cut (b .lo) (b .hi) (kid .lo) (kid .hi) n due bits (childAt (boxOf n b) x)
 
 abbrev μ-loop : tie.MeasureT-loop
-μ-loop n x b kid₀ bits₀ left₀ kid bits left = left
+μ-loop n x b kid₀ bits₀ due₀ kid bits due = due
 
 -- the edges of side j
 module _ (s : tie.Start Inv-loop μ-loop) (j : ℕ) (h : j < s .args .n) where
@@ -36,7 +36,7 @@ abbrev from : tie.After-half Inv-loop μ-loop → tie.Start Inv-loop μ-loop
 from c = c .before .before .before .before .before
 
 abbrev here : tie.After-half Inv-loop μ-loop → ℕ
-here c = from c .args .n - c .before .before .before .before .loop .left
+here c = from c .args .n - c .before .before .before .before .loop .due
 
 abbrev Halved : tie.After-half Inv-loop μ-loop → ℤ → ℤ → Type 0
 Halved c l h =
@@ -87,8 +87,8 @@ mul-eh c = omega arith
 element-set-from-eh : tie.Need-element-set-from-eh Inv-loop μ-loop
 element-set-from-eh c = omega arith
 
-sub-left : tie.Need-sub-left Inv-loop μ-loop
-sub-left c = omega arith
+sub-due : tie.Need-sub-due Inv-loop μ-loop
+sub-due c = omega arith
 
 loop-less : tie.Need-loop-less Inv-loop μ-loop
 loop-less c = omega arith
@@ -103,7 +103,7 @@ loop-again c =
       omega arith,
       simp length-set (l .inv .1),
       simp length-set (l .inv .2),
-      cut-more (a .t2 .lo) (a .t2 .hi) (l .kid .lo) (l .kid .hi) (a .n) (l .left) (l .bits) _ _ _ _ (c .before .before .before .before .before .loop-test .taken) (l .inv .0) (omega arith) (omega arith)
+      cut-more (a .t2 .lo) (a .t2 .hi) (l .kid .lo) (l .kid .hi) (a .n) (l .due) (l .bits) _ _ _ _ (c .before .before .before .before .before .loop-test .taken) (l .inv .0) (omega arith) (omega arith)
           (rw (toZ-ofZ (ok64 (e .result .lo) (omega arith)), toZ-ofZ (ok64 (e .result .hi) (omega arith))) (g .0)) (g .1) (l .inv .3),
     )
 
@@ -111,7 +111,7 @@ returns : tie.Need-returns Inv-loop μ-loop
 returns c =
     let l = c .before .loop in
     let a = c .before .before .args in
-    cut-done (a .t2 .lo) (a .t2 .hi) (l .kid .lo) (l .kid .hi) (a .n) (l .left) (l .bits) _ (omega arith) (l .inv .3)
+    cut-done (a .t2 .lo) (a .t2 .hi) (l .kid .lo) (l .kid .hi) (a .n) (l .due) (l .bits) _ (omega arith) (l .inv .3)
     ∙ sym (children-at (boxOf (a .n) (a .t2)) (a .x) (c .before .before .pre .2))
 
 pub child-spec : {M : Type 1} → statement M
@@ -131,7 +131,7 @@ child-spec =
     element-set-from-el
     mul-eh
     element-set-from-eh
-    sub-left
+    sub-due
     loop-less
     loop-again
     returns)

@@ -10,7 +10,7 @@ use Rattle.laws.specs.Lists.{at, tab}
 use Rattle.laws.specs.Expressions.{Ex, var, exact, under}
 use Rattle.meaning.specs.Boxes.{Side, sideAt, sidesOf}
 use Rattle.meaning.specs.Plants.{bandLimit, rowStart}
-use Rattle.tables.specs.Boxes.{Bounded}
+use Rattle.promises.specs.files.Sound.{Bounded}
 use Rattle.tables.specs.Images.{RowSound}
 use Rattle.tables.proofs.boxes.Laws.{small-side}
 use Rattle.tables.proofs.images.Laws.{imageSideAt, image-tab, image-more, image-done}

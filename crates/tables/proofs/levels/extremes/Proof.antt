@@ -9,7 +9,7 @@ use Rattle.meaning.specs.Boxes.{Side}
 use Rattle.tables.specs.Levels.{wide, room, sideIn}
 use Rattle.meaning.specs.Images.{leastOf, greatestOf}
 use Rattle.meaning.specs.Plants.{edgeLimit, entryLimit}
-use Rattle.tables.specs.Boxes.{Bounded}
+use Rattle.promises.specs.files.Sound.{Bounded}
 use Rattle.tables.specs.Images.{rowLimit, entryAt, Extremes}
 use Rattle.tables.proofs.images.Laws.{Sums, sums-none, sums-more, sums-done, sums-place, sums-asked}
 use Rattle.tables.proofs.levels.extremes.Statement.{statement}

@@ -5,7 +5,7 @@ use native.Mathlib.Omega.{arith}
 use lib.ListN.{length}
 use Rattle.meaning.specs.Boxes.{Side, side, sideAt}
 use Rattle.meaning.specs.Plants.{edgeLimit, bandLimit}
-use Rattle.tables.specs.Boxes.{Bounded}
+use Rattle.promises.specs.files.Sound.{Bounded}
 use Rattle.tables.specs.Levels.{room}
 use Rattle.tables.specs.Limits.{Laid}
 use Rattle.tables.proofs.boxes.Laws.{small-side}

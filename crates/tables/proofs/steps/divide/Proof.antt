@@ -8,7 +8,7 @@ use Rattle.laws.specs.Integers.{ok64}
 use Rattle.laws.specs.Lists.{at}
 use Rattle.laws.specs.Expressions.{Ex, var, _⊕_, need, exact, under}
 use Rattle.meaning.specs.Plants.{bandLimit}
-use Rattle.tables.specs.Boxes.{Bounded}
+use Rattle.promises.specs.files.Sound.{Bounded}
 use Rattle.tables.specs.Images.{sumLimit}
 use Rattle.tables.specs.Levels.{sideIn}
 use Rattle.tables.specs.Limits.{addLimit, bandAt, dividedIn}
