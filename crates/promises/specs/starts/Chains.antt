@@ -125,4 +125,4 @@ module _ (p : Plant) (sound : Sound p) (vs : List ℤ) (i : ℕ) where
 
   pub box-motion : Chained p vs → i ≤ above vs → Motion (boxRules p vs i)
   box-motion c h =
-      motion-from (p .n) (p .modes) (p .k) (p .d) (boxOf p vs i) (boxBelow (p .n) (rootOf p) vs i) (safeOf p) (stepOf p) (λ u. sound .q-low) (c .in-safe i h)
+      motion-from (p .n) (p .modes) (p .k) (p .d) (boxOf p vs i) (boxBelow (p .n) (rootOf p) vs i) (safeOf p) (stepOf p) (λ u. sound .ranges .q-low) (c .in-safe i h)

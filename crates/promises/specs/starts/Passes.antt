@@ -6,7 +6,7 @@ use mathlib.Core.Path.{_≡_}
 use mathlib.Core.Bool.{Bool, true}
 use native.Mathlib.Omega.{arith}
 use Rattle.meaning.specs.Runs.{Run, sample, Samples, none, next}
-use Rattle.promises.specs.tables.Trips.{Trip, made}
+use Rattle.promises.specs.tables.Trips.{Trip, travelled}
 
 module _ {State Reading : Type 0} (idle : State) (gives : State → Reading → ℕ → State → Type 0) (starts : Reading → Bool) (follows : ℕ → Reading → Reading → Bool) where
   abbrev Leads : ℕ → State → Reading → State → Reading → Type 0
@@ -57,7 +57,7 @@ module _ {State Reading : Type 0} (idle : State) (gives : State → Reading → 
         → ((y : Reading) → near y ≡ true → Passes most y) → Passes all x
     passes-behind safe near m most all x t l later k st y s h =
         let w = first-of s m (omega arith) in
-        let e = made idle gives follows safe near starts m x t .ends (w .2) in
+        let e = travelled idle gives follows safe near starts m x t .ends (w .2) in
         go (w .0) (w .1) (w .2) (w .3) (e .1) (e .2)
       where
         go : (v : State) (z : Reading) → Leads m idle x v z → Leads (k - m) v z st y → v ≡ idle → near z ≡ true → Passed all k x st y
