@@ -12,7 +12,7 @@ use Rattle.meaning.specs.declared.StartState.{StartState}
 use Rattle.meaning.specs.Control.{idle, call}
 use Rattle.meaning.specs.Runs as U
 use Rattle.meaning.specs.Starts.{isIdle, startIdle, stateIn, answerIn, startControlled, startGives, StartRun, StartSamples}
-use Rattle.meaning.specs.Tables.{rulesOf, controlled, startsIn, mayFollow, gives, TableRun, TableSamples}
+use Rattle.meaning.specs.Tables.{rulesOf, controlled, startsIn, gives, TableRun, TableSamples}
 use Rattle.meaning.specs.Trees.{longest}
 use Rattle.promises.specs.tables.Demand.{tree-demand}
 use Rattle.promises.specs.tables.PlantMotion.{splits, motion, returns}
@@ -32,9 +32,9 @@ pub record Home (plant start table : List ℕ) (place most : ℕ) : Type 0 where
       → startControlled plant start (stateIn 0 st) x ≡ answerIn 0 place (controlled plant table st x)
   -- so are the states and readings that a run from R meets
   pub runs : {s : StartState} {x : List ℤ} → StartRun plant start 0 s x → (st : State) × (s ≡ stateIn 0 st) × TableRun plant table st x
-  -- and those that a run meets that came from any box, sample by sample
-  pub from-there : (i : ℕ) {k : ℕ} {z : List ℤ} {s : StartState} {y : List ℤ} → startsIn plant z ≡ true → StartSamples plant start i k startIdle z s y
-      → (st : State) × (s ≡ stateIn 0 st) × TableSamples plant table k idle z st y × TableRun plant table st y
+  -- and those that a run from any box meets from such a call on, sample by sample
+  pub from-there : (i : ℕ) {k : ℕ} {z : List ℤ} {s v : StartState} {y : List ℤ} → s ≡ startIdle → startsIn plant z ≡ true → StartSamples plant start i k s z v y
+      → (st : State) × (v ≡ stateIn 0 st) × TableSamples plant table k idle z st y × TableRun plant table st y
   -- and demand 3 holds with it
   pub promised : Promised plant table most
 
@@ -87,9 +87,9 @@ module _ {plant start : List ℕ} (w : Started plant start) (t : Trees w) where
   home = record {
     calls = same-calls;
     runs = same-runs;
-    from-there = λ i h k.
+    from-there = λ i e h k.
         let run : TableRun plant table idle _ = U.start h in
-        let m = same-samples i idle run refl k in
-        (m .0, m .1, m .2, runs-on idle (gives plant table) (startsIn plant) (mayFollow plant) run (m .2));
+        let m = same-samples i idle run e k in
+        (m .0, m .1, m .2, runs-on run (m .2));
     promised = demanded;
   }
