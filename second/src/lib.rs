@@ -11,6 +11,7 @@ pub mod control;
 pub mod edges;
 pub mod file;
 pub mod image;
+pub mod lent;
 pub mod listing;
 pub mod maker;
 pub mod nearest;

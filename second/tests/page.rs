@@ -248,7 +248,7 @@ impl Page {
 
     fn rule(&mut self, fields: &[Field], of: &Box, pattern: &[u8]) {
         let plant = read_plant(&file(fields)).expect("a plant");
-        let right = match tile_rule(&plant, of, pattern, 0) {
+        let right = match tile_rule(&plant, &plant.r(), of, pattern, 0) {
             Ok(()) => "Rule.Works".into(),
             Err(refusal) if refusal.number == 7 => format!("Rule.Leaves {}", refusal.step),
             Err(refusal) => format!("Rule.Misses {}", refusal.step),

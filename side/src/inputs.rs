@@ -306,7 +306,7 @@ fn grown(random: &mut Random, plant: &Plant, here: &Box, depth_left: u64, table:
         for _ in 0..40 {
             let length = random.within(1, plant.k as i64);
             let pattern: Vec<u8> = (0..length).map(|_| random.within(0, plant.modes as i64 - 1) as u8).collect();
-            if tile_rule(plant, here, &pattern, 0).is_ok() {
+            if tile_rule(plant, &plant.r(), here, &pattern, 0).is_ok() {
                 table.push(length as u8);
                 table.extend(pattern);
                 return true;
