@@ -110,6 +110,29 @@ pub fn two_rooms() -> Vec<Field> {
     fields
 }
 
+/// A chain's fields: form, m, then the edges of R1..Rm, box by box.
+pub fn chain_fields<Sides: AsRef<[(i64, i64)]>>(boxes: &[Sides]) -> Vec<Field> {
+    let edges = boxes.iter().flat_map(Sides::as_ref).flat_map(|(lo, hi)| [S(*lo), S(*hi)]);
+    [U(1), U(boxes.len() as u64)].into_iter().chain(edges).collect()
+}
+
+/// A start file's fields: a chain's, then for each table its byte length and
+/// the table as it is.
+pub fn start_fields(chain: &[Field], tables: &[&[u8]]) -> Vec<Field> {
+    let lengths = tables.iter().flat_map(|table| [U(table.len() as u64), Raw(table.to_vec())]);
+    chain.iter().cloned().chain(lengths).collect()
+}
+
+/// P with S 150..240, the plant of a room that starts far under R.
+pub fn cold_p() -> Vec<u8> {
+    file(&with(&with(&p_fields(), 8, S(150)), 9, S(240)))
+}
+
+/// Its chain: R1 180..225, R2 160..230.
+pub fn cold_chain() -> Vec<Field> {
+    chain_fields(&[[(180, 225)], [(160, 230)]])
+}
+
 /// Line 13's sheet: fields 6..10 the edges, 10, 11 the band, 12 time, 13
 /// outside, 14 loss, 15 the emitter number, 16 p, 17 water.
 pub fn line_13() -> Vec<Field> {
