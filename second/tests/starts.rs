@@ -97,14 +97,6 @@ fn a_cold_room_comes_home() {
 
 // ---- the beginning: form, m, edges, leftover, 15 ----
 
-/// A number made too long by a zero group, one of six bytes, one without an end.
-fn broken(field: &Field) -> Vec<Field> {
-    let mut longer = field_bytes(field);
-    *longer.last_mut().expect("a byte") |= 0x80;
-    longer.push(0);
-    vec![Raw(longer), Raw(vec![0x80, 0x80, 0x80, 0x80, 0x80, 1]), Raw(vec![0xFF; 5])]
-}
-
 #[test]
 fn every_number_of_the_beginning() {
     let chain = example_chain();

@@ -9,7 +9,7 @@ use second::sheet::{Emitter, Room, Sheet};
 use std::fmt::Debug;
 
 /// One number of a file, or bytes as they are.
-#[derive(Clone, Debug)]
+#[derive(Clone, Debug, PartialEq)]
 pub enum Field {
     U(u64),
     S(i64),
@@ -43,6 +43,14 @@ pub fn field_bytes(field: &Field) -> Vec<u8> {
         F(float) => float.to_bits().to_le_bytes().to_vec(),
         Raw(bytes) => bytes.clone(),
     }
+}
+
+/// A number made a group longer, one of six bytes, one without an end.
+pub fn broken(field: &Field) -> [Field; 3] {
+    let mut longer = field_bytes(field);
+    *longer.last_mut().expect("a byte") |= 0x80;
+    longer.push(0);
+    [Raw(longer), Raw(vec![0x80, 0x80, 0x80, 0x80, 0x80, 1]), Raw(vec![0xFF; 5])]
 }
 
 /// The file and the place of each field, with the end's place last.

@@ -343,7 +343,11 @@ pub fn chain_bytes(chain: &[Wide]) -> Vec<u8> {
 pub fn made_starts(seed: u64, wanted: usize) -> Vec<(Plant, Vec<u8>, Vec<Wide>, Vec<u8>)> {
     let mut random = Random(seed);
     let mut made = vec![];
-    while made.len() < wanted {
+    for tried in 0.. {
+        if made.len() == wanted {
+            break;
+        }
+        assert!(tried < 1_000 * wanted, "{} of {wanted} start files", made.len());
         let (plant, chain) = cold_plant(&mut random);
         let bytes = plant_bytes(&plant);
         if chain.last().is_none_or(|last| *last == r_of(&plant)) {
