@@ -182,7 +182,8 @@ fn many_calls() {
             }
         }
     }
-    assert!(ran_on > 1_000, "{ran_on}");
+    println!("{ran_on} running states above R0's table");
+    assert!(ran_on > 200, "{ran_on}");
     each_came("start control", &seen.start_control, &[0, 1, 2, 3, 4, 5, 6, 11, 12, 15], 20);
     assert!(seen.start_control.iter().sum::<usize>() >= 100_000);
 }
