@@ -38,16 +38,27 @@ pub fn control(
     reading: [i64; MOST_ROOMS],
 ) -> Result<(u8, State), Refusal> {
     let plant = read_plant(plant_bytes)?;
-    let mut file = File::new(table_bytes);
-    read_header(&plant, &mut file)?;
-    match mode_there(&plant, table_bytes, state)? {
+    call(&plant, &plant.r(), File::new(table_bytes), state, &reading)
+}
+
+/// One call on the table that `file` is, whose tree starts at box `root`. The
+/// state's place counts within the table.
+pub fn call(
+    plant: &Plant,
+    root: &Box,
+    mut file: File,
+    state: State,
+    reading: &[i64; MOST_ROOMS],
+) -> Result<(u8, State), Refusal> {
+    read_header(plant, &mut file)?;
+    match mode_there(plant, file.own_bytes(), state)? {
         Some(mode) => {
-            reading_in(&plant.s(), &reading)?;
+            reading_in(&plant.s(), reading)?;
             Ok((mode, State::after(state.place + 1, state.left - 1)))
         }
         None => {
-            reading_in(&plant.r(), &reading)?;
-            start_tile(&plant, &mut file, &reading)
+            reading_in(root, reading)?;
+            start_tile(plant, root, &mut file, reading)
         }
     }
 }
@@ -75,7 +86,7 @@ fn mode_there(plant: &Plant, table: &[u8], state: State) -> Result<Option<u8>, R
 }
 
 /// 11 at the first dimension in which the reading is outside.
-fn reading_in(allowed: &Box, reading: &[i64; MOST_ROOMS]) -> Result<(), Refusal> {
+pub fn reading_in(allowed: &Box, reading: &[i64; MOST_ROOMS]) -> Result<(), Refusal> {
     match allowed.first_outside(reading) {
         Some(dimension) => Err(Refusal::at(READING_OUTSIDE, dimension as u64)),
         None => Ok(()),
@@ -85,15 +96,16 @@ fn reading_in(allowed: &Box, reading: &[i64; MOST_ROOMS]) -> Result<(), Refusal>
 /// The first mode of the reading's tile and the state behind it.
 fn start_tile(
     plant: &Plant,
+    root: &Box,
     file: &mut File,
     reading: &[i64; MOST_ROOMS],
 ) -> Result<(u8, State), Refusal> {
-    let found = find_tile(plant, file, &plant.r(), plant.d, reading)?;
-    // The reading lies in R and children cover their parent, so a tile is found.
+    let found = find_tile(plant, file, root, plant.d, reading)?;
+    // The reading lies in the root and children cover their parent, so a tile is found.
     let (place, pattern) = found.ok_or(Refusal::at(READING_OUTSIDE, 0))?;
     let left = pattern.modes().len() as u64 - 1;
     // Node and modes are one byte each, being below 128: the second mode is two on.
-    Ok((pattern.modes()[0], State::after(place + 2, left)))
+    Ok((pattern.modes()[0], State::after(place - file.first() + 2, left)))
 }
 
 /// Walks the tree of a box up to the tile that holds the reading: the tile's

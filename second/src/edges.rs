@@ -26,7 +26,7 @@ pub struct Edges {
 
 /// A lo and its hi: 3 at lo where lo is out of range, 3 at hi where hi is out
 /// of range or below lo.
-fn read_pair(file: &mut File, limit: i64) -> Result<(i64, i64), Refusal> {
+pub fn read_pair(file: &mut File, limit: i64) -> Result<(i64, i64), Refusal> {
     let lo = file.signed_in(-limit, limit)?;
     let hi = file.signed_in(lo, limit)?;
     Ok((lo, hi))

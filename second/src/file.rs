@@ -1,22 +1,44 @@
 //! A file, read or drafted number by number in order: "Files are judged
 //! number by number in order, 1 before the others at the same number"; "A
 //! number's place is its first byte, that of leftover bytes the first of
-//! them"; "A finished write changes only the bytes written. A refused one
-//! zeros the whole buffer."
+//! them".
 
 use crate::numbers::{groups_of, read_signed, read_unsigned, stored_of};
-use crate::refusal::{Refusal, BROKEN_NUMBER, BUFFER_TOO_SHORT, FORM_NOT_ONE, OUT_OF_RANGE};
+use crate::refusal::{Refusal, BROKEN_NUMBER, FORM_NOT_ONE, OUT_OF_RANGE};
 
-/// Bytes under judgement and the place of the next number in them.
+/// Bytes under judgement and the place of the next number in them. A file may
+/// stand inside another: its places are then those of the outer one, which
+/// `bytes` holds up to this file's end.
 pub struct File<'a> {
     bytes: &'a [u8],
+    first: usize,
     place: usize,
 }
 
 impl<'a> File<'a> {
     /// A file at its first byte.
     pub fn new(bytes: &'a [u8]) -> File<'a> {
-        File { bytes, place: 0 }
+        File { bytes, first: 0, place: 0 }
+    }
+
+    /// The file of this many bytes that stands here, which is thereby passed;
+    /// None where it passes the end.
+    pub fn inner(&mut self, length: u64) -> Option<File<'a>> {
+        let first = self.place;
+        let end = first.checked_add(usize::try_from(length).ok()?)?;
+        let bytes = self.bytes.get(..end)?;
+        self.place = end;
+        Some(File { bytes, first, place: first })
+    }
+
+    /// The place of its first byte, 0 unless it stands inside another.
+    pub fn first(&self) -> u64 {
+        self.first as u64
+    }
+
+    /// Its bytes, without those of a file around it.
+    pub fn own_bytes(&self) -> &'a [u8] {
+        &self.bytes[self.first..]
     }
 
     /// The place of the next number.
@@ -52,7 +74,7 @@ impl<'a> File<'a> {
         Ok(number)
     }
 
-    /// The form, which must be 1: refused with 1, then 2, at place 0.
+    /// The form, which must be 1: refused with 1, then 2, at its first byte.
     pub fn form(&mut self) -> Result<(), Refusal> {
         let place = self.place();
         if self.unsigned()? != 1 {
@@ -73,10 +95,12 @@ impl<'a> File<'a> {
 
     /// Nothing may be left over: else this refusal number at the first such byte.
     pub fn end(&self, number: u8) -> Result<(), Refusal> {
-        if self.place < self.bytes.len() {
-            return Err(Refusal::at(number, self.place()));
-        }
-        Ok(())
+        self.end_or(Refusal::at(number, self.place()))
+    }
+
+    /// Nothing may be left over: else this refusal.
+    pub fn end_or(&self, refusal: Refusal) -> Result<(), Refusal> {
+        if self.place < self.bytes.len() { Err(refusal) } else { Ok(()) }
     }
 }
 
@@ -130,21 +154,4 @@ impl Default for Draft {
     fn default() -> Draft {
         Draft::new()
     }
-}
-
-/// Hands a judged file over: 10 where the buffer is too short for it.
-pub fn deliver(file: &[u8], buffer: &mut [u8]) -> Result<usize, Refusal> {
-    let Some(head) = buffer.get_mut(..file.len()) else {
-        return Err(Refusal::at(BUFFER_TOO_SHORT, 0));
-    };
-    head.copy_from_slice(file);
-    Ok(file.len())
-}
-
-/// "A refused one zeros the whole buffer."
-pub fn zero_if_refused(answer: Result<usize, Refusal>, buffer: &mut [u8]) -> Result<usize, Refusal> {
-    if answer.is_err() {
-        buffer.fill(0);
-    }
-    answer
 }

@@ -1,16 +1,19 @@
 //! The independent second program of document 01 ("What the build includes
 //! and its rules"): plants, sheets, the table maker, the table checker, the
-//! controller and the listing, written from that paper and from the readings
-//! of its open words alone. One module per subject, named in the paper's words.
+//! controller and the listing, and of document 02's request 2026-03, start
+//! files for cold rooms. Written from those papers and from the readings of
+//! their open words alone. One module per subject, named in the papers' words.
 
 #![forbid(unsafe_code)]
 
 pub mod boxes;
+pub mod chain;
 pub mod checker;
 pub mod control;
 pub mod edges;
 pub mod file;
 pub mod image;
+pub mod lent;
 pub mod listing;
 pub mod maker;
 pub mod nearest;
@@ -20,6 +23,7 @@ pub mod refusal;
 pub mod search;
 pub mod sheet;
 pub mod sheet_plant;
+pub mod start;
 pub mod table;
 pub mod tile;
 
@@ -35,3 +39,8 @@ pub const COEFFICIENTS: usize = 320;
 pub const LARGEST_PLANT: usize = 1_183;
 /// "Table file ... At most 30,039 bytes."
 pub const LARGEST_TABLE: usize = 30_039;
+/// "A chain of boxes R = R0, R1, .. Rm (m up to 8)."
+pub const MOST_BOXES: usize = 8;
+/// The largest start file: form and m, the edges of eight boxes of two rooms
+/// in 3 bytes each, and nine of the largest tables, each behind a length of 3.
+pub const LARGEST_START: usize = 2 + 3 * 4 * MOST_BOXES + (3 + LARGEST_TABLE) * (MOST_BOXES + 1);

@@ -4,7 +4,8 @@
 
 use crate::boxes::Box;
 use crate::edges::Edges;
-use crate::file::{deliver, zero_if_refused, Draft, File};
+use crate::file::{Draft, File};
+use crate::lent::{deliver, zero_if_refused};
 use crate::refusal::Refusal;
 use crate::{COEFFICIENTS, LONGEST_PATTERN, MOST_MODES, MOST_ROOMS};
 

@@ -1,11 +1,15 @@
-//! A refusal: the table "What each number says". A refusal has a number, a
-//! place and a step; "a place or step not named is 0".
+//! A refusal: the table "What each number says", with what request 2026-03
+//! adds to it. A refusal has a number, a place and a step; "a place or step not
+//! named is 0".
 
 /// A number or float ends early, is over 5 bytes, or not shortest.
 pub const BROKEN_NUMBER: u8 = 1;
 /// Form is not 1.
 pub const FORM_NOT_ONE: u8 = 2;
-/// Plant or sheet number out of range, lo > hi, emitter kind over 2, or bytes left over.
+/// Plant or sheet number out of range, lo > hi, emitter kind over 2, or bytes
+/// left over; "also for m over 8, an edge out of range, bytes left over, or a
+/// byte length that passes the end or, in the checker, leaves bytes after its
+/// table".
 pub const OUT_OF_RANGE: u8 = 3;
 /// R not in S.
 pub const R_NOT_IN_S: u8 = 4;
@@ -17,18 +21,22 @@ pub const TABLE_RULE: u8 = 6;
 pub const IMAGE_LEAVES_S: u8 = 7;
 /// Last image not in R.
 pub const LAST_NOT_IN_R: u8 = 8;
-/// No table.
+/// No table; of a start file, "the first index without a table".
 pub const NO_TABLE: u8 = 9;
 /// Buffer too short.
 pub const BUFFER_TOO_SHORT: u8 = 10;
-/// Reading outside R (idle) or S (running).
+/// Reading outside R (idle) or S (running); with a start file "11 when idle
+/// now means outside Rm".
 pub const READING_OUTSIDE: u8 = 11;
-/// State cannot be.
+/// State cannot be; "12 also for an index over m, or not 0 when idle".
 pub const STATE_CANNOT_BE: u8 = 12;
 /// Sheet float not finite, time <= 0, or loss, exchange or p below 0.
 pub const SHEET_FLOAT: u8 = 13;
 /// Sheet result not finite or outside the plant's range.
 pub const SHEET_RESULT: u8 = 14;
+/// "A box that does not hold the one before or is not in S, place the first
+/// index at fault."
+pub const BOX_AT_FAULT: u8 = 15;
 
 /// What is told instead of an answer.
 #[derive(Clone, Copy, Debug, PartialEq, Eq)]
@@ -81,6 +89,7 @@ pub fn row_words(number: u8) -> &'static str {
         STATE_CANNOT_BE => "state cannot be",
         SHEET_FLOAT => "sheet float not finite, time \u{2264} 0, or loss, exchange or p below 0",
         SHEET_RESULT => "sheet result not finite or outside the plant's range",
+        BOX_AT_FAULT => "a box that does not hold the one before or is not in S",
         _ => "no such number",
     }
 }

@@ -3,7 +3,7 @@
 //!
 //! Beginnings are shared: the boxes along the present beginning are kept, and
 //! a beginning whose image leaves S is dropped with every pattern that starts
-//! so. The last step tests the image against R without dividing: for q > 0,
+//! so. The last step tests the image against the goal without dividing: for q > 0,
 //! ceil(v/q) >= lo exactly when v > q*(lo-1), floor(v/q) <= hi exactly when
 //! v < q*(hi+1). Everything is kept doubled, so that the least and greatest of
 //! a row come from the box's middle and reach without asking for any sign:
@@ -46,13 +46,13 @@ pub struct Search<const N: usize> {
     q: i64,
     w_lo: [i64; N],
     w_hi: [i64; N],
-    in_r: Limits<N>,
+    in_goal: Limits<N>,
     in_s: Limits<N>,
 }
 
 impl<const N: usize> Search<N> {
-    /// Lays a judged plant of N rooms out.
-    pub fn new(plant: &Plant) -> Search<N> {
+    /// Lays a judged plant of N rooms out, for patterns that end in `goal`.
+    pub fn new(plant: &Plant, goal: &Box) -> Search<N> {
         let empty = Row { a: [0; N], size: [0; N], twice_b: 0 };
         let mut modes = [[empty; N]; MOST_MODES];
         for (u, mode) in modes.iter_mut().enumerate().take(plant.modes as usize) {
@@ -70,7 +70,7 @@ impl<const N: usize> Search<N> {
             q: plant.q as i64,
             w_lo: std::array::from_fn(|i| plant.edges.w_lo[i]),
             w_hi: std::array::from_fn(|i| plant.edges.w_hi[i]),
-            in_r: limits(plant, &plant.r()),
+            in_goal: limits(plant, goal),
             in_s: limits(plant, &plant.s()),
         }
     }
@@ -113,13 +113,13 @@ impl<const N: usize> Search<N> {
         false
     }
 
-    /// The first mode whose image lies in R, which lies in S.
+    /// The first mode whose image lies in the goal, which lies in S.
     fn last_mode(&self, here: &Spread<N>) -> Option<usize> {
         let modes = &self.modes[..self.mode_count];
         modes.iter().position(|rows| {
             (0..N).all(|i| {
                 let (least, greatest) = rows[i].twice_least_and_greatest(here);
-                least > self.in_r.above[i] && greatest < self.in_r.below[i]
+                least > self.in_goal.above[i] && greatest < self.in_goal.below[i]
             })
         })
     }

@@ -5,7 +5,8 @@
 //! only its own values."
 
 use crate::edges::Edges;
-use crate::file::{deliver, zero_if_refused, Draft, File};
+use crate::file::{Draft, File};
+use crate::lent::{deliver, zero_if_refused};
 use crate::plant::{most_depth, write_plant, Plant, MOST_Q};
 use crate::refusal::{Refusal, OUT_OF_RANGE, SHEET_FLOAT};
 use crate::sheet_plant::step_coefficients;

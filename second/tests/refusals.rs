@@ -91,8 +91,8 @@ fn row_0_done() {
     assert_eq!(told(read_sheet(&file(&two_room_sheet()))), (0, 0, 0));
     assert_eq!(told(read_plant(&file(&two_rooms()))), (0, 0, 0));
     assert_eq!(row_words(0), "done");
-    let rows: Vec<&str> = (0..=14).map(row_words).collect();
-    assert!(rows.iter().all(|words| *words != row_words(15)));
+    let rows: Vec<&str> = (0..=15).map(row_words).collect();
+    assert!(rows.iter().all(|words| *words != row_words(16)));
     assert_eq!((rows[9], rows[10], rows[12]), ("no table", "buffer too short", "state cannot be"));
 }
 

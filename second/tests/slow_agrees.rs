@@ -4,6 +4,7 @@
 //! and the controller against rooms that do whatever the plant allows.
 
 mod common;
+mod slow;
 use common::*;
 use second::boxes::Box;
 use second::checker::check;
@@ -13,189 +14,7 @@ use second::maker::make;
 use second::nearest::nearest;
 use second::plant::{read_plant, write_plant, Plant};
 use second::sheet::{plant_of_sheet, read_sheet, sheet_to_plant, write_sheet, Emitter, Sheet};
-
-/// A box as its low and its high edges.
-type Wide = (Vec<i128>, Vec<i128>);
-
-fn wide(lo: &[i64], hi: &[i64], n: usize) -> Wide {
-    (lo[..n].iter().map(|x| *x as i128).collect(), hi[..n].iter().map(|x| *x as i128).collect())
-}
-
-fn inside(inner: &Wide, outer: &Wide) -> bool {
-    inner.0.iter().zip(&outer.0).all(|(a, b)| a >= b)
-        && inner.1.iter().zip(&outer.1).all(|(a, b)| a <= b)
-}
-
-/// The least y with q*y >= value, found by stepping.
-fn least_at_or_above(value: i128, q: i128) -> i128 {
-    let mut y = value / q;
-    while y * q < value {
-        y += 1;
-    }
-    while (y - 1) * q >= value {
-        y -= 1;
-    }
-    y
-}
-
-/// The greatest y with q*y <= value.
-fn greatest_at_or_below(value: i128, q: i128) -> i128 {
-    -least_at_or_above(-value, q)
-}
-
-/// (A_u x + b_u)_i.
-fn row_value(plant: &Plant, mode: usize, i: usize, x: &[i128]) -> i128 {
-    let n = x.len();
-    let first = mode * n * (n + 1) + i * (n + 1);
-    let numbers = &plant.coefficients[first..first + n + 1];
-    (0..n).map(|j| numbers[j] as i128 * x[j]).sum::<i128>() + numbers[n] as i128
-}
-
-/// The image from the values at all corners.
-fn corner_image(plant: &Plant, mode: usize, of: &Wide) -> Wide {
-    let n = of.0.len();
-    let q = plant.q as i128;
-    let mut made = (vec![], vec![]);
-    for i in 0..n {
-        let values = (0..1_usize << n).map(|corner| {
-            let pick = |j: usize| if corner >> j & 1 == 1 { of.1[j] } else { of.0[j] };
-            row_value(plant, mode, i, &(0..n).map(pick).collect::<Vec<_>>())
-        });
-        let values: Vec<i128> = values.collect();
-        let least = values.iter().min().expect("corners") + plant.edges.w_lo[i] as i128;
-        let greatest = values.iter().max().expect("corners") + plant.edges.w_hi[i] as i128;
-        made.0.push(least_at_or_above(least, q));
-        made.1.push(greatest_at_or_below(greatest, q));
-    }
-    made
-}
-
-/// Children: each splittable dimension doubles the list, lower halves first.
-fn slow_children(of: &Wide) -> Vec<Wide> {
-    let mut list = vec![of.clone()];
-    for i in 0..of.0.len() {
-        let (a, b) = (of.0[i], of.1[i]);
-        if a < b {
-            let m = greatest_at_or_below(a + b, 2);
-            let mut lower = list.clone();
-            lower.iter_mut().for_each(|child| child.1[i] = m);
-            list.iter_mut().for_each(|child| child.0[i] = m + 1);
-            lower.append(&mut list);
-            list = lower;
-        }
-    }
-    list
-}
-
-/// Step and number of the tile rule's refusal, by the slow image.
-fn slow_tile(plant: &Plant, of: &Wide, pattern: &[u8]) -> Option<(u8, u64)> {
-    let n = plant.n as usize;
-    let mut here = of.clone();
-    for (step, mode) in pattern.iter().enumerate() {
-        here = corner_image(plant, *mode as usize, &here);
-        if !inside(&here, &wide(&plant.edges.s_lo, &plant.edges.s_hi, n)) {
-            return Some((7, step as u64 + 1));
-        }
-    }
-    let r = wide(&plant.edges.r_lo, &plant.edges.r_hi, n);
-    (!inside(&here, &r)).then_some((8, pattern.len() as u64))
-}
-
-/// All patterns of a length in mode order, each tried from its first step.
-fn slow_pattern(plant: &Plant, of: &Wide) -> Option<Vec<u8>> {
-    for length in 1..=plant.k as u32 {
-        for code in 0..plant.modes.pow(length) {
-            let digit = |t: u32| (code / plant.modes.pow(length - 1 - t) % plant.modes) as u8;
-            let pattern: Vec<u8> = (0..length).map(digit).collect();
-            if slow_tile(plant, of, &pattern).is_none() {
-                return Some(pattern);
-            }
-        }
-    }
-    None
-}
-
-fn slow_tree(plant: &Plant, of: &Wide, depth: u64, tree: &mut Vec<u8>) -> bool {
-    if let Some(pattern) = slow_pattern(plant, of) {
-        tree.push(pattern.len() as u8);
-        tree.extend(pattern);
-        return true;
-    }
-    let children = slow_children(of);
-    if depth == 0 || children.len() == 1 {
-        return false;
-    }
-    tree.push(0);
-    children.iter().all(|child| slow_tree(plant, child, depth - 1, tree))
-}
-
-fn slow_table(plant: &Plant) -> Option<Vec<u8>> {
-    let mut table = vec![1, plant.n as u8];
-    let r = wide(&plant.edges.r_lo, &plant.edges.r_hi, plant.n as usize);
-    slow_tree(plant, &r, plant.d, &mut table).then_some(table)
-}
-
-/// A plant of numbers drawn around a small R, its coefficients still zeros.
-fn plant_around_r(random: &mut Random) -> Plant {
-    let n = random.within(1, 4) as usize;
-    let (modes, k) = [(4, 3), (2, 5), (16, 2), (1, 6), (3, 4)][random.within(0, 4) as usize];
-    let q = random.within(1, 40);
-    let d = random.within(0, if n < 3 { 3 } else { 1 });
-    let mut plant = Plant { n: n as u64, modes, k, q: q as u64, d: d as u64, ..Plant::ZEROS };
-    for i in 0..n {
-        let (lo, width) = (random.within(-60, 60), random.within(0, 24));
-        let edges = &mut plant.edges;
-        (edges.r_lo[i], edges.r_hi[i]) = (lo, lo + width);
-        edges.s_lo[i] = lo - random.within(0, width + 2);
-        edges.s_hi[i] = lo + width + random.within(0, width + 2);
-        edges.w_lo[i] = random.within(-q, 0);
-        edges.w_hi[i] = edges.w_lo[i] + q - 1 + random.within(0, q / 2);
-    }
-    plant
-}
-
-/// A plant that tables are not rare for: each mode either pulls quickly to a
-/// point near R, or pushes slowly in the direction its bits tell.
-fn pulling_plant(random: &mut Random) -> Plant {
-    let mut plant = plant_around_r(random);
-    let (n, q) = (plant.n as usize, plant.q as i64);
-    let slow = random.within(0, 2) > 0;
-    for u in 0..plant.modes as usize {
-        let mut target = [0; 4];
-        let mut push = [0; 4];
-        for i in 0..n {
-            let (lo, hi) = (plant.edges.r_lo[i], plant.edges.r_hi[i]);
-            let far = random.within(0, (hi - lo) / 3);
-            (target[i], push[i]) = match (slow, u >> i & 1) {
-                (false, _) => (random.within(lo - 12, hi + 12), random.within(-1, 1)),
-                (true, 0) => ((lo + hi) / 2, far),
-                (true, _) => ((lo + hi) / 2, -far),
-            };
-        }
-        for i in 0..n {
-            let first = u * n * (n + 1) + i * (n + 1);
-            let mut b = q * (target[i] + push[i]);
-            for j in 0..n {
-                let a = match (i == j, slow) {
-                    (true, true) => random.within(3 * q / 4, q),
-                    (true, false) => random.within(-q / 4, q),
-                    (false, _) => random.within(-q / 12, q / 12),
-                };
-                plant.coefficients[first + j] = a;
-                b -= a * target[j];
-            }
-            plant.coefficients[first + n] = b;
-        }
-    }
-    plant
-}
-
-fn plant_bytes(plant: &Plant) -> Vec<u8> {
-    let mut buffer = vec![0; 1_183];
-    let length = write_plant(plant, &mut buffer).expect("a plant in order");
-    buffer.truncate(length);
-    buffer
-}
+use slow::*;
 
 /// Plants with tables of several tiles or a long pattern, for the tests behind
 /// the maker's; at least half of them split.
@@ -227,7 +46,7 @@ fn the_maker_agrees_with_the_slow_one() {
         let bytes = plant_bytes(&plant);
         let mut buffer = marked(4_000);
         let answer = make(&bytes, &mut buffer);
-        match slow_table(&plant) {
+        match slow_table(&plant, &r_of(&plant), &r_of(&plant)) {
             None => {
                 assert_eq!(told(answer), (9, 0, 0), "{plant:?}");
                 none += 1;
@@ -280,7 +99,7 @@ fn the_maker_agrees_at_the_limits() {
         assert_eq!(length, bytes.len());
         let mut buffer = marked(200);
         let answer = make(&bytes, &mut buffer);
-        match slow_table(&plant) {
+        match slow_table(&plant, &r_of(&plant), &r_of(&plant)) {
             None => {
                 assert_eq!(told(answer), (9, 0, 0));
                 none += 1;
@@ -306,18 +125,6 @@ fn small_plant(random: &mut Random) -> Plant {
     }
     plant.coefficients[..n * (n + 1)].iter_mut().for_each(|slot| *slot = random.within(-15, 15));
     plant
-}
-
-/// All readings of a box.
-fn points(of: &Wide) -> Vec<Vec<i128>> {
-    let mut list = vec![vec![]];
-    for (lo, hi) in of.0.iter().zip(&of.1) {
-        let longer = |x: i128| {
-            list.iter().map(move |point: &Vec<i128>| [point.clone(), vec![x]].concat())
-        };
-        list = (*lo..=*hi).flat_map(longer).collect();
-    }
-    list
 }
 
 #[test]
@@ -379,62 +186,6 @@ fn children_cover_the_box_and_are_apart() {
     }
 }
 
-/// A number of a table, None where it is broken.
-fn slow_number(table: &[u8], place: usize) -> Option<(u64, usize)> {
-    let length = 1 + table.iter().skip(place).take_while(|byte| **byte >= 128).count();
-    let bytes = table.get(place..place + length)?;
-    if length > 5 || (length > 1 && bytes[length - 1] == 0) {
-        return None;
-    }
-    let value = bytes.iter().rev().fold(0, |sum, byte| sum * 128 + u64::from(byte % 128));
-    Some((value, place + length))
-}
-
-/// The checker as a list of boxes still to come.
-fn slow_check(plant: &Plant, table: &[u8]) -> (u64, u64, u64) {
-    let broken = |place: usize| (1, place as u64, 0);
-    let wrong = |place: usize| (6, place as u64, 0);
-    let Some((form, at)) = slow_number(table, 0) else { return broken(0) };
-    if form != 1 {
-        return (2, 0, 0);
-    }
-    let Some((n, mut at)) = slow_number(table, at) else { return broken(at) };
-    if n != plant.n {
-        return wrong(1);
-    }
-    let r = wide(&plant.edges.r_lo, &plant.edges.r_hi, plant.n as usize);
-    let mut to_come = vec![(r, plant.d)];
-    while let Some((here, depth)) = to_come.pop() {
-        let place = at;
-        let Some((node, next)) = slow_number(table, at) else { return broken(at) };
-        at = next;
-        if node == 0 {
-            let children = slow_children(&here);
-            if depth == 0 || children.len() == 1 {
-                return wrong(place);
-            }
-            to_come.extend(children.into_iter().rev().map(|child| (child, depth - 1)));
-            continue;
-        }
-        if node > plant.k {
-            return wrong(place);
-        }
-        let mut pattern = vec![];
-        for _ in 0..node {
-            let Some((mode, next)) = slow_number(table, at) else { return broken(at) };
-            if mode >= plant.modes {
-                return wrong(at);
-            }
-            pattern.push(mode as u8);
-            at = next;
-        }
-        if let Some((number, step)) = slow_tile(plant, &here, &pattern) {
-            return (number.into(), place as u64, step);
-        }
-    }
-    if at < table.len() { wrong(at) } else { (0, 0, 0) }
-}
-
 #[test]
 fn the_checker_agrees_on_damaged_tables() {
     let mut random = Random(5);
@@ -458,33 +209,6 @@ fn the_checker_agrees_on_damaged_tables() {
         }
     }
     assert!([0, 1, 2, 6, 7, 8].iter().all(|number| seen[*number] > 5), "{seen:?}");
-}
-
-/// A reading that may follow: in each dimension the lowest, highest or any.
-fn next_reading(plant: &Plant, mode: u8, x: &[i64; 4], random: &mut Random) -> [i64; 4] {
-    let n = plant.n as usize;
-    let from: Vec<i128> = x[..n].iter().map(|x| *x as i128).collect();
-    let mut next = [i64::MIN; 4];
-    for i in 0..n {
-        let value = row_value(plant, mode as usize, i, &from);
-        let q = plant.q as i128;
-        let lowest = least_at_or_above(value + plant.edges.w_lo[i] as i128, q) as i64;
-        let highest = greatest_at_or_below(value + plant.edges.w_hi[i] as i128, q) as i64;
-        next[i] = match random.within(0, 3) {
-            0 => lowest,
-            1 => highest,
-            _ => random.within(lowest, highest),
-        };
-    }
-    next
-}
-
-fn reading_in(lo: &[i64; 4], hi: &[i64; 4], n: usize, random: &mut Random) -> [i64; 4] {
-    let mut reading = [i64::MAX; 4];
-    for i in 0..n {
-        reading[i] = [lo[i], hi[i], random.within(lo[i], hi[i])][random.within(0, 2) as usize];
-    }
-    reading
 }
 
 #[test]

@@ -3,7 +3,7 @@
 //! cut and damaged. HOACHULIM_SEED gives another seed, HOACHULIM_ROUNDS a
 //! factor for longer runs.
 
-use crate::common::{encode, field_bytes, file, with, Field, Random, Raw, F, S, U};
+use crate::common::{broken, encode, file, with, Field, Random, F, S, U};
 use crate::Told;
 use second::boxes::Box;
 use second::plant::Plant;
@@ -171,7 +171,7 @@ fn rooms(fields: &[Field]) -> usize {
     n as usize
 }
 
-fn signed(field: &Field) -> i64 {
+pub fn signed(field: &Field) -> i64 {
     let S(value) = field else { panic!("{field:?} is no signed number") };
     *value
 }
@@ -221,19 +221,18 @@ fn wrong(fields: &[Field], at: usize) -> Vec<(Field, u64)> {
         }
         return floats.into_iter().map(|float| (F(float), 13)).collect();
     };
-    let mut longer = field_bytes(&fields[at]);
-    *longer.last_mut().unwrap() |= 0x80;
-    longer.push(0);
-    let mut fields_at = vec![(Raw(longer), 1), (Raw(vec![0x80, 0x80, 0x80, 0x80, 0x80, 1]), 1), (Raw(vec![0xFF; 5]), 1)];
     let unfit = if at == 0 { 2 } else { 3 };
-    for value in [least - 1, greatest + 1, (1 << 32) + greatest, (1 << 34) - 1] {
-        match fields[at] {
-            U(_) if value < 0 => {}
-            U(_) => fields_at.push((U(value as u64), unfit)),
-            _ => fields_at.push((S(value), unfit)),
-        }
+    let broken = broken(&fields[at]).into_iter().map(|field| (field, 1));
+    broken.chain(outside(&fields[at], least, greatest).into_iter().map(|field| (field, unfit))).collect()
+}
+
+/// Numbers of a field's kind just outside its range, and ones that lie in it once their high bits are lost.
+pub fn outside(field: &Field, least: i64, greatest: i64) -> Vec<Field> {
+    let values = [least - 1, greatest + 1, (1 << 32) + greatest, (1 << 34) - 1];
+    match field {
+        U(_) => values.into_iter().filter(|value| *value >= 0).map(|value| U(value as u64)).collect(),
+        _ => values.map(S).to_vec(),
     }
-    fields_at
 }
 
 /// A plant or a sheet in order, with each of its numbers made wrong in every way and each dimension's 4 and 5, and what is told of each.
@@ -296,17 +295,22 @@ pub fn any_tree(random: &mut Random, n: u8) -> Vec<u8> {
 
 /// A table that keeps every rule, with whatever patterns and splits chance tries first; None where it does not come upon one.
 pub fn other_table(random: &mut Random, plant: &Plant) -> Option<Vec<u8>> {
-    let mut table = vec![1, plant.n as u8];
-    grown(random, plant, &plant.r(), plant.d, &mut table).then_some(table)
+    other_table_of(random, plant, &plant.r(), &plant.r())
 }
 
-fn grown(random: &mut Random, plant: &Plant, here: &Box, depth_left: u64, table: &mut Vec<u8>) -> bool {
+/// The same of a table that covers `root` with patterns that end in `goal`.
+pub fn other_table_of(random: &mut Random, plant: &Plant, root: &Box, goal: &Box) -> Option<Vec<u8>> {
+    let mut table = vec![1, plant.n as u8];
+    grown(random, plant, goal, root, plant.d, &mut table).then_some(table)
+}
+
+fn grown(random: &mut Random, plant: &Plant, goal: &Box, here: &Box, depth_left: u64, table: &mut Vec<u8>) -> bool {
     let split = if depth_left > 0 { here.split() } else { None };
     if split.is_none() || !random.chance(3) {
         for _ in 0..40 {
             let length = random.within(1, plant.k as i64);
             let pattern: Vec<u8> = (0..length).map(|_| random.within(0, plant.modes as i64 - 1) as u8).collect();
-            if tile_rule(plant, here, &pattern, 0).is_ok() {
+            if tile_rule(plant, goal, here, &pattern, 0).is_ok() {
                 table.push(length as u8);
                 table.extend(pattern);
                 return true;
@@ -315,7 +319,7 @@ fn grown(random: &mut Random, plant: &Plant, here: &Box, depth_left: u64, table:
     }
     let Some(mut children) = split else { return false };
     table.push(0);
-    children.all(|child| grown(random, plant, &child, depth_left - 1, table))
+    children.all(|child| grown(random, plant, goal, &child, depth_left - 1, table))
 }
 
 /// A reading at, beside or between the edges of R and S, now and then as far off as can be.

@@ -4,7 +4,9 @@
 #[path = "../../second/tests/common/mod.rs"]
 pub mod common;
 pub mod inputs;
+pub mod rooms;
 pub mod seen;
+pub mod starts;
 
 /// Number, place, step.
 pub type Told = (u64, u64, u64);
@@ -37,6 +39,36 @@ extern "C" {
         plant_length: u64,
         table: *const u8,
         table_length: u64,
+        place: u64,
+        left: u64,
+        x0: i64,
+        x1: i64,
+        x2: i64,
+        x3: i64,
+        out: *mut u64,
+    ) -> u64;
+    fn hoachulim_start_make(
+        plant: *const u8,
+        plant_length: u64,
+        chain: *const u8,
+        chain_length: u64,
+        buffer: *mut u8,
+        buffer_length: u64,
+        out: *mut u64,
+    ) -> u64;
+    fn hoachulim_start_check(
+        plant: *const u8,
+        plant_length: u64,
+        start: *const u8,
+        start_length: u64,
+        out: *mut u64,
+    ) -> u64;
+    fn hoachulim_start_control(
+        plant: *const u8,
+        plant_length: u64,
+        start: *const u8,
+        start_length: u64,
+        index: u64,
         place: u64,
         left: u64,
         x0: i64,
@@ -102,12 +134,68 @@ pub fn control(plant: &[u8], table: &[u8], place: u64, left: u64, x: [i64; 4]) -
     (mode, out)
 }
 
+/// The start file that the library makes of a plant's and a chain's bytes: number, and length written or place, and step.
+pub fn start_make(plant: &[u8], chain: &[u8], buffer: &mut [u8]) -> Told {
+    let mut out = [u64::MAX; 2];
+    let number = unsafe {
+        hoachulim_start_make(
+            plant.as_ptr(),
+            plant.len() as u64,
+            chain.as_ptr(),
+            chain.len() as u64,
+            buffer.as_mut_ptr(),
+            buffer.len() as u64,
+            out.as_mut_ptr(),
+        )
+    };
+    (number, out[0], out[1])
+}
+
+/// What the library says of a start file's bytes for a plant's bytes.
+pub fn start_check(plant: &[u8], start: &[u8]) -> Told {
+    let mut out = [u64::MAX; 2];
+    let number = unsafe {
+        hoachulim_start_check(plant.as_ptr(), plant.len() as u64, start.as_ptr(), start.len() as u64, out.as_mut_ptr())
+    };
+    (number, out[0], out[1])
+}
+
+/// Index, place, left: the state of a controller with a start file.
+pub type Standing = [u64; 3];
+
+/// One call of the controller with a start file: the mode, and number, place, step, next index, next place, next left.
+pub fn start_control(plant: &[u8], start: &[u8], [index, place, left]: Standing, x: [i64; 4]) -> (u64, [u64; 6]) {
+    let mut out = [u64::MAX; 6];
+    let mode = unsafe {
+        hoachulim_start_control(
+            plant.as_ptr(),
+            plant.len() as u64,
+            start.as_ptr(),
+            start.len() as u64,
+            index,
+            place,
+            left,
+            x[0],
+            x[1],
+            x[2],
+            x[3],
+            out.as_mut_ptr(),
+        )
+    };
+    (mode, out)
+}
+
 /// The plant whose defined table has 30,039 bytes, the most there can be.
 pub fn largest_table_plant() -> Vec<u8> {
+    largest_table_plant_at(1000)
+}
+
+/// The same with R elsewhere: it is 64 by 64 counts from `lo` on.
+pub fn largest_table_plant_at(lo: i64) -> Vec<u8> {
     use common::{file, S, U};
     let limit = 1_000_000;
     let mut fields = vec![U(1), U(2), U(1), U(1), U(6), U(6)];
-    fields.extend([1000, 1063, -limit, limit, 1000, 1063, -limit, limit, 0, 0, 0, 0].map(S));
+    fields.extend([lo, lo + 63, -limit, limit, lo, lo + 63, -limit, limit, 0, 0, 0, 0].map(S));
     fields.extend([4, -13, 0, 1, -3, 0].map(S));
     file(&fields)
 }

@@ -3,13 +3,14 @@
 //! is counted, by function and by number.
 
 use crate::common::{marked, told};
-use crate::Told;
+use crate::{Standing, Told};
 use second::control::State;
 use second::refusal::Refusal;
+use second::start::StartState;
 use std::fmt::Debug;
 
 /// How often each number came, 0 for done.
-pub type Numbers = [usize; 15];
+pub type Numbers = [usize; 16];
 
 #[derive(Default, Debug)]
 pub struct Seen {
@@ -18,6 +19,18 @@ pub struct Seen {
     pub make: Numbers,
     pub check: Numbers,
     pub control: Numbers,
+    pub start_make: Numbers,
+    pub start_check: Numbers,
+    pub start_control: Numbers,
+}
+
+/// Every number that a function can tell came more than so often, and no other came at all.
+pub fn each_came(name: &str, numbers: &Numbers, can_be: &[usize], often: usize) {
+    println!("{name}: {numbers:?}");
+    for (number, times) in numbers.iter().enumerate() {
+        let wanted = if can_be.contains(&number) { *times > often } else { *times == 0 };
+        assert!(wanted, "{name} told {number} {times} times");
+    }
 }
 
 /// Bytes behind a lent buffer, which no write may change.
@@ -80,7 +93,38 @@ impl Seen {
         answer
     }
 
-    /// Each function with how often each number came.
+    pub fn start_make(&mut self, plant: &[u8], chain: &[u8], length: usize) -> Told {
+        let answer = written(
+            &(plant, chain),
+            length,
+            |(plant, chain), buffer| crate::start_make(plant, chain, buffer),
+            |(plant, chain), buffer| second::start::start_make_into(plant, chain, buffer),
+        );
+        self.start_make[answer.0 as usize] += 1;
+        answer
+    }
+
+    pub fn start_check(&mut self, plant: &[u8], start: &[u8]) -> Told {
+        let answer = crate::start_check(plant, start);
+        assert_eq!(answer, told(second::start::start_check(plant, start)), "start check {plant:?} {start:?}");
+        self.start_check[answer.0 as usize] += 1;
+        answer
+    }
+
+    /// The second program's answer is taken as the face shows it.
+    pub fn start_control(&mut self, plant: &[u8], start: &[u8], standing: Standing, x: [i64; 4]) -> (u64, [u64; 6]) {
+        let answer = crate::start_control(plant, start, standing, x);
+        let [index, place, left] = standing;
+        let shown = match second::start::start_control(plant, start, StartState { index, place, left }, x) {
+            Ok((mode, next)) => (mode.into(), [0, 0, 0, next.index, next.place, next.left]),
+            Err(refusal) => (255, [refusal.number.into(), refusal.place, refusal.step, 0, 0, 0]),
+        };
+        assert_eq!(answer, shown, "start control {plant:?} {start:?} {standing:?} {x:?}");
+        self.start_control[answer.1[0] as usize] += 1;
+        answer
+    }
+
+    /// Each function of document 01 with how often each number came.
     pub fn functions(&self) -> [(&'static str, &Numbers); 5] {
         [
             ("plant", &self.plant),

@@ -251,7 +251,7 @@ fn the_tile_rule() {
             let pattern: Vec<u8> = (0..length).map(|_| random.within(0, plant.modes as i64 - 1) as u8).collect();
             let table = [&[1, plant.n as u8, length][..], &pattern].concat();
             let answer = check(&bytes, &table);
-            assert_eq!(answer, told(tile_rule(&plant, &plant.r(), &pattern, 2)), "{pattern:?} in {plant:?}");
+            assert_eq!(answer, told(tile_rule(&plant, &plant.r(), &plant.r(), &pattern, 2)), "{pattern:?} in {plant:?}");
             let step = if answer.0 == 0 { u64::from(length) } else { answer.2 };
             seen[answer.0 as usize][step as usize] += 1;
         }

@@ -4,49 +4,11 @@
 //! tile is chosen the plant is back in R, the controller idle, within as many
 //! samples as the table's longest pattern.
 
-use second::plant::{read_plant, Plant};
+use second::plant::read_plant;
 use side::common::{file, p_fields, p_prime, Random};
 use side::inputs::{other_table, plant_fields, random, rounds};
+use side::rooms::{following, longest_pattern, Next, EVERY_NEXT};
 use side::{check, control, largest_table_plant, make};
-
-#[derive(Clone, Copy)]
-enum Next {
-    Lowest,
-    Highest,
-    ByTurns,
-    Any,
-}
-
-/// A reading that may follow, by q·y − (A·x + b) in w lo .. w hi.
-fn following(random: &mut Random, next: Next, sample: usize, plant: &Plant, mode: u64, x: &[i64; 4]) -> [i64; 4] {
-    let (n, q) = (plant.n as usize, plant.q as i64);
-    let mut y = [0; 4];
-    for i in 0..n {
-        let row = plant.row(mode as usize, i);
-        let sum = row[n] + (0..n).map(|j| row[j] * x[j]).sum::<i64>();
-        let (least, greatest) = (sum + plant.edges.w_lo[i], sum + plant.edges.w_hi[i]);
-        let lo = least.div_euclid(q) + i64::from(least.rem_euclid(q) > 0);
-        let hi = greatest.div_euclid(q);
-        y[i] = match next {
-            Next::Lowest => lo,
-            Next::Highest => hi,
-            Next::ByTurns if (sample + i) % 2 == 0 => lo,
-            Next::ByTurns => hi,
-            Next::Any => random.within(lo, hi),
-        };
-    }
-    y
-}
-
-/// A node and its modes are one byte each, so tiles and splits stand in a row.
-fn longest_pattern(table: &[u8]) -> usize {
-    let (mut at, mut longest) = (2, 0);
-    while at < table.len() {
-        longest = longest.max(table[at].into());
-        at += 1 + usize::from(table[at]);
-    }
-    longest
-}
 
 /// One run from a reading in R.
 fn run(random: &mut Random, next: Next, samples: usize, bytes: &[u8], table: &[u8], mut x: [i64; 4]) {
@@ -73,7 +35,7 @@ fn runs(random: &mut Random, bytes: &[u8], table: &[u8]) -> usize {
     assert_eq!(check(bytes, table), (0, 0, 0), "{bytes:?} {table:?}");
     let plant = read_plant(bytes).unwrap();
     let (lo, hi) = (plant.edges.r_lo, plant.edges.r_hi);
-    for next in [Next::Lowest, Next::Highest, Next::ByTurns, Next::Any] {
+    for next in EVERY_NEXT {
         let any = std::array::from_fn(|i| random.within(lo[i], hi[i]));
         for first in [lo, hi, any] {
             run(random, next, 50, bytes, table, first);

@@ -9,7 +9,7 @@ use second::sheet::{Emitter, Room, Sheet};
 use std::fmt::Debug;
 
 /// One number of a file, or bytes as they are.
-#[derive(Clone, Debug)]
+#[derive(Clone, Debug, PartialEq)]
 pub enum Field {
     U(u64),
     S(i64),
@@ -43,6 +43,14 @@ pub fn field_bytes(field: &Field) -> Vec<u8> {
         F(float) => float.to_bits().to_le_bytes().to_vec(),
         Raw(bytes) => bytes.clone(),
     }
+}
+
+/// A number made a group longer, one of six bytes, one without an end.
+pub fn broken(field: &Field) -> [Field; 3] {
+    let mut longer = field_bytes(field);
+    *longer.last_mut().expect("a byte") |= 0x80;
+    longer.push(0);
+    [Raw(longer), Raw(vec![0x80, 0x80, 0x80, 0x80, 0x80, 1]), Raw(vec![0xFF; 5])]
 }
 
 /// The file and the place of each field, with the end's place last.
@@ -108,6 +116,29 @@ pub fn two_rooms() -> Vec<Field> {
     fields.extend([2, 0, 9, 0, 2, 29].map(S));
     fields.extend([3, -1, 15, 1, 2, 23].map(S));
     fields
+}
+
+/// A chain's fields: form, m, then the edges of R1..Rm, box by box.
+pub fn chain_fields<Sides: AsRef<[(i64, i64)]>>(boxes: &[Sides]) -> Vec<Field> {
+    let edges = boxes.iter().flat_map(Sides::as_ref).flat_map(|(lo, hi)| [S(*lo), S(*hi)]);
+    [U(1), U(boxes.len() as u64)].into_iter().chain(edges).collect()
+}
+
+/// A start file's fields: a chain's, then for each table its byte length and
+/// the table as it is.
+pub fn start_fields(chain: &[Field], tables: &[&[u8]]) -> Vec<Field> {
+    let lengths = tables.iter().flat_map(|table| [U(table.len() as u64), Raw(table.to_vec())]);
+    chain.iter().cloned().chain(lengths).collect()
+}
+
+/// P with S 150..240, the plant of a room that starts far under R.
+pub fn cold_p() -> Vec<u8> {
+    file(&with(&with(&p_fields(), 8, S(150)), 9, S(240)))
+}
+
+/// Its chain: R1 180..225, R2 160..230.
+pub fn cold_chain() -> Vec<Field> {
+    chain_fields(&[[(180, 225)], [(160, 230)]])
 }
 
 /// Line 13's sheet: fields 6..10 the edges, 10, 11 the band, 12 time, 13

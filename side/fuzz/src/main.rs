@@ -4,7 +4,9 @@
 //! seconds; it is outside the gate.
 //!
 //! An input is the function, two bytes for a length, and the files; for the
-//! controller place, left and four readings come first.
+//! controller place, left and four readings come first, with a start file the
+//! index before them; for the maker of start files a byte for the buffer's
+//! length.
 
 #![no_main]
 
@@ -55,6 +57,11 @@ fn small(plant: &[u8]) -> bool {
     read_plant(plant).map_or(true, |plant| plant.modes.pow(plant.k as u32) <= 1 << 12)
 }
 
+/// Four counts of two bytes.
+fn reading(bytes: &[u8]) -> [i64; 4] {
+    std::array::from_fn(|i| i16::from_le_bytes([bytes[2 * i], bytes[2 * i + 1]]).into())
+}
+
 #[no_mangle]
 pub extern "C" fn LLVMFuzzerTestOneInput(data: *const u8, length: usize) -> i32 {
     let data = if length == 0 { &[] } else { unsafe { std::slice::from_raw_parts(data, length) } };
@@ -66,7 +73,7 @@ pub extern "C" fn LLVMFuzzerTestOneInput(data: *const u8, length: usize) -> i32 
         let (plant, table) = bytes.split_at(size.min(bytes.len()));
         (Guarded::new(plant), Guarded::new(table))
     };
-    match (function % 5, rest) {
+    match (function % 8, rest) {
         (0, _) => {
             seen.plant(one(rest).bytes());
         }
@@ -82,8 +89,22 @@ pub extern "C" fn LLVMFuzzerTestOneInput(data: *const u8, length: usize) -> i32 
         }
         (4, [place, left, x @ ..]) if x.len() >= 8 => {
             let (plant, table) = two(&x[8..]);
-            let x = std::array::from_fn(|i| i16::from_le_bytes([x[2 * i], x[2 * i + 1]]).into());
-            seen.control(plant.bytes(), table.bytes(), (*place).into(), (*left).into(), x);
+            seen.control(plant.bytes(), table.bytes(), (*place).into(), (*left).into(), reading(x));
+        }
+        (5, [buffer, files @ ..]) => {
+            let (plant, chain) = two(files);
+            if small(plant.bytes()) {
+                seen.start_make(plant.bytes(), chain.bytes(), 8 * usize::from(*buffer));
+            }
+        }
+        (6, _) => {
+            let (plant, start) = two(rest);
+            seen.start_check(plant.bytes(), start.bytes());
+        }
+        (7, [index, place, left, x @ ..]) if x.len() >= 8 => {
+            let (plant, start) = two(&x[8..]);
+            let standing = [index, place, left].map(|number| u64::from(*number));
+            seen.start_control(plant.bytes(), start.bytes(), standing, reading(x));
         }
         _ => {}
     }

@@ -3,7 +3,11 @@
 //! says that the proved library is the faster.
 
 use second::control::State;
-use side::{check, common, control, four_rooms_without_a_table, largest_table_plant, make, plant, sheet};
+use second::start::StartState;
+use side::starts::turning;
+use side::{
+    check, common, control, four_rooms_without_a_table, largest_table_plant, make, plant, sheet, start_check, start_control, start_make,
+};
 use std::hint::black_box;
 use std::time::Instant;
 
@@ -110,4 +114,52 @@ fn main() {
             black_box(second::plant::read_plant(black_box(&bytes))).unwrap();
         },
     );
+    starts();
+}
+
+/// A start file of nine tables, each all but the largest: the last tile of the last one, and the next mode of its pattern.
+fn starts() {
+    let (plant, chain) = turning();
+    let (mut ours, mut theirs) = (vec![0; second::LARGEST_START], vec![0; second::LARGEST_START]);
+    let length = second::start::start_make_into(&plant, &chain, &mut theirs).unwrap();
+    assert_eq!(start_make(&plant, &chain, &mut ours), (0, length as u64, 0));
+    assert_eq!(ours, theirs);
+    let start = theirs[..length].to_vec();
+    let name = |what: &str| format!("{what}, m 8, {length} bytes");
+    compare(
+        &name("start make"),
+        1,
+        || {
+            black_box(start_make(black_box(&plant), black_box(&chain), black_box(&mut ours)));
+        },
+        || {
+            black_box(second::start::start_make_into(black_box(&plant), black_box(&chain), black_box(&mut theirs))).unwrap();
+        },
+    );
+    compare(
+        &name("start check"),
+        1,
+        || {
+            black_box(start_check(black_box(&plant), black_box(&start)));
+        },
+        || {
+            black_box(second::start::start_check(black_box(&plant), black_box(&start))).unwrap();
+        },
+    );
+    let last = [1063, 1063, 0, 0];
+    assert_eq!(start_control(&plant, &start, [0, 0, 0], last), (0, [0, 0, 0, 8, 30_034, 5]));
+    for (what, calls, standing) in [("idle in R8", 100, [0, 0, 0]), ("running", 2000, [8, 30_034, 5])] {
+        let [index, place, left] = standing;
+        compare(
+            &name(&format!("start call {what}")),
+            calls,
+            || {
+                black_box(start_control(black_box(&plant), black_box(&start), standing, last));
+            },
+            || {
+                let state = StartState { index, place, left };
+                black_box(second::start::start_control(black_box(&plant), black_box(&start), state, last)).unwrap();
+            },
+        );
+    }
 }

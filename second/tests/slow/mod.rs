@@ -1,0 +1,361 @@
+//! Slow ways of saying what the program says: images from all corners in 128
+//! bits, patterns tried one by one, tables judged by a list of boxes still to
+//! come; and the plants that the tests behind them draw.
+#![allow(dead_code)]
+
+use crate::common::{chain_fields, file, Random};
+use second::plant::{write_plant, Plant};
+use second::start::start_make;
+
+/// Number, place and step; zeros when done.
+pub type Told = (u64, u64, u64);
+
+/// A box as its low and its high edges.
+pub type Wide = (Vec<i128>, Vec<i128>);
+
+pub fn wide(lo: &[i64], hi: &[i64], n: usize) -> Wide {
+    (lo[..n].iter().map(|x| *x as i128).collect(), hi[..n].iter().map(|x| *x as i128).collect())
+}
+
+pub fn inside(inner: &Wide, outer: &Wide) -> bool {
+    inner.0.iter().zip(&outer.0).all(|(a, b)| a >= b)
+        && inner.1.iter().zip(&outer.1).all(|(a, b)| a <= b)
+}
+
+/// The least y with q*y >= value, found by stepping.
+pub fn least_at_or_above(value: i128, q: i128) -> i128 {
+    let mut y = value / q;
+    while y * q < value {
+        y += 1;
+    }
+    while (y - 1) * q >= value {
+        y -= 1;
+    }
+    y
+}
+
+/// The greatest y with q*y <= value.
+pub fn greatest_at_or_below(value: i128, q: i128) -> i128 {
+    -least_at_or_above(-value, q)
+}
+
+/// (A_u x + b_u)_i.
+pub fn row_value(plant: &Plant, mode: usize, i: usize, x: &[i128]) -> i128 {
+    let n = x.len();
+    let first = mode * n * (n + 1) + i * (n + 1);
+    let numbers = &plant.coefficients[first..first + n + 1];
+    (0..n).map(|j| numbers[j] as i128 * x[j]).sum::<i128>() + numbers[n] as i128
+}
+
+/// The image from the values at all corners.
+pub fn corner_image(plant: &Plant, mode: usize, of: &Wide) -> Wide {
+    let n = of.0.len();
+    let q = plant.q as i128;
+    let mut made = (vec![], vec![]);
+    for i in 0..n {
+        let values = (0..1_usize << n).map(|corner| {
+            let pick = |j: usize| if corner >> j & 1 == 1 { of.1[j] } else { of.0[j] };
+            row_value(plant, mode, i, &(0..n).map(pick).collect::<Vec<_>>())
+        });
+        let values: Vec<i128> = values.collect();
+        let least = values.iter().min().expect("corners") + plant.edges.w_lo[i] as i128;
+        let greatest = values.iter().max().expect("corners") + plant.edges.w_hi[i] as i128;
+        made.0.push(least_at_or_above(least, q));
+        made.1.push(greatest_at_or_below(greatest, q));
+    }
+    made
+}
+
+/// Children: each splittable dimension doubles the list, lower halves first.
+pub fn slow_children(of: &Wide) -> Vec<Wide> {
+    let mut list = vec![of.clone()];
+    for i in 0..of.0.len() {
+        let (a, b) = (of.0[i], of.1[i]);
+        if a < b {
+            let m = greatest_at_or_below(a + b, 2);
+            let mut lower = list.clone();
+            lower.iter_mut().for_each(|child| child.1[i] = m);
+            list.iter_mut().for_each(|child| child.0[i] = m + 1);
+            lower.append(&mut list);
+            list = lower;
+        }
+    }
+    list
+}
+
+/// The box R.
+pub fn r_of(plant: &Plant) -> Wide {
+    wide(&plant.edges.r_lo, &plant.edges.r_hi, plant.n as usize)
+}
+
+/// The box S.
+pub fn s_of(plant: &Plant) -> Wide {
+    wide(&plant.edges.s_lo, &plant.edges.s_hi, plant.n as usize)
+}
+
+/// Step and number of the tile rule's refusal, by the slow image.
+pub fn slow_tile(plant: &Plant, goal: &Wide, of: &Wide, pattern: &[u8]) -> Option<(u8, u64)> {
+    let mut here = of.clone();
+    for (step, mode) in pattern.iter().enumerate() {
+        here = corner_image(plant, *mode as usize, &here);
+        if !inside(&here, &s_of(plant)) {
+            return Some((7, step as u64 + 1));
+        }
+    }
+    (!inside(&here, goal)).then_some((8, pattern.len() as u64))
+}
+
+/// All patterns of a length in mode order, each tried from its first step.
+pub fn slow_pattern(plant: &Plant, goal: &Wide, of: &Wide) -> Option<Vec<u8>> {
+    for length in 1..=plant.k as u32 {
+        for code in 0..plant.modes.pow(length) {
+            let digit = |t: u32| (code / plant.modes.pow(length - 1 - t) % plant.modes) as u8;
+            let pattern: Vec<u8> = (0..length).map(digit).collect();
+            if slow_tile(plant, goal, of, &pattern).is_none() {
+                return Some(pattern);
+            }
+        }
+    }
+    None
+}
+
+/// The tree of a box, None where there is no table.
+pub fn slow_tree(plant: &Plant, goal: &Wide, of: &Wide, depth: u64) -> Option<Vec<u8>> {
+    if let Some(pattern) = slow_pattern(plant, goal, of) {
+        return Some([&[pattern.len() as u8], &pattern[..]].concat());
+    }
+    let children = slow_children(of);
+    if depth == 0 || children.len() == 1 {
+        return None;
+    }
+    let mut tree = vec![0];
+    for child in children {
+        tree.extend(slow_tree(plant, goal, &child, depth - 1)?);
+    }
+    Some(tree)
+}
+
+/// The defined table that covers `root` with patterns that end in `goal`.
+pub fn slow_table(plant: &Plant, root: &Wide, goal: &Wide) -> Option<Vec<u8>> {
+    let tree = slow_tree(plant, goal, root, plant.d)?;
+    Some([&[1, plant.n as u8], &tree[..]].concat())
+}
+
+/// A plant of numbers drawn around a small R, its coefficients still zeros.
+pub fn plant_around_r(random: &mut Random) -> Plant {
+    let n = random.within(1, 4) as usize;
+    let (modes, k) = [(4, 3), (2, 5), (16, 2), (1, 6), (3, 4)][random.within(0, 4) as usize];
+    let q = random.within(1, 40);
+    let d = random.within(0, if n < 3 { 3 } else { 1 });
+    let mut plant = Plant { n: n as u64, modes, k, q: q as u64, d: d as u64, ..Plant::ZEROS };
+    for i in 0..n {
+        let (lo, width) = (random.within(-60, 60), random.within(0, 24));
+        let edges = &mut plant.edges;
+        (edges.r_lo[i], edges.r_hi[i]) = (lo, lo + width);
+        edges.s_lo[i] = lo - random.within(0, width + 2);
+        edges.s_hi[i] = lo + width + random.within(0, width + 2);
+        edges.w_lo[i] = random.within(-q, 0);
+        edges.w_hi[i] = edges.w_lo[i] + q - 1 + random.within(0, q / 2);
+    }
+    plant
+}
+
+/// A plant that tables are not rare for: each mode either pulls quickly to a
+/// point near R, or pushes slowly in the direction its bits tell.
+pub fn pulling_plant(random: &mut Random) -> Plant {
+    let mut plant = plant_around_r(random);
+    let (n, q) = (plant.n as usize, plant.q as i64);
+    let slow = random.within(0, 2) > 0;
+    for u in 0..plant.modes as usize {
+        let mut target = [0; 4];
+        let mut push = [0; 4];
+        for i in 0..n {
+            let (lo, hi) = (plant.edges.r_lo[i], plant.edges.r_hi[i]);
+            let far = random.within(0, (hi - lo) / 3);
+            (target[i], push[i]) = match (slow, u >> i & 1) {
+                (false, _) => (random.within(lo - 12, hi + 12), random.within(-1, 1)),
+                (true, 0) => ((lo + hi) / 2, far),
+                (true, _) => ((lo + hi) / 2, -far),
+            };
+        }
+        for i in 0..n {
+            let first = u * n * (n + 1) + i * (n + 1);
+            let mut b = q * (target[i] + push[i]);
+            for j in 0..n {
+                let a = match (i == j, slow) {
+                    (true, true) => random.within(3 * q / 4, q),
+                    (true, false) => random.within(-q / 4, q),
+                    (false, _) => random.within(-q / 12, q / 12),
+                };
+                plant.coefficients[first + j] = a;
+                b -= a * target[j];
+            }
+            plant.coefficients[first + n] = b;
+        }
+    }
+    plant
+}
+
+pub fn plant_bytes(plant: &Plant) -> Vec<u8> {
+    let mut buffer = vec![0; 1_183];
+    let length = write_plant(plant, &mut buffer).expect("a plant in order");
+    buffer.truncate(length);
+    buffer
+}
+
+/// All readings of a box.
+pub fn points(of: &Wide) -> Vec<Vec<i128>> {
+    let mut list = vec![vec![]];
+    for (lo, hi) in of.0.iter().zip(&of.1) {
+        let longer = |x: i128| {
+            list.iter().map(move |point: &Vec<i128>| [point.clone(), vec![x]].concat())
+        };
+        list = (*lo..=*hi).flat_map(longer).collect();
+    }
+    list
+}
+
+/// A number of a table, None where it is broken.
+pub fn slow_number(table: &[u8], place: usize) -> Option<(u64, usize)> {
+    let length = 1 + table.iter().skip(place).take_while(|byte| **byte >= 128).count();
+    let bytes = table.get(place..place + length)?;
+    if length > 5 || (length > 1 && bytes[length - 1] == 0) {
+        return None;
+    }
+    let value = bytes.iter().rev().fold(0, |sum, byte| sum * 128 + u64::from(byte % 128));
+    Some((value, place + length))
+}
+
+/// The checker as a list of boxes still to come: where the last tile ends, or
+/// the refusal.
+pub fn slow_verdict(plant: &Plant, root: &Wide, goal: &Wide, table: &[u8]) -> Result<usize, Told> {
+    let number = |place: usize| slow_number(table, place).ok_or((1, place as u64, 0));
+    let wrong = |place: usize| Err((6, place as u64, 0));
+    let (form, second) = number(0)?;
+    if form != 1 {
+        return Err((2, 0, 0));
+    }
+    let (n, mut at) = number(second)?;
+    if n != plant.n {
+        return wrong(second);
+    }
+    let mut to_come = vec![(root.clone(), plant.d)];
+    while let Some((here, depth)) = to_come.pop() {
+        let place = at;
+        let node;
+        (node, at) = number(place)?;
+        if node == 0 {
+            let children = slow_children(&here);
+            if depth == 0 || children.len() == 1 {
+                return wrong(place);
+            }
+            to_come.extend(children.into_iter().rev().map(|child| (child, depth - 1)));
+            continue;
+        }
+        if node > plant.k {
+            return wrong(place);
+        }
+        let mut pattern = vec![];
+        for _ in 0..node {
+            let (mode, next) = number(at)?;
+            if mode >= plant.modes {
+                return wrong(at);
+            }
+            pattern.push(mode as u8);
+            at = next;
+        }
+        if let Some((number, step)) = slow_tile(plant, goal, &here, &pattern) {
+            return Err((number.into(), place as u64, step));
+        }
+    }
+    Ok(at)
+}
+
+/// What the checker tells of a plant's own table.
+pub fn slow_check(plant: &Plant, table: &[u8]) -> Told {
+    match slow_verdict(plant, &r_of(plant), &r_of(plant), table) {
+        Err(told) => told,
+        Ok(end) if end < table.len() => (6, end as u64, 0),
+        Ok(_) => (0, 0, 0),
+    }
+}
+
+/// The lowest and the highest readings that may follow, dimension by dimension.
+pub fn following(plant: &Plant, mode: u8, x: &[i64; 4]) -> Wide {
+    let n = plant.n as usize;
+    let (x, q) = (wide(x, x, n).0, plant.q as i128);
+    let lowest = |i| least_at_or_above(row_value(plant, mode as usize, i, &x) + plant.edges.w_lo[i] as i128, q);
+    let highest = |i| greatest_at_or_below(row_value(plant, mode as usize, i, &x) + plant.edges.w_hi[i] as i128, q);
+    ((0..n).map(lowest).collect(), (0..n).map(highest).collect())
+}
+
+/// A reading that may follow: in each dimension the lowest, highest or any.
+pub fn next_reading(plant: &Plant, mode: u8, x: &[i64; 4], random: &mut Random) -> [i64; 4] {
+    let (lowest, highest) = following(plant, mode, x);
+    let mut next = [i64::MIN; 4];
+    for (slot, (lowest, highest)) in next.iter_mut().zip(lowest.into_iter().zip(highest)) {
+        let (lowest, highest) = (lowest as i64, highest as i64);
+        *slot = [lowest, highest, random.within(lowest, highest)][random.within(0, 3).min(2) as usize];
+    }
+    next
+}
+
+/// A reading of a box, often at its edges; numbers beyond n as far off as can be.
+pub fn reading_in(lo: &[i64; 4], hi: &[i64; 4], n: usize, random: &mut Random) -> [i64; 4] {
+    let mut reading = [i64::MAX; 4];
+    for i in 0..n {
+        reading[i] = [lo[i], hi[i], random.within(lo[i], hi[i])][random.within(0, 2) as usize];
+    }
+    reading
+}
+
+
+/// A plant with room around R, and a chain that grows from R by some counts a
+/// box, some of them equal: R1..Rm.
+pub fn cold_plant(random: &mut Random) -> (Plant, Vec<Wide>) {
+    let mut plant = pulling_plant(random);
+    for i in 0..plant.n as usize {
+        plant.edges.s_lo[i] -= random.within(0, 30);
+        plant.edges.s_hi[i] += random.within(0, 30);
+    }
+    let s = s_of(&plant);
+    let mut here = r_of(&plant);
+    let mut chain = vec![];
+    for _ in 0..[0, 1, 2, 3, 8][random.within(0, 4) as usize] {
+        let reach = [0, 2, 9][random.within(0, 2) as usize];
+        for i in 0..here.0.len() {
+            here.0[i] = (here.0[i] - i128::from(random.within(0, reach))).max(s.0[i]);
+            here.1[i] = (here.1[i] + i128::from(random.within(0, reach))).min(s.1[i]);
+        }
+        chain.push(here.clone());
+    }
+    (plant, chain)
+}
+
+/// The chain's bytes.
+pub fn chain_bytes(chain: &[Wide]) -> Vec<u8> {
+    let sides = |of: &Wide| of.0.iter().zip(&of.1).map(|(lo, hi)| (*lo as i64, *hi as i64)).collect::<Vec<_>>();
+    file(&chain_fields(&chain.iter().map(sides).collect::<Vec<_>>()))
+}
+
+/// Made start files of chains that reach beyond R, with their plants: the
+/// plant, its bytes, the chain, the start file.
+pub fn made_starts(seed: u64, wanted: usize) -> Vec<(Plant, Vec<u8>, Vec<Wide>, Vec<u8>)> {
+    let mut random = Random(seed);
+    let mut made = vec![];
+    for tried in 0.. {
+        if made.len() == wanted {
+            break;
+        }
+        assert!(tried < 1_000 * wanted, "{} of {wanted} start files", made.len());
+        let (plant, chain) = cold_plant(&mut random);
+        let bytes = plant_bytes(&plant);
+        if chain.last().is_none_or(|last| *last == r_of(&plant)) {
+            continue;
+        }
+        if let Ok(start) = start_make(&bytes, &chain_bytes(&chain)) {
+            made.push((plant, bytes, chain, start));
+        }
+    }
+    made
+}

@@ -1,0 +1,189 @@
+//! The controller's call with a start file side by side: readings about every
+//! box, states that can be and cannot, start files whole, spoiled and damaged.
+
+use second::plant::read_plant;
+use side::common::{chain_fields, cold_chain, cold_p, encode, file, p_fields, start_fields, two_rooms, with, Random, Raw, T1, U};
+use side::inputs::{any_reading, any_state, any_tree, damaged, made_table, plant_fields, random, rounds, spoiled};
+use side::seen::{each_came, Seen};
+use side::starts::{any_chain, any_reading_about, any_standing, any_start, made_start, other_start, spoiled_chain, spoiled_lengths, turning, Start};
+use side::Standing;
+
+const IDLE: Standing = [0, 0, 0];
+
+/// A refused call as the face shows it: no mode, the refusal, idle.
+fn refused(number: u64, place: u64) -> (u64, [u64; 6]) {
+    (255, [number, place, 0, 0, 0, 0])
+}
+
+#[test]
+fn a_cold_room_comes_home() {
+    let (mut seen, plant) = (Seen::default(), cold_p());
+    let start = made_start(&plant, &cold_chain()).expect("a start file").bytes();
+    let samples = [(160, IDLE, 1), (174, [2, 5, 1], 1), (187, IDLE, 1), (198, [1, 5, 1], 1), (208, IDLE, 0), (197, [0, 4, 1], 1)];
+    for (at, (x, standing, mode)) in samples.into_iter().enumerate() {
+        let next = samples.get(at + 1).map_or(IDLE, |sample| sample.1);
+        assert_eq!(seen.start_control(&plant, &start, standing, [x, 0, 0, 0]), (mode, [0, 0, 0, next[0], next[1], next[2]]));
+    }
+    assert_eq!(seen.start_control(&plant, &start, IDLE, [159, 0, 0, 0]), refused(11, 0));
+}
+
+/// The order of a call: each fault beside all that are told after it.
+#[test]
+fn every_kind_of_refusal_in_its_order() {
+    let (mut seen, plant) = (Seen::default(), file(&p_fields()));
+    let start = |tables: [&[u8]; 2]| start_fields(&chain_fields(&[[(190, 230)]]), &tables);
+    let whole = start([&T1, &T1]);
+    let (_, places) = encode(&whole);
+    assert_eq!(places[4..8], [6, 7, 14, 15]);
+    let (nowhere, outside, in_r1) = ([9, 9, 9], [0; 4], [190, 0, 0, 0]);
+    let apart = start_fields(&chain_fields(&[[(196, 230)]]), &[&T1, &T1]);
+    for (fields, standing, x, told) in [
+        (apart, nowhere, outside, refused(15, 1)),
+        (with(&whole, 4, U(99)), nowhere, outside, refused(12, 0)),
+        (with(&whole, 4, U(99)), [2, 2, 1], outside, refused(12, 0)),
+        (with(&whole, 4, U(99)), [1, 0, 0], outside, refused(12, 0)),
+        (with(&whole, 4, U(99)), [(1 << 32) + 1, 3, 1], outside, refused(12, 0)),
+        (with(&whole, 4, U(99)), IDLE, outside, refused(11, 0)),
+        (with(&with(&whole, 4, U(99)), 6, U(99)), IDLE, in_r1, refused(3, 6)),
+        (with(&whole, 4, Raw(vec![0x87, 0])), IDLE, in_r1, refused(1, 6)),
+        (with(&whole, 6, U(99)), IDLE, in_r1, refused(3, 14)),
+        (with(&whole, 6, U((1 << 32) + 7)), IDLE, in_r1, refused(3, 14)),
+        (with(&whole, 6, U((1 << 35) + 7)), IDLE, in_r1, refused(1, 14)),
+        (with(&whole, 6, U(99)), [1, 5, 0], outside, refused(3, 14)),
+        (start([&T1, &[2, 2, 7]]), [1, 5, 0], outside, refused(2, 15)),
+        (start([&T1, &[1, 2, 7]]), [1, 5, 0], outside, refused(6, 16)),
+        (start([&T1, &[1]]), [1, 5, 0], outside, refused(1, 16)),
+        (start([&T1, &[1, 1, 7]]), [1, 5, 0], outside, refused(12, 0)),
+        (start([&T1, &[1, 1, 7]]), [1, 2, 2], outside, refused(12, 0)),
+        (start([&T1, &[1, 1, 7]]), [1, u64::MAX, 1], outside, refused(12, 0)),
+        (start([&T1, &[1, 1, 7]]), [1, 2, u64::MAX], outside, refused(12, 0)),
+        (start([&T1, &[1, 1, 1, 0]]), [1, 3, 1], outside, refused(11, 0)),
+        (start([&T1, &[1, 1, 7]]), IDLE, in_r1, refused(6, 17)),
+        (start([&T1, &[1, 1, 0, 1]]), IDLE, in_r1, refused(1, 19)),
+        // nothing of table 0 but its length is read, nothing behind the tile, no surplus, no leftover
+        (start([&[9; 7], &[1, 1, 0, 1, 1, 9, 9]]), IDLE, in_r1, (1, [0; 6])),
+        ([&start([&T1, &[1, 1, 1, 0, 0]])[..], &[Raw(vec![0x81])]].concat(), IDLE, in_r1, (0, [0; 6])),
+    ] {
+        assert_eq!(seen.start_control(&plant, &file(&fields), standing, x), told, "{fields:?} {standing:?} {x:?}");
+    }
+}
+
+/// 11 at each dimension: idle outside the last box, running outside S.
+#[test]
+fn every_dimension_of_a_reading() {
+    let (mut seen, plant) = (Seen::default(), file(&two_rooms()));
+    let start = file(&start_fields(&chain_fields(&[[(-1, 10), (9, 20)]]), &[&[1, 2, 1, 0], &[1, 2, 2, 0, 1]]));
+    for (standing, sides) in [(IDLE, [(-1, 10), (9, 20)]), ([1, 4, 1], [(-5, 14), (5, 24)])] {
+        for i in 0..2 {
+            for (end, beyond) in [(sides[i].0, -1), (sides[i].1, 1)] {
+                let mut x = [sides[0].0, sides[1].0, i64::MIN, i64::MAX];
+                x[i] = end;
+                assert_ne!(seen.start_control(&plant, &start, standing, x).0, 255, "{x:?}");
+                x[i] += beyond;
+                assert_eq!(seen.start_control(&plant, &start, standing, x), refused(11, i as u64), "{x:?}");
+            }
+        }
+    }
+}
+
+/// With m 0 the library's own answers are those of its controller with the table alone.
+#[test]
+fn without_boxes_the_answers_are_the_tables() {
+    let (mut random, mut seen) = (random(33), Seen::default());
+    for _ in 0..rounds(1_000) {
+        let bytes = file(&plant_fields(&mut random));
+        let plant = read_plant(&bytes).expect("a sound plant");
+        let Some(table) = made_table(&bytes) else { continue };
+        let start = Start { chain: vec![U(1), U(0)], tables: vec![table.clone()] }.bytes();
+        for _ in 0..20 {
+            let ((place, left), x) = (any_state(&mut random, &table), any_reading(&mut random, &plant));
+            let (mode, [number, at, next_place, next_left]) = seen.control(&bytes, &table, place, left, x);
+            let shown = (mode, [number, at, 0, 0, next_place, next_left]);
+            assert_eq!(seen.start_control(&bytes, &start, [0, place, left], x), shown);
+        }
+    }
+    each_came("start control, m 0", &seen.start_control, &[0, 11, 12], 100);
+}
+
+/// Every corner of the largest tables, through their patterns.
+#[test]
+fn the_largest_tables() {
+    let mut seen = Seen::default();
+    let (plant, chain) = turning();
+    let start = second::start::start_make(&plant, &chain).expect("a start file");
+    let mut met = [0; 9];
+    for (a, b) in [(1000, 1000), (1063, 1063), (1000, 1063), (1062, 1000), (1001, 1001), (1031, 1032), (1004, 1000), (999, 1000), (1063, 1064)] {
+        let (mut standing, mut x) = (IDLE, [a, b, 0, 0]);
+        for _ in 0..20 {
+            let (mode, out) = seen.start_control(&plant, &start, standing, x);
+            if mode == 255 {
+                break;
+            }
+            standing = [out[3], out[4], out[5]];
+            met[standing[0] as usize] += 1;
+            // the plant's own equation, q being 1 and the band 0
+            x = [4 * x[0] - 13 * x[1] + mode as i64, x[0] - 3 * x[1], 0, 0];
+        }
+    }
+    assert!(met[0] > 0 && met[8] > 0, "{met:?}");
+}
+
+/// Calls of every kind on one file, the second of two from the state that the first left; how many such states ran on in a table above R0's.
+fn calls(random: &mut Random, seen: &mut Seen, bytes: &[u8], start: &Start, file: &[u8], times: usize) -> usize {
+    let plant = read_plant(bytes).expect("a sound plant");
+    let mut ran_on = 0;
+    for _ in 0..times {
+        let standing = any_standing(random, start);
+        let x = any_reading_about(random, &plant, &start.chain);
+        let (_, out) = seen.start_control(bytes, file, standing, x);
+        let x = any_reading_about(random, &plant, &start.chain);
+        let (mode, _) = seen.start_control(bytes, file, [out[3], out[4], out[5]], x);
+        ran_on += usize::from(out[3] > 0 && mode != 255);
+    }
+    ran_on
+}
+
+#[test]
+fn many_calls() {
+    let (mut random, mut seen) = (random(34), Seen::default());
+    let mut ran_on = 0;
+    for _ in 0..rounds(400) {
+        let fields = plant_fields(&mut random);
+        let bytes = file(&fields);
+        let plant = read_plant(&bytes).expect("a sound plant");
+        let chain = any_chain(&mut random, &plant);
+        for (plant, wanted) in spoiled(&fields) {
+            if random.chance(20) {
+                assert_eq!(seen.start_control(&plant, &[2], [9, 9, 9], [0; 4]), refused(wanted.0, wanted.1));
+            }
+        }
+        let mut all = vec![any_start(&mut random, &plant, &chain)];
+        all.extend(made_start(&bytes, &chain));
+        all.extend(other_start(&mut random, &plant, &chain));
+        for start in &all {
+            let whole = start.bytes();
+            let rest = &whole[file(&chain).len()..];
+            for (other, wanted) in spoiled_chain(&plant, &chain).into_iter().step_by(5) {
+                let other = [&file(&other)[..], rest].concat();
+                assert_eq!(seen.start_control(&bytes, &other, [9, 9, 9], [0; 4]), refused(wanted.0, wanted.1));
+            }
+            ran_on += calls(&mut random, &mut seen, &bytes, start, &whole, 60);
+            for (other, _) in spoiled_lengths(start) {
+                calls(&mut random, &mut seen, &bytes, start, &other, 1);
+            }
+            for index in 0..start.tables.len() {
+                let spoilt = start.with_table(index, &any_tree(&mut random, bytes[1]));
+                calls(&mut random, &mut seen, &bytes, &spoilt, &spoilt.bytes(), 3);
+            }
+            let mut others = Vec::new();
+            damaged(&mut random, &whole, |other| others.push(other.to_vec()));
+            for other in others.into_iter().step_by(5) {
+                calls(&mut random, &mut seen, &bytes, start, &other, 1);
+            }
+        }
+    }
+    println!("{ran_on} running states above R0's table");
+    assert!(ran_on > 200, "{ran_on}");
+    each_came("start control", &seen.start_control, &[0, 1, 2, 3, 4, 5, 6, 11, 12, 15], 20);
+    assert!(seen.start_control.iter().sum::<usize>() >= 100_000);
+}
