@@ -248,17 +248,10 @@ impl Page {
 
     fn rule(&mut self, fields: &[Field], of: &Box, pattern: &[u8]) {
         let plant = read_plant(&file(fields)).expect("a plant");
-<<<<<<< HEAD
-        let right = match tile_rule(&plant, of, pattern, 0) {
+        let right = match tile_rule(&plant, &plant.r(), of, pattern, 0) {
             Ok(()) => "Tried.Works".into(),
             Err(refusal) if refusal.number == 7 => format!("Tried.Leaves {}", refusal.step),
             Err(refusal) => format!("Tried.Misses {}", refusal.step),
-=======
-        let right = match tile_rule(&plant, &plant.r(), of, pattern, 0) {
-            Ok(()) => "Rule.Works".into(),
-            Err(refusal) if refusal.number == 7 => format!("Rule.Leaves {}", refusal.step),
-            Err(refusal) => format!("Rule.Misses {}", refusal.step),
->>>>>>> eada2eb15586a4d70d73aa05c8c3bd1826a4f248
         };
         let modes = list(pattern, |mode| mode.to_string());
         self.equation(&format!("rule (rulesOf (plantOf ({}))) ({}) ({modes})", wholes(&field_values(fields)), boxed(of)), &right);
