@@ -1,6 +1,7 @@
 // Files that the program's arguments name, read whole into a lent buffer and written whole. Relies on os and io. Leaves out what a file says.
 // What goes wrong is told on standard error: the file's name and why. A buffer is longer than any right file of its kind, by as many bytes as settle
-// what is said of one that goes on behind it; so every file is judged, however long.
+// what is said of one that goes on behind it; so every file is judged, however long. A start file's lengths may reach as far as they like, so that no number
+// of bytes settles what is said of it: who reads one asks whether it was read whole.
 use figures::texts;
 use libc::STDERR_FILENO;
 ghost use Rattle.io.specs.Counts.{Counts};
@@ -13,21 +14,24 @@ pub const PLANT: usize = 1_184;
 
 pub const TABLE: usize = 30_044;
 
-// A file that was read, and how many bytes it has; or not read, which was told.
+// Far more than the 270,476 bytes of the largest.
+pub const START: usize = 1_048_576;
+
+// A file that was read, how many of its bytes, and whether that is all of it; or not read, which was told.
 pub struct Paper {
     pub is_read: bool,
     pub length: usize,
+    pub is_whole: bool,
 }
 
-// Whether a file can be read where it was left; where it cannot, that is told.
-fn is_readable(fd: i32, path: &[u8]) -> bool {
-    let mut more = [0u8; 1];
-    let got = libc::read(fd, &mut more);
+// How many bytes, of one that is asked for, can be read where a file was left; below 0 where it cannot be read, which is told.
+fn more(fd: i32, path: &[u8]) -> isize {
+    let mut byte = [0u8; 1];
+    let got = libc::read(fd, &mut byte);
     if got < 0 {
         os::fail(path);
-        return false;
     }
-    true
+    got
 }
 
 // The file that argument i names, at the start of buf, as far as there is room.
@@ -41,6 +45,7 @@ pub fn read(i: usize, buf: &mut [u8]) -> Paper
         return Paper {
             is_read: false,
             length: 0,
+            is_whole: false,
         };
     }
     let fd = os::open_read(&path[..n]);
@@ -49,12 +54,45 @@ pub fn read(i: usize, buf: &mut [u8]) -> Paper
         return Paper {
             is_read: false,
             length: 0,
+            is_whole: false,
         };
     }
     let length = io::read_full(fd, buf);
-    let is_read = is_readable(fd, &path[..n]);
+    let got = more(fd, &path[..n]);
     libc::close(fd);
-    Paper { is_read, length }
+    Paper {
+        is_read: 0 <= got,
+        length,
+        is_whole: got == 0,
+    }
+}
+
+// The same, of a file that has to be read whole: one that goes on behind the buffer's end is not read, which is told.
+pub fn read_whole(i: usize, buf: &mut [u8]) -> Paper
+    ensures { λ r. ⌜ Counts (r .length) (now (buf .exit)) ⌝ }
+{
+    let read = read(i, buf);
+    if read.is_read && !read.is_whole {
+        io::write_all(STDERR_FILENO, b"longer than any such file can be\n");
+        return Paper {
+            is_read: false,
+            length: 0,
+            is_whole: false,
+        };
+    }
+    read
+}
+
+// Whether argument 1 is the word "start".
+pub fn says_start() -> bool {
+    let mut word = [0u8; 6];
+    let length = os::arg(1, &mut word);
+    length == 5
+        && word[0] == b's'
+        && word[1] == b't'
+        && word[2] == b'a'
+        && word[3] == b'r'
+        && word[4] == b't'
 }
 
 // All of bytes, in a new file `part` that takes the name `path` once it is whole. Where that fails nothing is left behind.

@@ -33,10 +33,10 @@ fn put_side(line: &mut [u8], at: usize, lo: i64, hi: i64) -> usize {
     numbers::put_byte(line, past_hi, b' ')
 }
 
-// The sides of a box, one behind another from the line's start on.
-fn put_sides(line: &mut [u8], n: usize, b: Bx) -> usize {
+// The sides of a box, one behind another.
+fn put_sides(line: &mut [u8], from: usize, n: usize, b: Bx) -> usize {
     let most = boxes::sides(n);
-    let mut at: usize = 0;
+    let mut at = from;
     let mut j: usize = 0;
     while j < most {
         let lo = b.lo[j];
@@ -77,7 +77,7 @@ fn larger(a: usize, b: usize) -> usize {
 fn tile_line(shown: bool, n: usize, table: &[u8], place: usize, k: usize, b: Bx) -> usize {
     let mut room = [0u8; 128];
     let line: &mut [u8] = &mut room;
-    let past_sides = put_sides(line, n, b);
+    let past_sides = put_sides(line, 0, n, b);
     let past_colon = numbers::put_byte(line, past_sides, b':');
     let modes = put_modes(line, past_colon, table, place, k);
     let end = numbers::put_byte(line, modes.at, b'\n');
@@ -122,19 +122,46 @@ fn tree(shown: bool, n: usize, table: &[u8], d: usize, b: Bx, t: Tally) -> Tally
     past
 }
 
-// The header: n, tiles, longest pattern.
-fn show_header(n: usize, t: Tally) {
-    let mut room = [0u8; 80];
-    let line: &mut [u8] = &mut room;
-    let past_word = texts::put(line, 0, b"table");
-    let past_n = put_number(line, past_word, n);
-    let past_tiles = put_number(line, past_n, t.tiles);
+// Tiles and longest pattern, each behind a blank, and the line's end; the line is told.
+fn show_tally(line: &mut [u8], at: usize, t: Tally) {
+    let past_tiles = put_number(line, at, t.tiles);
     let past_longest = put_number(line, past_tiles, t.longest);
     let end = numbers::put_byte(line, past_longest, b'\n');
     tellings::show(line, end);
 }
 
-// The first `length` bytes of a table's buffer, made for that plant: the tree stands behind form and n, a byte each.
+// The header of a table: n, tiles, longest pattern.
+fn show_header(n: usize, t: Tally) {
+    let mut room = [0u8; 80];
+    let line: &mut [u8] = &mut room;
+    let past_word = texts::put(line, 0, b"table");
+    let past_n = put_number(line, past_word, n);
+    show_tally(line, past_n, t);
+}
+
+// The header of a start file's box: its index, its edges, a colon, tiles, longest pattern.
+fn show_box(n: usize, i: usize, b: Bx, t: Tally) {
+    let mut room = [0u8; 160];
+    let line: &mut [u8] = &mut room;
+    let past_word = texts::put(line, 0, b"box");
+    let past_index = put_number(line, past_word, i);
+    let past_blank = numbers::put_byte(line, past_index, b' ');
+    let past_sides = put_sides(line, past_blank, n, b);
+    let past_colon = numbers::put_byte(line, past_sides, b':');
+    show_tally(line, past_colon, t);
+}
+
+// The walk of a whole table over its box: the tree stands behind form and n, a byte each.
+fn walk(shown: bool, n: usize, d: usize, table: &[u8], root: Bx) -> Tally {
+    let start = Tally {
+        place: 2,
+        tiles: 0,
+        longest: 0,
+    };
+    tree(shown, n, table, d, root, start)
+}
+
+// The first `length` bytes of a table's buffer, made for that plant.
 fn show_table(p: Plant, buf: &[u8], length: usize) {
     if buf.len() < length {
         return;
@@ -143,13 +170,14 @@ fn show_table(p: Plant, buf: &[u8], length: usize) {
     let lo = p.rlo;
     let hi = p.rhi;
     let root = Bx { lo, hi };
-    let start = Tally {
-        place: 2,
-        tiles: 0,
-        longest: 0,
-    };
-    show_header(p.n, tree(false, p.n, table, p.d, root, start));
-    tree(true, p.n, table, p.d, root, start);
+    show_header(p.n, walk(false, p.n, p.d, table, root));
+    walk(true, p.n, p.d, table, root);
+}
+
+// The table of box i of a start file.
+pub fn show_part(n: usize, d: usize, i: usize, table: &[u8], root: Bx) {
+    show_box(n, i, root, walk(false, n, d, table, root));
+    walk(true, n, d, table, root);
 }
 
 // The listing of a plant's file, or its refusal.
