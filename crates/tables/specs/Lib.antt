@@ -7,5 +7,6 @@ pub mod Control
 pub mod Levels
 pub mod Limits
 pub mod Search
+pub mod Drafts
 pub mod Makes
 pub mod Walks

@@ -5,6 +5,7 @@ mod boxes;
 pub mod checks;
 pub mod control;
 mod division;
+mod drafts;
 mod finds;
 mod frames;
 mod headers;
