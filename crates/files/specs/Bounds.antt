@@ -1,33 +1,15 @@
 -- R, S and w as the code reads them: the parts of the form that they are, with their values; zeros beyond n. Assumes nothing.
 use Prim.Native.Nat.{ℕ, _≤_, _<_}
-use mathlib.Core.Path.{_≡_}
-use mathlib.Core.Bool.{true}
-use mathlib.Core.List.{List, [], _∷_}
+use mathlib.Core.List.{List}
 use lib.IntN.{ℤ, natAbs}
-use lib.Signed.{leZ}
 use Rattle.laws.specs.Lists.{at, tabs}
 use Rattle.laws.specs.Tabs.{Filled}
 use Rattle.meaning.specs.declared.Walk.{Walk}
 use Rattle.meaning.specs.Files.{Form}
-use Rattle.meaning.specs.Plants.{edgeLimit, bandLimit, ranged, span, times, edgesOf, bandOf}
-use Rattle.files.specs.declared.bounds.Span.{Span}
+use Rattle.meaning.specs.Plants.{edgeLimit, bandLimit, span, times, edgesOf, bandOf}
 use Rattle.files.specs.declared.bounds.EdgeArrays.{EdgeArrays}
 use Rattle.files.specs.declared.bounds.BandArrays.{BandArrays}
 use Rattle.files.specs.Parts.{Holds, Fails}
-
--- lo in least..most, hi in lo..most
-abbrev pub spanIn : ℤ → ℤ → Form → Form
-spanIn least most rest = ranged least most λ lo. ranged lo most λ _. rest
-
-pub record Spanned (least most : ℤ) (s : List ℕ) (from : ℕ) (lo hi : ℤ) (next : ℕ) : Type 0 where
-  pub part : Holds (spanIn least most) s from (lo ∷ hi ∷ []) next
-  pub low : leZ least lo ≡ true
-  pub order : leZ lo hi ≡ true
-  pub high : leZ hi most ≡ true
-
-abbrev pub SpanTold : ℤ → ℤ → List ℕ → ℕ → Span → Type 0
-SpanTold least most s from (Span.Ends lo hi next) = Spanned least most s from lo hi next
-SpanTold least most s from (Span.Refused e) = Fails (spanIn least most) s from e
 
 -- both ends of each of n sides lie within a limit
 abbrev pub EndsWithin : ℕ → ℕ → List ℤ → List ℤ → Type 0

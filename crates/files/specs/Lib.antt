@@ -5,6 +5,7 @@ pub mod Parts
 pub mod Headers
 pub mod HeaderLaws
 pub mod Refusing
+pub mod Spans
 pub mod Bounds
 pub mod Rows
 pub mod Beginnings

@@ -1,9 +1,8 @@
-// R, S and w of each dimension, which plants and sheets hold alike: read, written, and judged against one another. Relies on fields.
+// R, S and w of each dimension, which plants and sheets hold alike: read, written, and judged against one another. Relies on spans and numbers.
 // Leaves out in which order the judgements are told (beginnings).
-use crate::fields;
 use crate::numbers;
-use meaning::Refusal;
-use meaning::Signed;
+use crate::spans;
+use crate::spans::Span;
 use meaning::Walk;
 ghost use mathlib.Core.Path.{_≡_};
 ghost use Prim.Native.Nat.{_+_, _≤_};
@@ -14,26 +13,7 @@ ghost use Rattle.laws.specs.Writing.{Put};
 ghost use Rattle.meaning.specs.Boxes.{sidesOf, lies};
 ghost use Rattle.meaning.specs.Plants.{edgesOf, bandOf, wide};
 ghost use Rattle.files.specs.Signed.{signedBytes};
-ghost use Rattle.files.specs.Bounds.{SpanTold, EdgesTold, BandsTold, BandSizes};
-
-// A lo with its hi and the place behind them.
-pub enum Span {
-    Ends(i64, i64, usize),
-    Refused(Refusal),
-}
-
-// lo within least..most, then hi within lo..most.
-pub fn read_span(s: &[u8], at: usize, least: i64, most: i64) -> Span
-    ensures { λ r. ⌜ SpanTold least most (now (s .entry)) at r ⌝ }
-{
-    let Signed::Value(lo, mid) = fields::ranged(s, at, least, most) else {
-        return Span::Refused(fields::fault(s, at));
-    };
-    let Signed::Value(hi, next) = fields::ranged(s, mid, lo, most) else {
-        return Span::Refused(fields::fault(s, mid));
-    };
-    Span::Ends(lo, hi, next)
-}
+ghost use Rattle.files.specs.Bounds.{EdgesTold, BandsTold, BandSizes};
 
 // The edges of R and S, zeros beyond n, and the place behind them.
 pub struct EdgeArrays {
@@ -55,7 +35,7 @@ pub fn read_edges(s: &[u8], at: usize, n: usize) -> EdgeArrays
     let mut p = at;
     let mut i: usize = 0;
     while i < n {
-        match read_span(s, p, -1_000_000, 1_000_000) {
+        match spans::read_span(s, p, -1_000_000, 1_000_000) {
             Span::Refused(e) => {
                 return EdgeArrays {
                     answer: Walk::Refused(e),
@@ -65,7 +45,7 @@ pub fn read_edges(s: &[u8], at: usize, n: usize) -> EdgeArrays
                     shi,
                 };
             }
-            Span::Ends(a, b, mid) => match read_span(s, mid, -1_000_000, 1_000_000) {
+            Span::Ends(a, b, mid) => match spans::read_span(s, mid, -1_000_000, 1_000_000) {
                 Span::Refused(e) => {
                     return EdgeArrays {
                         answer: Walk::Refused(e),
@@ -111,7 +91,7 @@ pub fn read_bands(s: &[u8], at: usize, n: usize) -> BandArrays
     let mut p = at;
     let mut i: usize = 0;
     while i < n {
-        match read_span(s, p, -1_000_000_000, 1_000_000_000) {
+        match spans::read_span(s, p, -1_000_000_000, 1_000_000_000) {
             Span::Refused(e) => {
                 return BandArrays {
                     answer: Walk::Refused(e),

@@ -1,5 +1,5 @@
-// Files of document 01, read and written: seven-bit numbers (numbers), the rows of the table of refusals (refusals), lent buffers (buffers), what plants and
-// sheets begin with (beginnings), plants (plants).
+// Files of document 01, read and written: seven-bit numbers (numbers), lo with hi (spans), the rows of the table of refusals (refusals), lent buffers
+// (buffers), what plants and sheets begin with (beginnings), plants (plants).
 // What they mean stands in crates/meaning; a file's parts are read by private modules (fields, headers, bounds, rows).
 pub mod beginnings;
 mod bounds;
@@ -10,3 +10,4 @@ pub mod numbers;
 pub mod plants;
 pub mod refusals;
 mod rows;
+pub mod spans;

@@ -1,6 +1,6 @@
 -- R, S and w read against the form: a span by its two numbers, and the loops over dimensions. Assumes nothing.
 use Prim.Native.Nat.{ℕ, zero, suc, _+_, _-_, _≤_, _<_}
-use mathlib.Core.Path.{_≡_, refl, ap, _∙_}
+use mathlib.Core.Path.{_≡_, refl, ap}
 use mathlib.Core.Bool.{Bool, true, false, _&&_}
 use mathlib.Core.List.{List, [], _∷_, _++_, map}
 use native.Mathlib.Omega.{arith}
@@ -14,43 +14,16 @@ use mir.Facts.{toZ-pos, toZ-ofZ}
 use Rattle.laws.specs.Integers.{zarith, abs-sub, within, leZ-true, lt-nle, nlt-le}
 use Rattle.laws.specs.Lists.{at, tab, tabs}
 use Rattle.laws.specs.Tabs.{Filled, filled-none, filled-more, at-below, at-stored, tabs-step, tabs-done, map-tab}
-use Rattle.meaning.specs.declared.Signed.{Signed}
-use Rattle.meaning.specs.Files.{before}
 use Rattle.meaning.specs.Boxes.{sideAt, sidesOf, lies}
-use Rattle.meaning.specs.Plants.{edgeLimit, bandLimit, ranged, span, times, edgesOf, bandOf, wide}
+use Rattle.meaning.specs.Plants.{edgeLimit, bandLimit, span, times, edgesOf, bandOf, wide}
 use Rattle.meaning.specs.Numbers.{bytesOf, stored}
 use Rattle.files.specs.Signed.{signedBytes}
-use Rattle.files.specs.Fields.{rangedAt, faultAt}
-use Rattle.files.specs.FieldLaws.{ranged-was, ranged-fault}
-use Rattle.files.specs.Parts.{behind, Fails, holds-then, holds-fails, fails-then, Rows, rows-none, rows-more, rows-fails, rows-all}
+use Rattle.files.specs.Parts.{Fails, holds-then, holds-fails, fails-then, Rows, rows-none, rows-more, rows-fails, rows-all}
 use Rattle.files.specs.declared.bounds.BandArrays.{BandArrays}
 use Rattle.files.specs.declared.bounds.EdgeArrays.{EdgeArrays}
-use Rattle.files.specs.Bounds.{spanIn, Spanned, edgesPart, EndsWithin, EdgesRead, BandSizes, BandsRead}
+use Rattle.files.specs.Spans.{spanIn, Spanned}
+use Rattle.files.specs.Bounds.{edgesPart, EndsWithin, EdgesRead, BandSizes, BandsRead}
 use Rattle.meaning.specs.declared.Refusal.{Refusal}
-
-module _ (least most : ℤ) (s : List ℕ) (from : ℕ) where
-  pub lo-fails : rangedAt s from least most ≡ Signed.Broken → Fails (spanIn least most) s from (faultAt s from)
-  lo-fails e = record { fails = λ rest. ranged-fault s from least most (λ lo. ranged lo most λ _. rest) e }
-
-  module _ (lo : ℤ) (mid : ℕ) (e : rangedAt s from least most ≡ Signed.Value lo mid) where
-    pub hi-fails : rangedAt s mid lo most ≡ Signed.Broken → Fails (spanIn least most) s from (faultAt s mid)
-    hi-fails g = record {
-      fails = λ rest.
-          ranged-was s from least most lo mid e .holds (λ l. ranged l most λ _. rest)
-          ∙ ap (before lo) (ranged-fault s mid lo most (λ _. rest) g);
-    }
-
-    pub spanned : (hi : ℤ) (next : ℕ) → rangedAt s mid lo most ≡ Signed.Value hi next → Spanned least most s from lo hi next
-    unfolding behind
-    spanned hi next g =
-        let a = ranged-was s from least most lo mid e in
-        let b = ranged-was s mid lo most hi next g in
-        record {
-          part = record { holds = λ rest. a .holds (λ l. ranged l most λ _. rest) ∙ ap (before lo) (b .holds (λ _. rest)) };
-          low = a .low;
-          order = b .low;
-          high = b .high;
-        }
 
 -- ---- the loop over bands: i dimensions are done
 

@@ -5,7 +5,7 @@ use lib.IntN.{pos, negsuc}
 use mir.Syntax.{w64}
 use mir.Val.{SFits}
 use mir.Facts.{toZ-ofZ}
-use Rattle.files.specs.Bounds.{SpanTold}
+use Rattle.files.specs.Spans.{SpanTold}
 use native.Mathlib.Omega.{arith}
 use denote.Ref.{now}
 use borrow.Author.Needs.{needs}

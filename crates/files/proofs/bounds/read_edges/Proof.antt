@@ -8,7 +8,7 @@ use mir.Val.{SFits}
 use mir.Facts.{toZ-ofZ}
 use denote.Ref.{now}
 use borrow.Author.Needs.{needs}
-use Rattle.files.specs.Bounds.{SpanTold}
+use Rattle.files.specs.Spans.{SpanTold}
 use Rattle.files.proofs.bounds.Laws.{EdgesUpTo, edges-none, edges-more, root-fails, safe-fails, edges-all}
 use Rattle.files.proofs.bounds.read_edges.Statement.{statement}
 use Rattle.files.proofs.bounds.read_edges.Tie as tie

@@ -1,13 +1,13 @@
--- `bounds::read_span` reads lo and hi. Assumes nothing.
+-- `spans::read_span` reads lo and hi. Assumes nothing.
 use mathlib.Core.Path.{sym, _∙_}
 use denote.Ref.{now}
 use mir.Syntax.{w64}
 use mir.Val.{SFits}
 use mir.Facts.{toZ-ofZ}
-use Rattle.files.proofs.bounds.Laws.{lo-fails, hi-fails, spanned}
+use Rattle.files.proofs.spans.Laws.{lo-fails, hi-fails, spanned}
 use borrow.Author.Needs.{needs}
-use Rattle.files.proofs.bounds.read_span.Statement.{statement}
-use Rattle.files.proofs.bounds.read_span.Tie as tie
+use Rattle.files.proofs.spans.read_span.Statement.{statement}
+use Rattle.files.proofs.spans.read_span.Tie as tie
 
 ranged-requires : tie.Need-ranged-requires
 ranged-requires c κs = search needs
