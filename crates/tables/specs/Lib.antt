@@ -10,3 +10,4 @@ pub mod Search
 pub mod Drafts
 pub mod Makes
 pub mod Walks
+pub mod Chains

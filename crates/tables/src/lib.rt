@@ -2,6 +2,7 @@
 // crate: their functions ask something of a plant that was judged (`requires`), which only callers inside the crate can be asked to prove; what
 // another crate may call has no `requires`.
 mod boxes;
+mod chains;
 pub mod checks;
 pub mod control;
 mod division;

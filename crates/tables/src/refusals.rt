@@ -63,3 +63,13 @@ pub fn no_table(i: usize) -> Refusal
         step: 0,
     }
 }
+
+pub fn not_held(i: usize) -> Refusal
+    ensures { λ r. ⌜ r ≡ R.notHeld i ⌝ }
+{
+    Refusal {
+        number: 15,
+        place: i,
+        step: 0,
+    }
+}
