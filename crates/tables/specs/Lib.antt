@@ -11,3 +11,4 @@ pub mod Drafts
 pub mod Makes
 pub mod Walks
 pub mod Chains
+pub mod StartMakes

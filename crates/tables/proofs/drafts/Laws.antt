@@ -10,6 +10,7 @@ use lib.IntN.{ℤ}
 use lib.ListN.{length, getD, drop, take, drop-of-length-le}
 use lib.Seq.{drop-cons}
 use Rattle.laws.specs.Lists.{tab}
+use Rattle.laws.specs.Tests.{never}
 use Rattle.laws.specs.Tabs.{length-tab, tab-step, tab-done}
 use Rattle.laws.specs.Writing.{Put, put-append, put-length, put-none}
 use Rattle.meaning.specs.Refusals.{noTable}
@@ -204,10 +205,10 @@ module _ (r : Rules) where
   -- ---- a draft of it: nothing where there is none, else its front is the table, where the draft has room for it
 
   module _ (draft : List ℕ) (a : Grown) (out : List ℕ) (w : Wrote (definedBytes r) draft 0 a out) where
-    pub draft-none : a ≡ Grown.Nothing → (i : ℕ) → definedTable i r ≡ bad (noTable i)
-    draft-none z i = go (definedTree r) (rw z at w)
+    pub draft-none : a ≡ Grown.Nothing → definedBytes r ≡ none
+    draft-none z = go (definedBytes r) (rw z at w)
       where
-        go : (o : Option Tree) → Wrote (mapSome (tableOf r) o) draft 0 Grown.Nothing out → tableBytes i r o ≡ bad (noTable i)
+        go : (o : Option (List ℕ)) → Wrote o draft 0 Grown.Nothing out → o ≡ none
         go (some t) v = absurd v
         go none v = refl
 
@@ -228,12 +229,27 @@ module _ (r : Rules) where
       fits-by : size ≤ length out
       fits-by = drafted .held .fits
 
-      front-by : (i : ℕ) → definedTable i r ≡ good (take size out)
-      front-by i =
+      front-by : definedBytes r ≡ some (take size out)
+      front-by =
           let d = drafted in
           let e : definedTree r ≡ some (d .t) = d .is in
           let q : take size out ≡ tableOf r (d .t) = d .held .front in
           rw (e, q) refl
+
+  -- what is said of box i's table by its bytes
+  pub table-none : (i : ℕ) → definedBytes r ≡ none → definedTable i r ≡ bad (noTable i)
+  table-none i e = go (definedTree r) e
+    where
+      go : (o : Option Tree) → mapSome (tableOf r) o ≡ none → tableBytes i r o ≡ bad (noTable i)
+      go none e = refl
+      go (some t) e = never cc
+
+  pub table-some : (i : ℕ) (bytes : List ℕ) → definedBytes r ≡ some bytes → definedTable i r ≡ good bytes
+  table-some i bytes e = go (definedTree r) e
+    where
+      go : (o : Option Tree) → mapSome (tableOf r) o ≡ some bytes → tableBytes i r o ≡ good bytes
+      go none e = never cc
+      go (some t) e = let q : tableOf r t ≡ bytes = cc in ap good q
 
 -- the bytes of a frame's defined table, at most
 defined-length : (f : Frame) (coef : List ℤ) → FrameSound f coef → (t : Tree) → definedTree (rulesIn f coef) ≡ some t → length (tableOf (rulesIn f coef) t) ≤ 2 + most (2 ^ f .n) 7 (f .d)
@@ -250,5 +266,5 @@ module _ (f : Frame) (coef : List ℤ) (g : FrameSound f coef) (draft : List ℕ
   pub fits : size ≤ length out
   fits = fits-by (rulesIn f coef) draft a out w size z room
 
-  pub front : (i : ℕ) → definedTable i (rulesIn f coef) ≡ good (take size out)
+  pub front : definedBytes (rulesIn f coef) ≡ some (take size out)
   front = front-by (rulesIn f coef) draft a out w size z room

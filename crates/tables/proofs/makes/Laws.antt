@@ -2,6 +2,7 @@
 use Prim.Native.Nat.{ℕ}
 use mathlib.Core.Path.{_≡_, refl, sym, ap}
 use mathlib.Core.List.{List}
+use mathlib.Core.Option.{none, some}
 use Rattle.meaning.specs.declared.Refusal.{Refusal}
 use Rattle.meaning.specs.declared.Plant.{Plant}
 use Rattle.meaning.specs.Refusals.{noTable}
@@ -9,17 +10,19 @@ use Rattle.meaning.specs.Files.{Judged, good, bad}
 use Rattle.meaning.specs.Buffers.{refusedWith, left}
 use Rattle.meaning.specs.Plants.{plantJudged}
 use Rattle.meaning.specs.Rules.{Rules}
-use Rattle.meaning.specs.Tables.{definedTable, made, makerLeft}
+use Rattle.meaning.specs.Tables.{made, makerLeft}
 use Rattle.tables.specs.declared.frames.Frame.{Frame}
 use Rattle.tables.specs.Frames.{frameOf, rulesIn}
+use Rattle.tables.specs.Drafts.{definedBytes}
 use Rattle.tables.specs.Makes.{definedLeft}
+use Rattle.tables.proofs.drafts.Laws.{table-none, table-some}
 
 module _ (r : Rules) (buf : List ℕ) where
-  pub left-none : definedTable 0 r ≡ bad (noTable 0) → refusedWith (noTable 0) buf ≡ definedLeft r buf
-  left-none e = sym (ap (λ (j : Judged (List ℕ)). left j buf) e)
+  pub left-none : definedBytes r ≡ none → refusedWith (noTable 0) buf ≡ definedLeft r buf
+  left-none e = sym (ap (λ (j : Judged (List ℕ)). left j buf) (table-none r 0 e))
 
-  pub left-drafted : (bytes : List ℕ) → definedTable 0 r ≡ good bytes → left (good bytes) buf ≡ definedLeft r buf
-  left-drafted bytes e = sym (ap (λ (j : Judged (List ℕ)). left j buf) e)
+  pub left-drafted : (bytes : List ℕ) → definedBytes r ≡ some bytes → left (good bytes) buf ≡ definedLeft r buf
+  left-drafted bytes e = sym (ap (λ (j : Judged (List ℕ)). left j buf) (table-some r 0 bytes e))
 
 -- ---- the maker: plant, then its own frame's table
 

@@ -2,16 +2,16 @@
 use Prim.Native.Nat.{ℕ, _≤_}
 use mathlib.Core.Path.{_≡_, sym, ap, _∙_}
 use mathlib.Core.List.{List}
+use mathlib.Core.Option.{some}
 use denote.Ref.{now}
 use lib.ListN.{length, take}
 use lib.Seq.{length-take-le}
 use borrow.Author.Needs.{needs}
 use Rattle.meaning.specs.declared.Refusal.{Refusal}
 use Rattle.meaning.specs.Buffers.{Left, refusedWith}
-use Rattle.meaning.specs.Files.{good}
 use Rattle.meaning.specs.Rules.{Rules}
-use Rattle.meaning.specs.Tables.{definedTable}
 use Rattle.tables.specs.declared.drafts.Grown.{Grown}
+use Rattle.tables.specs.Drafts.{definedBytes}
 use Rattle.tables.specs.Frames.{rulesIn}
 use Rattle.tables.proofs.drafts.Laws.{draft-none, fits, front}
 use Rattle.tables.proofs.makes.Laws.{left-none, left-drafted}
@@ -35,8 +35,8 @@ module _ (x : tie.After-table) where
   inside : (size : ℕ) → x .table .result ≡ Grown.Next size → size ≤ length draft
   inside size z = fits (from .args .f) (now (from .args .coef)) (from .pre .0) (now (from .args .draft)) (from .pre .1) (x .table .result) draft (x .table .ensures) size z
 
-  is-front : (size : ℕ) → x .table .result ≡ Grown.Next size → definedTable 0 rules ≡ good (take size draft)
-  is-front size z = front (from .args .f) (now (from .args .coef)) (from .pre .0) (now (from .args .draft)) (from .pre .1) (x .table .result) draft (x .table .ensures) size z 0
+  is-front : (size : ℕ) → x .table .result ≡ Grown.Next size → definedBytes rules ≡ some (take size draft)
+  is-front size z = front (from .args .f) (now (from .args .coef)) (from .pre .0) (now (from .args .draft)) (from .pre .1) (x .table .result) draft (x .table .ensures) size z
 
 table-requires : tie.Need-table-requires
 table-requires c κs = search needs
@@ -63,7 +63,7 @@ returns : tie.Need-returns
 returns c =
     let x = c .before .before .before .before .before .before .before .before .before in
     let w = c .before .before .refuse in
-    let z = left-none (rules x) (buffer x) (draft-none (rules x) (now (from x .args .draft)) (x .table .result) (draft x) (x .table .ensures) (c .before .before .before .before .before .enum-told .given .1) 0) in
+    let z = left-none (rules x) (buffer x) (draft-none (rules x) (now (from x .args .draft)) (x .table .result) (draft x) (x .table .ensures) (c .before .before .before .before .before .enum-told .given .1)) in
     let e = ap (λ (f : Refusal). refusedWith f (buffer x)) (c .before .before .before .before .no-table .ensures) ∙ z in
     (w .ensures .0 ∙ ap (λ (l : Left). l .answer) e, w .ensures .1 ∙ ap (λ (l : Left). l .buffer) e)
 
