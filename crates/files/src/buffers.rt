@@ -1,5 +1,5 @@
-// Lent buffers as writers leave them (meaning, page Buffers): zeros where a write is refused, else the file. Relies on refusals for 10. Leaves out how
-// a file is drafted and judged.
+// Lent buffers as writers leave them (meaning, page Buffers): zeros where a write is refused, else the file; and bytes that are copied to a place of
+// one. Relies on refusals for 10. Leaves out how a file is drafted and judged.
 use crate::refusals;
 use meaning::Refusal;
 use meaning::Verdict;
@@ -8,6 +8,7 @@ ghost use Prim.Native.Nat.{_≤_};
 ghost use mathlib.Core.Path.{_≡_};
 ghost use lib.ListN.{length, replicate};
 ghost use lib.Seq.{sets};
+ghost use Rattle.laws.specs.Writing.{Put};
 ghost use Rattle.meaning.specs.Buffers.{refusedWith, left};
 ghost use Rattle.meaning.specs.Files.{good};
 ghost use Rattle.files.specs.Beginnings.{byVerdict};
@@ -42,6 +43,24 @@ fn copy(file: &[u8], buf: &mut [u8])
         buf[i] = byte;
         i += 1;
     }
+}
+
+// Some bytes at `at`, as far as there is room; the place behind them, or one past the buffer's end where there is not room for all.
+pub fn put_bytes(buf: &mut [u8], at: usize, bytes: &[u8]) -> usize
+    ensures { λ r. ⌜ Put (now (buf .entry)) at (now (bytes .entry)) r (now (buf .exit)) ⌝ }
+{
+    let long = buf.len();
+    if long < at {
+        return long + 1;
+    }
+    let room = long - at;
+    let size = bytes.len();
+    if size <= room {
+        copy(bytes, &mut buf[at..]);
+        return at + size;
+    }
+    copy(&bytes[..room], &mut buf[at..]);
+    long + 1
 }
 
 // A write of a file that was drafted and judged: what the verdict refuses, then 10. Finished, only the file's bytes are changed.

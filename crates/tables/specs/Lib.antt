@@ -7,6 +7,8 @@ pub mod Control
 pub mod Levels
 pub mod Limits
 pub mod Search
+pub mod Drafts
 pub mod Makes
 pub mod Walks
 pub mod Chains
+pub mod StartMakes

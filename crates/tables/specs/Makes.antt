@@ -1,38 +1,10 @@
--- What the maker's parts leave in a buffer: the bytes of a tree, where there is one. Definitions alone.
+-- What the maker leaves in a buffer. Definitions alone.
 use Prim.Native.Nat.{ℕ}
-use mathlib.Core.Path.{_≡_}
 use mathlib.Core.List.{List}
-use mathlib.Core.Option.{Option, none, some}
-use lib.ListN.{length}
-use Rattle.laws.specs.Writing.{Put}
 use Rattle.meaning.specs.Buffers.{Left, left}
-use Rattle.meaning.specs.Tables.{definedTable}
-use Rattle.meaning.specs.Trees.{layout, layouts, tableOf}
 use Rattle.meaning.specs.Rules.{Rules}
-use Rattle.meaning.specs.Defined.{mapSome, allOf, treeOf, definedTree}
-use Rattle.tables.specs.declared.makes.Grown.{Grown}
+use Rattle.meaning.specs.Tables.{definedTable}
 
--- The bytes that are asked for, or none: what was answered, and the buffer as it is left. Where there are none the bytes in it are left open,
--- for the maker zeros them.
-abbrev pub Wrote : Option (List ℕ) → List ℕ → ℕ → Grown → List ℕ → Type 0
-Wrote (some bytes) buf at (Grown.Next next) out = Put buf at bytes next out
-Wrote (some bytes) buf at Grown.Nothing out = ⊥
-Wrote none buf at (Grown.Next next) out = ⊥
-Wrote none buf at Grown.Nothing out = length out ≡ length buf
-
-module _ (r : Rules) where
-  open Rules r using (Box)
-
-  -- the bytes of the defined tree of a box with depth d left, of those of some boxes in order, and of the whole table
-  abbrev pub treeBytes : ℕ → Box → Option (List ℕ)
-  treeBytes d b = mapSome layout (treeOf r d b)
-
-  abbrev pub treesBytes : ℕ → List Box → Option (List ℕ)
-  treesBytes d bs = mapSome layouts (allOf (λ c. treeOf r d c) bs)
-
-  abbrev pub definedBytes : Option (List ℕ)
-  definedBytes = mapSome (tableOf r) (definedTree r)
-
-  -- and what a write of it leaves: 9 where there is none, 10 where it does not fit
-  abbrev pub definedLeft : List ℕ → Left
-  definedLeft buf = left (definedTable 0 r) buf
+-- the table of some rules, written: 9 where there is none, 10 where it does not fit
+abbrev pub definedLeft : Rules → List ℕ → Left
+definedLeft r buf = left (definedTable 0 r) buf

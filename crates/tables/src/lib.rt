@@ -1,11 +1,12 @@
-// Tables of document 01: the maker (makes), the checker (checks) and the controller's call (control). The other modules are private to the
-// crate: their functions ask something of a plant that was judged (`requires`), which only callers inside the crate can be asked to prove; what
-// another crate may call has no `requires`.
+// Tables of document 01: the maker (makes), the checker (checks) and the controller's call (control); start files of document 02: the maker
+// (start_makes). The other modules are private to the crate: their functions ask something of a plant that was judged (`requires`), which only callers
+// inside the crate can be asked to prove; what another crate may call has no `requires`.
 mod boxes;
 mod chains;
 pub mod checks;
 pub mod control;
 mod division;
+mod drafts;
 mod finds;
 mod frames;
 mod headers;
@@ -16,6 +17,7 @@ pub mod makes;
 mod modes;
 mod refusals;
 mod search;
+pub mod start_makes;
 mod states;
 mod steps;
 mod tiles;

@@ -1,6 +1,6 @@
 // The first pattern of a box (document 01, "The defined table"): the shortest that works, and among equal lengths the first in mode order, by
 // nested loops over lengths and patterns that are left with the first that works.
-// Relies on levels for the images along a beginning, on steps for one more mode. Leaves out what is done where a box has none (makes).
+// Relies on levels for the images along a beginning, on steps for one more mode. Leaves out what is done where a box has none (drafts).
 // A beginning is a path of levels: level 0 is the box, and us[j] the mode whose image of level j stands at level j + 1; the number of modes where
 // none stands there. What stands is not made again, at the next length either, and where an image leaves S nothing behind it is tried.
 use crate::boxes::Bx;

@@ -3,20 +3,18 @@ use Prim.Native.Nat.{ℕ, _≤_}
 use mathlib.Core.Path.{_≡_, sym, ap, _∙_}
 use mathlib.Core.List.{List}
 use mathlib.Core.Option.{some}
-use native.Mathlib.Omega.{arith}
 use denote.Ref.{now}
-use lib.ListN.{length}
+use lib.ListN.{length, take}
 use lib.Seq.{length-take-le}
 use borrow.Author.Needs.{needs}
 use Rattle.meaning.specs.declared.Refusal.{Refusal}
 use Rattle.meaning.specs.Buffers.{Left, refusedWith}
-use Rattle.meaning.specs.Defined.{definedTree}
 use Rattle.meaning.specs.Rules.{Rules}
-use Rattle.meaning.specs.Trees.{Tree, tableOf}
-use Rattle.tables.specs.declared.makes.Grown.{Grown}
+use Rattle.tables.specs.declared.drafts.Grown.{Grown}
+use Rattle.tables.specs.Drafts.{definedBytes}
 use Rattle.tables.specs.Frames.{rulesIn}
-use Rattle.tables.specs.Makes.{definedLeft}
-use Rattle.tables.proofs.makes.Laws.{left-none, fits, left-drafted, defined-length}
+use Rattle.tables.proofs.drafts.Laws.{draft-none, fits, front}
+use Rattle.tables.proofs.makes.Laws.{left-none, left-drafted}
 use Rattle.tables.proofs.makes.write_table.Statement.{statement}
 use Rattle.tables.proofs.makes.write_table.Tie as tie
 
@@ -34,11 +32,11 @@ module _ (x : tie.After-table) where
   abbrev draft : List ℕ
   draft = x .table .last .1 .1 .0
 
-  room : (t : Tree) → definedTree rules ≡ some t → length (tableOf rules t) ≤ length (now (from .args .draft))
-  room t e = omega (arith, defined-length (from .args .f) (now (from .args .coef)) (from .pre .0) t e, from .pre .1)
-
   inside : (size : ℕ) → x .table .result ≡ Grown.Next size → size ≤ length draft
-  inside size z = fits rules (now (from .args .draft)) buffer (x .table .result) draft (x .table .ensures) size z room
+  inside size z = fits (from .args .f) (now (from .args .coef)) (from .pre .0) (now (from .args .draft)) (from .pre .1) (x .table .result) draft (x .table .ensures) size z
+
+  is-front : (size : ℕ) → x .table .result ≡ Grown.Next size → definedBytes rules ≡ some (take size draft)
+  is-front size z = front (from .args .f) (now (from .args .coef)) (from .pre .0) (now (from .args .draft)) (from .pre .1) (x .table .result) draft (x .table .ensures) size z
 
 table-requires : tie.Need-table-requires
 table-requires c κs = search needs
@@ -65,7 +63,7 @@ returns : tie.Need-returns
 returns c =
     let x = c .before .before .before .before .before .before .before .before .before in
     let w = c .before .before .refuse in
-    let z = left-none (rules x) (now (from x .args .draft)) (buffer x) (x .table .result) (draft x) (x .table .ensures) (c .before .before .before .before .before .enum-told .given .1) in
+    let z = left-none (rules x) (buffer x) (draft-none (rules x) (now (from x .args .draft)) (x .table .result) (draft x) (x .table .ensures) (c .before .before .before .before .before .enum-told .given .1)) in
     let e = ap (λ (f : Refusal). refusedWith f (buffer x)) (c .before .before .before .before .no-table .ensures) ∙ z in
     (w .ensures .0 ∙ ap (λ (l : Left). l .answer) e, w .ensures .1 ∙ ap (λ (l : Left). l .buffer) e)
 
@@ -92,7 +90,7 @@ returns-2 c =
     let x = c .before .before .before .before .before .before .before .before .before .before in
     let g = c .before .before .before .before .before .before .length .given in
     let w = c .before .before .leave in
-    let e = left-drafted (rules x) (now (from x .args .draft)) (buffer x) (x .table .result) (draft x) (x .table .ensures) (g .0 .0) (g .1) (room x) in
+    let e = left-drafted (rules x) (buffer x) (take (g .0 .0) (draft x)) (is-front x (g .0 .0) (g .1)) in
     (w .ensures .0 ∙ ap (λ (l : Left). l .answer) e, w .ensures .1 ∙ ap (λ (l : Left). l .buffer) e)
 
 pub write-table-spec : {M : Type 1} → statement M

@@ -1,4 +1,4 @@
--- `makes::put_tile`: what is left to write are the modes that are left. Assumes nothing.
+-- `drafts::put_tile`: what is left to write are the modes that are left. Assumes nothing.
 use Prim.Native.Nat.{_-_, _≤_, _<_}
 use mathlib.Core.Path.{_∙_}
 use native.Mathlib.Omega.{arith}
@@ -7,9 +7,9 @@ use Rattle.laws.specs.Tabs.{tab-all}
 use Rattle.laws.specs.Writing.{Under, under-none, under-more, under-done, put-length}
 use Rattle.meaning.specs.Trees.{modesBytes}
 use Rattle.tables.specs.Tiles.{longestPattern, modeAt, patternOf}
-use Rattle.tables.proofs.makes.Laws.{modesFrom, tile-whole, tile-mode, tile-end}
-use Rattle.tables.proofs.makes.put_tile.Statement.{statement}
-use Rattle.tables.proofs.makes.put_tile.Tie as tie
+use Rattle.tables.proofs.drafts.Laws.{modesFrom, tile-whole, tile-mode, tile-end}
+use Rattle.tables.proofs.drafts.put_tile.Statement.{statement}
+use Rattle.tables.proofs.drafts.put_tile.Tie as tie
 
 abbrev Inv-loop : tie.InvT-loop
 Inv-loop buf₀ at k us place₀ j₀ buf place j = (j ≤ longestPattern) × Under buf₀ place₀ (modesBytes (patternOf k us)) (modesFrom k us j) place buf

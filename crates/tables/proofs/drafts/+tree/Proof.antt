@@ -1,4 +1,4 @@
--- `makes::tree`, which calls itself with less depth: each return cites the law of the node that it stops at; in the loop over the children,
+-- `drafts::tree`, which calls itself with less depth: each return cites the law of the node that it stops at; in the loop over the children,
 -- whoever writes those that are left has written them all. Assumes nothing.
 use Prim.Native.Nat.{ℕ, _+_, _-_, _≤_, _<_}
 use mathlib.Core.Path.{_≡_, sym, _∙_}
@@ -15,26 +15,26 @@ use Rattle.meaning.specs.Plants.{edgeLimit}
 use Rattle.meaning.specs.Rules.{Rules}
 use Rattle.meaning.specs.Defined.{firstPattern}
 use Rattle.tables.specs.declared.frames.Frame.{Frame}
-use Rattle.tables.specs.declared.makes.Grown.{Grown}
+use Rattle.tables.specs.declared.drafts.Grown.{Grown}
 use Rattle.tables.specs.Boxes.{boxOf}
 use Rattle.tables.specs.Frames.{rulesIn}
 use Rattle.tables.specs.Search.{patternBy}
-use Rattle.tables.specs.Makes.{Wrote, treeBytes, treesBytes}
+use Rattle.tables.specs.Drafts.{Wrote, treeBytes, treesBytes}
 use Rattle.tables.proofs.boxes.Laws.{small-children}
 use Rattle.tables.proofs.search.Rules.{lent, shortest-is}
-use Rattle.tables.proofs.makes.Laws.{Growing, grow-none, grow-done, grow-more, grow-stopped, node-tile, node-deep, node-stuck, node-split, wrote-length}
+use Rattle.tables.proofs.drafts.Laws.{Growing, grow-none, grow-done, grow-more, grow-stopped, node-tile, node-deep, node-stuck, node-split, wrote-length}
 use borrow.Fn.Kinds.{In}
 use borrow.Fn.PlainCycle.{Measures, is, falls, and}
-use Rattle.tables.proofs.makes.tree.Reads as tree
-use Rattle.tables.proofs.makes.tree.Kinds as tree-kinds
-use Rattle.tables.proofs.makes.+tree.Lts-tree as tree-lts
+use Rattle.tables.proofs.drafts.tree.Reads as tree
+use Rattle.tables.proofs.drafts.tree.Kinds as tree-kinds
+use Rattle.tables.proofs.drafts.+tree.Lts-tree as tree-lts
 use Rattle.files.proofs.numbers.put_number.Reads as put-number-reads
 use Rattle.tables.proofs.boxes.child.Reads as child-reads
 use Rattle.tables.proofs.boxes.count.Reads as count-reads
-use Rattle.tables.proofs.makes.put_tile.Reads as put-tile-reads
+use Rattle.tables.proofs.drafts.put_tile.Reads as put-tile-reads
 use Rattle.tables.proofs.search.first.Reads as first-reads
-use Rattle.tables.proofs.makes.+tree.{statement}
-use Rattle.tables.proofs.makes.+tree.Tie.{close}
+use Rattle.tables.proofs.drafts.+tree.{statement}
+use Rattle.tables.proofs.drafts.+tree.Tie.{close}
 
 abbrev μ-tree : Measures 3 tree-kinds.ps ℕ
 μ-tree κs a = a .1 .1 .1 .0

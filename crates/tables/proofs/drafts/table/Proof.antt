@@ -1,10 +1,10 @@
--- `makes::table`: header, then the tree of the box that is tiled. Assumes nothing.
+-- `drafts::table`: header, then the tree of the box that is tiled. Assumes nothing.
 use denote.Ref.{now}
 use borrow.Author.Needs.{needs}
 use Rattle.tables.specs.Frames.{rulesIn}
-use Rattle.tables.proofs.makes.Laws.{table-wrote}
-use Rattle.tables.proofs.makes.table.Statement.{statement}
-use Rattle.tables.proofs.makes.table.Tie as tie
+use Rattle.tables.proofs.drafts.Laws.{table-wrote}
+use Rattle.tables.proofs.drafts.table.Statement.{statement}
+use Rattle.tables.proofs.drafts.table.Tie as tie
 
 lay-requires : tie.Need-lay-requires
 lay-requires c κs = search needs

@@ -1,0 +1,66 @@
+-- What the start file's maker leaves in a buffer: a table behind its length, those of all boxes, and the whole file. Definitions alone.
+use Prim.Native.Nat.{ℕ, _+_, _≤_}
+use mathlib.Core.Path.{_≡_}
+use mathlib.Core.List.{List, _++_}
+use mathlib.Core.Option.{Option}
+use lib.IntN.{ℤ}
+use lib.ListN.{length}
+use Rattle.laws.specs.Writing.{Put}
+use Rattle.meaning.specs.declared.Walk.{Walk}
+use Rattle.meaning.specs.Buffers.{Left, left}
+use Rattle.meaning.specs.Defined.{mapSome}
+use Rattle.meaning.specs.Files.{Judged, good, bad, valuesOf}
+use Rattle.meaning.specs.Numbers.{bytesOf}
+use Rattle.meaning.specs.Rules.{Rules}
+use Rattle.meaning.specs.Starts.{chainForm, above, boxAt, boxBelow, onChain, partsOf, tablesFrom, startBytes}
+use Rattle.meaning.specs.Tables.{rulesFrom}
+use Rattle.tables.specs.declared.frames.Frame.{Frame}
+use Rattle.tables.specs.Boxes.{boxOf}
+use Rattle.tables.specs.Chains.{frameAt}
+use Rattle.tables.specs.Drafts.{definedBytes}
+use Rattle.tables.specs.Frames.{stepIn, rulesIn, FrameSound}
+
+-- a table behind its length
+abbrev pub withLength : List ℕ → List ℕ
+withLength t = bytesOf (length t) ++ t
+
+-- the defined table of some rules so, where there is one
+abbrev pub partBytes : Rules → Option (List ℕ)
+partBytes r = mapSome withLength (definedBytes r)
+
+-- The tables that are asked for, or 9: what was answered, and the buffer as it is left. At 9 the bytes in it are left open, for the maker zeros them.
+abbrev pub WroteParts : Judged (List (List ℕ)) → List ℕ → ℕ → Walk → List ℕ → Type 0
+WroteParts (good ts) buf at (Walk.Next next) out = Put buf at (partsOf ts) next out
+WroteParts (good ts) buf at (Walk.Refused e) out = ⊥
+WroteParts (bad e) buf at (Walk.Next next) out = ⊥
+WroteParts (bad e) buf at (Walk.Refused f) out = (f ≡ e) × (length out ≡ length buf)
+
+-- the rules of Ri's table, and the tables of R0..Rm, as the code has them: by frames
+abbrev pub framesRules : Frame → List ℤ → List ℤ → ℕ → Rules
+framesRules f coef edges i = rulesIn (frameAt f edges i) coef
+
+abbrev pub framesTables : Frame → List ℤ → List ℤ → ℕ → Judged (List (List ℕ))
+framesTables f coef edges m = tablesFrom (framesRules f coef edges) (m + 1) 0
+
+abbrev pub FramesSound : Frame → List ℤ → List ℤ → ℕ → Type 0
+FramesSound f coef edges m = (i : ℕ) → i ≤ m → FrameSound (frameAt f edges i) coef
+
+-- the file: the chain's bytes, then the tables
+abbrev pub behindChain : List ℕ → Judged (List (List ℕ)) → Judged (List ℕ)
+behindChain chain (bad e) = bad e
+behindChain chain (good ts) = good (chain ++ partsOf ts)
+
+-- ---- the same by the chain's values, as meaning has it; a plant's own frame gives meaning's own
+
+abbrev pub valuesRules : Frame → List ℤ → List ℤ → ℕ → Rules
+valuesRules f coef vs i =
+    let root = boxOf (f .n) (f .root) in
+    rulesFrom (f .n) (f .modes) (f .k) (f .d) (boxAt (f .n) root vs i) (boxBelow (f .n) root vs i) (boxOf (f .n) (f .safe)) (stepIn f coef)
+
+abbrev pub chainMade : Frame → List ℤ → List ℕ → Judged (List ℕ)
+chainMade f coef chain =
+    onChain (f .n) (boxOf (f .n) (f .root)) (boxOf (f .n) (f .safe)) (valuesOf (chainForm (f .n)) chain) bad λ vs _.
+    startBytes (f .n) vs (tablesFrom (valuesRules f coef vs) (above vs + 1) 0)
+
+abbrev pub chainLeft : Frame → List ℤ → List ℕ → List ℕ → Left
+chainLeft f coef chain buf = left (chainMade f coef chain) buf

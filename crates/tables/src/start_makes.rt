@@ -1,0 +1,139 @@
+// The start file's maker (document 02, request 2026-03): a chain of boxes with the table that is defined for each behind its length. It is written straight
+// into the lent buffer, for 9 comes before 10: plant, chain, 15, 9 with the first index that has no table, 10.
+// Relies on crate files for the plant, for numbers and for what a write leaves, on chains for the chain and each box's frame, on drafts for a table. Leaves
+// out whether the tables work: that is proved of the definition.
+use crate::chains;
+use crate::chains::EDGES;
+use crate::drafts;
+use crate::drafts::FEW;
+use crate::drafts::Grown;
+use crate::drafts::MOST;
+use crate::frames;
+use crate::frames::Frame;
+use crate::refusals;
+use files::buffers;
+use files::numbers;
+use files::plants;
+use meaning::Verdict;
+use meaning::Walk;
+use meaning::Written;
+ghost use mathlib.Core.Path.{_≡_};
+ghost use Prim.Native.Nat.{_+_, _^_, _≤_};
+ghost use lib.ListN.{length};
+ghost use mathlib.Core.Bool.{true};
+ghost use Rattle.meaning.specs.Boxes.{within};
+ghost use Rattle.meaning.specs.Buffers.{left};
+ghost use Rattle.meaning.specs.Starts.{startLeft};
+ghost use Rattle.promises.specs.tables.TableLengths.{most};
+ghost use Rattle.tables.specs.Boxes.{boxOf};
+ghost use Rattle.tables.specs.Chains.{mostAbove};
+ghost use Rattle.tables.specs.Drafts.{Wrote};
+ghost use Rattle.tables.specs.Frames.{rulesIn, FrameSound};
+ghost use Rattle.tables.specs.StartMakes.{partBytes, WroteParts, framesTables, FramesSound, behindChain, chainLeft};
+
+// A frame's table behind its length: drafted where there is room for it, then copied.
+fn put_part(f: Frame, coef: &[i64; 320], draft: &mut [u8], buf: &mut [u8], at: usize) -> Grown
+    requires frame { ⌜ FrameSound f (now coef) ⌝ }
+    requires room { ⌜ 2 + most (2 ^ f .n) 7 (f .d) ≤ length (now draft) ⌝ }
+    ensures { λ r. ⌜ Wrote (partBytes (rulesIn f (now (coef .entry)))) (now (buf .entry)) at r (now (buf .exit)) ⌝ }
+{
+    let Grown::Next(size) = drafts::table(f, coef, draft) else {
+        return Grown::Nothing;
+    };
+    let past_length = numbers::put_number(buf, at, size);
+    Grown::Next(buffers::put_bytes(buf, past_length, &draft[..size]))
+}
+
+// The tables of R0..Rm, one draft for all; or 9 with the first index that has none.
+fn put_parts(
+    f: Frame,
+    coef: &[i64; 320],
+    edges: &[i64; EDGES],
+    m: usize,
+    draft: &mut [u8],
+    buf: &mut [u8],
+    at: usize,
+) -> Walk
+    requires frames { ⌜ (m ≤ mostAbove) × FramesSound f (now coef) (now edges) m ⌝ }
+    requires room { ⌜ 2 + most (2 ^ f .n) 7 (f .d) ≤ length (now draft) ⌝ }
+    requires place { ⌜ at ≤ length (now buf) + 1 ⌝ }
+    ensures { λ r. ⌜ WroteParts (framesTables f (now (coef .entry)) (now (edges .entry)) m) (now (buf .entry)) at r (now (buf .exit)) ⌝ }
+{
+    let mut place = at;
+    let mut i: usize = 0;
+    while i <= m {
+        let own = chains::frame_at(f, edges, i);
+        let grown = put_part(own, coef, draft, buf, place);
+        let Grown::Next(next) = grown else {
+            return Walk::Refused(refusals::no_table(i));
+        };
+        place = next;
+        i += 1;
+    }
+    Walk::Next(place)
+}
+
+// The chain's bytes, then the tables: 9, 10. Finished, only the file's bytes are changed; refused, the buffer is all zeros.
+fn write_start(
+    f: Frame,
+    coef: &[i64; 320],
+    edges: &[i64; EDGES],
+    m: usize,
+    chain: &[u8],
+    draft: &mut [u8],
+    buf: &mut [u8],
+) -> Written
+    requires frames { ⌜ (m ≤ mostAbove) × FramesSound f (now coef) (now edges) m ⌝ }
+    requires room { ⌜ 2 + most (2 ^ f .n) 7 (f .d) ≤ length (now draft) ⌝ }
+    ensures answer { λ r. ⌜ r ≡ left (behindChain (now (chain .entry)) (framesTables f (now (coef .entry)) (now (edges .entry)) m)) (now (buf .entry)) .answer ⌝ }
+    ensures bytes { λ r. ⌜ now (buf .exit) ≡ left (behindChain (now (chain .entry)) (framesTables f (now (coef .entry)) (now (edges .entry)) m)) (now (buf .entry)) .buffer ⌝ }
+{
+    let past_chain = buffers::put_bytes(buf, 0, chain);
+    let past = put_parts(f, coef, edges, m, draft, buf, past_chain);
+    match past {
+        Walk::Refused(e) => buffers::refuse(e, buf),
+        Walk::Next(size) => {
+            if buf.len() < size {
+                return buffers::refuse(files::refusals::short(), buf);
+            }
+            Written::Length(size)
+        }
+    }
+}
+
+// For a frame: chain, 15, 9, 10.
+fn make_start(f: Frame, coef: &[i64; 320], chain: &[u8], buf: &mut [u8]) -> Written
+    requires frame { ⌜ FrameSound f (now coef) ⌝ }
+    requires root { ⌜ within (boxOf (f .n) (f .root)) (boxOf (f .n) (f .safe)) ≡ true ⌝ }
+    ensures answer { λ r. ⌜ r ≡ chainLeft f (now (coef .entry)) (now (chain .entry)) (now (buf .entry)) .answer ⌝ }
+    ensures bytes { λ r. ⌜ now (buf .exit) ≡ chainLeft f (now (coef .entry)) (now (chain .entry)) (now (buf .entry)) .buffer ⌝ }
+{
+    let read = chains::read_chain(f, true, chain);
+    let verdict = read.verdict;
+    match verdict {
+        Verdict::Refused(e) => buffers::refuse(e, buf),
+        Verdict::Accepted => {
+            if f.n * f.d <= 4 {
+                let mut few = [0u8; FEW];
+                return write_start(f, coef, &read.edges, read.m, chain, &mut few, buf);
+            }
+            let mut draft = [0u8; MOST];
+            write_start(f, coef, &read.edges, read.m, chain, &mut draft, buf)
+        }
+    }
+}
+
+// The start file for a plant's file and a chain's: plant, chain, 15, 9, 10.
+pub fn start_make(plant: &[u8], chain: &[u8], buf: &mut [u8]) -> Written
+    ensures answer { λ r. ⌜ r ≡ startLeft (now (plant .entry)) (now (chain .entry)) (now (buf .entry)) .answer ⌝ }
+    ensures bytes { λ r. ⌜ now (buf .exit) ≡ startLeft (now (plant .entry)) (now (chain .entry)) (now (buf .entry)) .buffer ⌝ }
+{
+    let read = plants::read_plant(plant);
+    let verdict = read.verdict;
+    match verdict {
+        Verdict::Refused(e) => buffers::refuse(e, buf),
+        Verdict::Accepted => {
+            make_start(frames::framed(read.plant), &read.plant.coef, chain, buf)
+        }
+    }
+}
