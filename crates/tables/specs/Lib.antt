@@ -10,3 +10,5 @@ pub mod Search
 pub mod Makes
 pub mod Walks
 pub mod Chains
+pub mod Parts
+pub mod StartChecks
