@@ -21,7 +21,7 @@ use Rattle.tables.specs.declared.chains.ChainRead.{ChainRead}
 use Rattle.tables.specs.declared.chains.Head.{Head}
 use Rattle.tables.specs.declared.frames.Frame.{Frame}
 use Rattle.tables.specs.Boxes.{boxOf}
-use Rattle.tables.specs.Frames.{boxFrom}
+use Rattle.tables.specs.Frames.{boxFrom, FrameSound}
 
 -- as many boxes above R, and as many of their edges, as there may be
 abbrev pub mostAbove : ℕ
@@ -84,6 +84,12 @@ frameAt f edges i = record {
   safe = f .safe;
   band = f .band;
 }
+
+-- what is asked of the frames of all tables, R0's to Rm's
+pub record FramesSound (f : Frame) (coef edges : List ℤ) (m : ℕ) : Type 0 where
+  pub rooms : f .n ≤ 4
+  pub few : m ≤ mostAbove
+  pub each : (i : ℕ) → i ≤ m → FrameSound (frameAt f edges i) coef
 
 -- a box holds the one below it and lies in S
 abbrev pub keeps : ℕ → Bx → Bx → Bx → Bool

@@ -11,4 +11,6 @@ pub mod Drafts
 pub mod Makes
 pub mod Walks
 pub mod Chains
+pub mod Parts
+pub mod StartChecks
 pub mod StartMakes

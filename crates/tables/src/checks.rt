@@ -11,20 +11,20 @@ use meaning::Verdict;
 use meaning::Walk;
 ghost use mathlib.Core.Path.{_≡_};
 ghost use Rattle.meaning.specs.Tables.{checked};
-ghost use Rattle.meaning.specs.Verdicts.{verdict};
+ghost use Rattle.meaning.specs.Verdicts.{tableEnd, verdict};
 ghost use Rattle.tables.specs.Frames.{rulesIn, FrameSound};
 
-// A table against a frame.
-fn judge(f: Frame, coef: &[i64; 320], table: &[u8]) -> Verdict
+// The place behind a table, its header and its tree, against a frame. What may stand there is not asked.
+pub(crate) fn table_end(f: Frame, coef: &[i64; 320], table: &[u8]) -> Walk
     requires { ⌜ FrameSound f (now coef) ⌝ }
-    ensures { λ r. ⌜ r ≡ verdict (rulesIn f (now (coef .entry))) (now (table .entry)) ⌝ }
+    ensures { λ r. ⌜ r ≡ tableEnd (rulesIn f (now (coef .entry))) (now (table .entry)) ⌝ }
 {
     match headers::header(f.n, table) {
-        Walk::Refused(e) => Verdict::Refused(e),
+        Walk::Refused(e) => Walk::Refused(e),
         Walk::Next(at) => {
             let root = f.root;
             let edges = frames::edges_of(f);
-            match walks::walk(
+            walks::walk(
                 frames::counts_of(f),
                 &edges,
                 coef,
@@ -33,15 +33,23 @@ fn judge(f: Frame, coef: &[i64; 320], table: &[u8]) -> Verdict
                 f.d,
                 at,
                 root,
-            ) {
-                Walk::Refused(e) => Verdict::Refused(e),
-                Walk::Next(next) => {
-                    if next == table.len() {
-                        Verdict::Accepted
-                    } else {
-                        Verdict::Refused(refusals::bad_table(next))
-                    }
-                }
+            )
+        }
+    }
+}
+
+// A table against a frame: it has to end where its bytes do.
+fn judge(f: Frame, coef: &[i64; 320], table: &[u8]) -> Verdict
+    requires { ⌜ FrameSound f (now coef) ⌝ }
+    ensures { λ r. ⌜ r ≡ verdict (rulesIn f (now (coef .entry))) (now (table .entry)) ⌝ }
+{
+    match table_end(f, coef, table) {
+        Walk::Refused(e) => Verdict::Refused(e),
+        Walk::Next(next) => {
+            if next == table.len() {
+                Verdict::Accepted
+            } else {
+                Verdict::Refused(refusals::bad_table(next))
             }
         }
     }

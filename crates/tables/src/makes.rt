@@ -17,7 +17,7 @@ ghost use mathlib.Core.Path.{_≡_};
 ghost use Prim.Native.Nat.{_+_, _^_, _≤_};
 ghost use lib.ListN.{length};
 ghost use Rattle.meaning.specs.Tables.{makerLeft};
-ghost use Rattle.promises.specs.TableLengths.{most};
+ghost use Rattle.promises.specs.tables.TableLengths.{most};
 ghost use Rattle.tables.specs.Frames.{rulesIn, FrameSound};
 ghost use Rattle.tables.specs.Makes.{definedLeft};
 

@@ -3,6 +3,7 @@
 use meaning::Refusal;
 ghost use mathlib.Core.Path.{_≡_};
 ghost use Rattle.meaning.specs.Refusals as R;
+ghost use Rattle.tables.specs.Parts.{Movable};
 
 pub fn bad_table(at: usize) -> Refusal
     ensures { λ r. ⌜ r ≡ R.badTable at ⌝ }
@@ -72,4 +73,44 @@ pub fn not_held(i: usize) -> Refusal
         place: i,
         step: 0,
     }
+}
+
+// Whether a refusal's place is a byte of the file.
+fn at_byte(number: u8) -> bool
+    ensures { λ r. ⌜ r ≡ R.atByte number ⌝ }
+{
+    if number == 1 {
+        return true;
+    }
+    if number == 2 {
+        return true;
+    }
+    if number == 3 {
+        return true;
+    }
+    if number == 6 {
+        return true;
+    }
+    if number == 7 {
+        return true;
+    }
+    if number == 8 {
+        return true;
+    }
+    number == 13
+}
+
+// What is told of a file that stands at `from` in another.
+pub fn moved(from: usize, e: Refusal) -> Refusal
+    requires { ⌜ Movable from e ⌝ }
+    ensures { λ r. ⌜ r ≡ R.moved from e ⌝ }
+{
+    if at_byte(e.number) {
+        return Refusal {
+            number: e.number,
+            place: from + e.place,
+            step: e.step,
+        };
+    }
+    e
 }

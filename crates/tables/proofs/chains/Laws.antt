@@ -23,21 +23,23 @@ use Rattle.meaning.specs.declared.Refusal.{Refusal}
 use Rattle.meaning.specs.declared.Verdict.{Verdict}
 use Rattle.meaning.specs.Boxes.{Side, side, sideAt, within}
 use Rattle.meaning.specs.Files.{Form, end, Read, read, refused, valuesAt}
-use Rattle.meaning.specs.Plants.{edgeLimit, span, column, rootOf}
+use Rattle.meaning.specs.Plants.{edgeLimit, span, column, rootOf, safeOf}
 use Rattle.meaning.specs.Refusals.{notHeld}
 use Rattle.meaning.specs.Starts as S
 use Rattle.meaning.specs.Starts.{chainForm, above, chainSide, boxAt, boxBelow, held, onChain, boxRules}
 use Rattle.meaning.specs.Tables.{tableRules}
 use Rattle.promises.specs.files.Files.{file-writes}
+use Rattle.promises.specs.files.Sound.{Sound}
 use Rattle.promises.specs.files.Forms as F
 use Rattle.promises.specs.files.Forms.{Right, values-right, times-right}
 use Rattle.tables.specs.declared.boxes.Bx.{Bx}
 use Rattle.tables.specs.declared.chains.ChainRead.{ChainRead}
 use Rattle.tables.specs.declared.frames.Frame.{Frame}
 use Rattle.tables.specs.Boxes.{boxOf, Bounded, Small}
-use Rattle.tables.specs.Chains.{mostAbove, mostEdges, edgesAbove, valuesIn, noChain, chainWith, chainValues, chainRead, boxOn, bxAt, bxBelow, frameAt, keeps}
+use Rattle.tables.specs.Chains.{mostAbove, mostEdges, edgesAbove, valuesIn, noChain, chainWith, chainValues, chainRead, boxOn, bxAt, bxBelow, frameAt, keeps, FramesSound}
 use Rattle.tables.specs.Frames.{frameOf, rulesIn, FrameSound}
 use Rattle.tables.proofs.boxes.Laws.{small-tab}
+use Rattle.tables.proofs.frames.Laws.{own-sound}
 
 -- ---- edges and values: the e-th edge is the value e + 2
 
@@ -284,3 +286,31 @@ module _ (p : Plant) (rooms : p .n ≤ 4) (edges vs : List ℤ) (q : Edged edges
       → answer (boxOf (p .n) (frameAt (frameOf p) edges i .root)) (boxOf (p .n) (frameAt (frameOf p) edges i .goal))
       ≡ answer (boxAt (p .n) (rootOf p) vs i) (boxBelow (p .n) (rootOf p) vs i)
   answers-at answer i = boxes-same (p .n) rooms edges vs q (frameOf p .root) answer i
+
+-- ---- for a plant that was judged good, whose frame the code has: what the definitions go on with behind the chain, and its frames
+
+module _ (whole : Bool) (p : Plant) (g : Sound p) (f : Frame) (e : f ≡ frameOf p) (s : List ℕ) (r : ChainRead) (q : r ≡ chainRead whole f s) where
+  own : r ≡ chainRead whole (frameOf p) s
+  own = q ∙ ap (λ (f : Frame). chainRead whole f s) e
+
+  pub plant-chain : r .verdict ≡ Verdict.Accepted → Chained whole (frameOf p) s r
+  plant-chain = chain-taken whole (frameOf p) s r own
+
+  pub plant-refused : {A : Type 0} (x : Refusal) → r .verdict ≡ Verdict.Refused x → (refuse : Refusal → A) (rest : List ℤ → ℕ → A)
+      → refuse x ≡ onChain (p .n) (rootOf p) (safeOf p) (chainValues whole (p .n) s) refuse rest
+  plant-refused = chain-refused whole (frameOf p) s r own
+
+  module _ (t : Chained whole (frameOf p) s r) where
+    pub plant-goes : {A : Type 0} (refuse : Refusal → A) (rest : List ℤ → ℕ → A)
+        → rest (t .vs) (r .next) ≡ onChain (p .n) (rootOf p) (safeOf p) (chainValues whole (p .n) s) refuse rest
+    plant-goes = chain-goes whole (frameOf p) s r own t
+
+    pub plant-edged : Edged (r .edges) (t .vs)
+    plant-edged = chain-edged whole (frameOf p) s r own t
+
+    pub plant-frames : FramesSound f (p .coef) (r .edges) (r .m)
+    plant-frames = rw e (record {
+      rooms = own-sound p g .rooms;
+      few = chain-few whole (frameOf p) s r own t;
+      each = λ i h. frame-sound whole (frameOf p) s r own t (p .coef) (own-sound p g) (own-sound p g .in-safe) i h;
+    })

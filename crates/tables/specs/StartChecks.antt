@@ -1,0 +1,26 @@
+-- The tables of a start file as the code checks them: one behind its length, by a frame's rules. Definitions alone.
+use Prim.Native.Nat.{ℕ, _+_}
+use mathlib.Core.List.{List}
+use lib.Dec.{eqb}
+use lib.IntN.{ℤ}
+use Rattle.laws.specs.Guards.{guard}
+use Rattle.meaning.specs.declared.Walk.{Walk}
+use Rattle.meaning.specs.Refusals.{unfit, moved}
+use Rattle.meaning.specs.Rules.{Rules}
+use Rattle.meaning.specs.Starts.{onLength, part}
+use Rattle.meaning.specs.Verdicts.{onWalk, tableEnd}
+use Rattle.tables.specs.declared.frames.Frame.{Frame}
+use Rattle.tables.specs.Chains.{frameAt}
+use Rattle.tables.specs.Frames.{rulesIn}
+
+-- the rules of Ri's table
+abbrev pub rulesAt : Frame → List ℤ → List ℤ → ℕ → Rules
+rulesAt f edges coef i = rulesIn (frameAt f edges i) coef
+
+-- the place behind the table whose length stands at `at`: the table ends where its length says
+abbrev pub tableAt : Rules → List ℕ → ℕ → Walk
+tableAt r s at =
+    onLength s at Walk.Refused λ first size.
+    onWalk (tableEnd r (part s first size)) (λ e. Walk.Refused (moved first e)) λ next.
+    guard (eqb next size) (Walk.Refused (unfit at)) λ _.
+    Walk.Next (first + size)
