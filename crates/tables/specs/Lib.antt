@@ -12,3 +12,4 @@ pub mod Walks
 pub mod Chains
 pub mod Parts
 pub mod StartChecks
+pub mod StartControl
