@@ -13,4 +13,5 @@ pub mod Walks
 pub mod Chains
 pub mod Parts
 pub mod StartChecks
+pub mod StartControl
 pub mod StartMakes

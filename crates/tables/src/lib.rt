@@ -1,6 +1,7 @@
-// Tables of document 01: the maker (makes), the checker (checks) and the controller's call (control); start files of document 02: the maker
-// (start_makes). The other modules are private to the crate: their functions ask something of a plant that was judged (`requires`), which only callers
-// inside the crate can be asked to prove; what another crate may call has no `requires`.
+// Tables of document 01: the maker (makes), the checker (checks) and the controller's call (control); and the same of start files, which hold a table for each
+// box of a chain (document 02, request 2026-03): start_makes, start_checks, start_control. The other modules are private to the crate: their functions ask
+// something of a plant that was judged (`requires`), which only callers inside the crate can be asked to prove; what another crate may call has no
+// `requires`.
 mod boxes;
 mod chains;
 pub mod checks;
@@ -19,6 +20,7 @@ mod parts;
 mod refusals;
 mod search;
 pub mod start_checks;
+pub mod start_control;
 pub mod start_makes;
 mod states;
 mod steps;

@@ -1,0 +1,61 @@
+-- A call on a start file as the code makes it: which table is called, then the call on it. Definitions alone.
+use Prim.Native.Nat.{ℕ}
+use mathlib.Core.Bool.{Bool, _&&_, _||_, not}
+use mathlib.Core.List.{List}
+use lib.Dec.{leb, eqb}
+use lib.IntN.{ℤ}
+use Rattle.laws.specs.Guards.{guard, choose}
+use Rattle.laws.specs.Lists.{all, firstFalse}
+use Rattle.meaning.specs.declared.Refusal.{Refusal}
+use Rattle.meaning.specs.declared.StartAnswer.{StartAnswer}
+use Rattle.meaning.specs.declared.StartState.{StartState}
+use Rattle.meaning.specs.declared.State.{State}
+use Rattle.meaning.specs.Boxes.{Side, fits}
+use Rattle.meaning.specs.Control.{call}
+use Rattle.meaning.specs.Refusals.{outside, badState}
+use Rattle.meaning.specs.Starts.{above, boxAt, chosen, isIdle, answerIn, onPart, part}
+use Rattle.meaning.specs.Tables.{readingOf}
+use Rattle.tables.specs.declared.frames.Frame.{Frame}
+use Rattle.tables.specs.declared.start_control.Choice.{Choice}
+use Rattle.tables.specs.Boxes.{boxOf}
+use Rattle.tables.specs.Chains.{valuesIn, frameAt}
+use Rattle.tables.specs.Frames.{rulesIn}
+
+-- in n dimensions, R being root, the values of the chain being vs
+module _ (n : ℕ) (root : List Side) (vs : List ℤ) where
+  -- Ri and a reading, dimension by dimension; and that it does not hold it
+  abbrev pub fitsAt : List ℤ → ℕ → List Bool
+  fitsAt x i = fits (boxAt n root vs i) (readingOf n x)
+
+  abbrev pub missesAt : List ℤ → ℕ → Bool
+  missesAt x i = not (all (fitsAt x i))
+
+  -- idle: outside Rm it is 11
+  abbrev pub idleChoice : List ℤ → Choice
+  idleChoice x =
+      let fit = fitsAt x (above vs) in
+      guard (all fit) (Choice.Refused (outside (firstFalse fit))) λ _. Choice.Table (chosen n root vs x)
+
+  -- the index can be
+  abbrev pub mayIndex : ℕ → State → Bool
+  mayIndex i st = leb i (above vs) && (eqb i 0 || not (isIdle st))
+
+  -- the table that is called
+  abbrev pub choiceOf : StartState → List ℤ → Choice
+  choiceOf st x =
+      guard (mayIndex (st .index) (st .state)) (Choice.Refused badState) λ _.
+      choose (isIdle (st .state)) (λ _. idleChoice x) (λ _. Choice.Table (st .index))
+
+abbrev pub onChoice : {A : Type 0} → Choice → (Refusal → A) → (ℕ → A) → A
+onChoice (Choice.Refused e) refuse rest = refuse e
+onChoice (Choice.Table i) refuse rest = rest i
+
+-- the call on table i, by a frame's rules
+abbrev pub callBehind : Frame → List ℤ → List ℕ → ℕ → ℕ → State → List ℤ → StartAnswer
+callBehind f coef s at i st x = onPart i s at StartAnswer.Refused λ first size. answerIn i first (call (rulesIn f coef) (part s first size) st x)
+
+-- a call on a chain of m boxes that was read, `at` being the place behind it
+abbrev pub startAnswer : Frame → List ℤ → List ℤ → List ℕ → ℕ → ℕ → StartState → List ℤ → StartAnswer
+startAnswer f edges coef s m at st x =
+    onChoice (choiceOf (f .n) (boxOf (f .n) (f .root)) (valuesIn m edges) st x) StartAnswer.Refused λ i.
+    callBehind (frameAt f edges i) coef s at i (st .state) x
