@@ -5,6 +5,7 @@ mod rooms;
 
 use face::shown;
 use files::plants;
+use meaning::COEFFICIENTS;
 use meaning::Plant;
 use meaning::Sheet;
 ghost use mathlib.Core.Path.{_≡_};
@@ -21,7 +22,7 @@ pub extern "C" fn batch_read_plant(
     plant: &[u8],
     header: &mut [usize; 5],
     edges: &mut [[i64; 4]; 6],
-    coef: &mut [i64; 320],
+    coef: &mut [i64; COEFFICIENTS],
     out: &mut [u64; 2],
 ) -> u64
     ensures number { λ r. ⌜ r ≡ verdictShown (plantRead (now (plant .entry)) .verdict) .number ⌝ }
@@ -52,7 +53,7 @@ pub extern "C" fn batch_read_plant(
 pub extern "C" fn batch_write_plant(
     header: &[usize; 5],
     edges: &[[i64; 4]; 6],
-    coef: &[i64; 320],
+    coef: &[i64; COEFFICIENTS],
     buf: &mut [u8],
     out: &mut [u64; 2],
 ) -> u64

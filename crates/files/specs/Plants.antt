@@ -53,6 +53,10 @@ plantBeginning p = record {
 
 -- ---- drafted: the coefficients behind the beginning
 
+-- the bytes of the draft's array
+abbrev pub plantRoom : ℕ
+plantRoom = 3_500
+
 abbrev pub coefNumbers : Plant → List ℤ
 coefNumbers p = tab (at (p .coef)) (coefCount (p .modes) (p .n)) 0
 

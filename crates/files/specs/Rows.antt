@@ -12,7 +12,7 @@ use Rattle.laws.specs.Lists.{at, tab}
 use Rattle.laws.specs.Tabs.{Filled}
 use Rattle.meaning.specs.declared.Walk.{Walk}
 use Rattle.meaning.specs.Files.{Form}
-use Rattle.meaning.specs.Plants.{entryLimit, offsetLimit, limited, times, row, coefCount}
+use Rattle.meaning.specs.Plants.{entryLimit, offsetLimit, limited, times, row, mostCoefs, coefCount}
 use Rattle.files.specs.Parts.{Holds, Fails}
 
 abbrev pub limitAt : ℕ → ℕ → ℕ
@@ -47,7 +47,7 @@ rows-entries n (suc m) rest =
 
 pub record RowsRead (s : List ℕ) (from n modes : ℕ) (coef : List ℤ) (next : ℕ) : Type 0 where
   pub part : Holds (times (modes * n) (row n)) s from (tab (at coef) (coefCount modes n) 0) next
-  pub filled : Filled 320 (coefCount modes n) coef
+  pub filled : Filled mostCoefs (coefCount modes n) coef
 
 abbrev pub RowsTold : List ℕ → ℕ → ℕ → ℕ → List ℤ → Walk → Type 0
 RowsTold s from n modes coef (Walk.Next next) = RowsRead s from n modes coef next

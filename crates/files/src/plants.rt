@@ -4,6 +4,7 @@ use crate::beginnings::Beginning;
 use crate::buffers;
 use crate::refusals;
 use crate::rows;
+use meaning::COEFFICIENTS;
 use meaning::Plant;
 use meaning::PlantRead;
 use meaning::Refusal;
@@ -16,6 +17,9 @@ ghost use Rattle.laws.specs.Writing.{Put};
 ghost use Rattle.meaning.specs.Plants.{readOf, plantRead, plantLeft};
 ghost use Rattle.files.specs.Beginnings.{relation, Begun};
 ghost use Rattle.files.specs.Plants.{bodyRead, plantWith, plantDraft};
+
+// The writer's draft: ten bytes for each of 350 numbers, right or not, the most that four rooms and sixteen modes have.
+const DRAFT: usize = 3_500;
 
 // A refused plant is all zeros.
 fn refused(e: Refusal) -> PlantRead
@@ -35,13 +39,13 @@ fn refused(e: Refusal) -> PlantRead
             shi: [0i64; 4],
             wlo: [0i64; 4],
             whi: [0i64; 4],
-            coef: [0i64; 320],
+            coef: [0i64; COEFFICIENTS],
         },
     }
 }
 
 // A beginning and the coefficients of the modes, put together.
-fn accepted(b: Beginning, coef: [i64; 320]) -> PlantRead
+fn accepted(b: Beginning, coef: [i64; COEFFICIENTS]) -> PlantRead
     ensures { λ r. ⌜ r ≡ readOf (good (plantWith b coef)) ⌝ }
 {
     let rlo = b.rlo;
@@ -76,7 +80,7 @@ fn read_body(s: &[u8], b: Beginning, related: Verdict, at: usize) -> PlantRead
 {
     let n = b.n;
     let modes = b.m;
-    let mut coef = [0i64; 320];
+    let mut coef = [0i64; COEFFICIENTS];
     let past_rows = rows::read_rows(s, at, n, modes, &mut coef);
     match past_rows {
         Walk::Refused(e) => refused(e),
@@ -149,7 +153,7 @@ pub fn write_plant(p: Plant, buf: &mut [u8]) -> Written
     ensures answer { λ r. ⌜ r ≡ plantLeft p (now (buf .entry)) .answer ⌝ }
     ensures bytes { λ r. ⌜ now (buf .exit) ≡ plantLeft p (now (buf .entry)) .buffer ⌝ }
 {
-    let mut draft = [0u8; 3500];
+    let mut draft = [0u8; DRAFT];
     let drafted = put_plant(p, &mut draft);
     let file = &draft[..drafted];
     let read = read_plant(file);

@@ -2,6 +2,7 @@
 // Leaves out which entry means what: row and column are told by the place alone.
 use crate::fields;
 use crate::numbers;
+use meaning::COEFFICIENTS;
 use meaning::Signed;
 use meaning::Walk;
 ghost use mathlib.Core.Path.{_≡_};
@@ -11,6 +12,7 @@ ghost use lib.IntN.{pos, negℤ};
 ghost use Rattle.laws.specs.Lists;
 ghost use Rattle.laws.specs.Lists.{tab};
 ghost use Rattle.laws.specs.Writing.{Put};
+ghost use Rattle.meaning.specs.Plants.{mostCoefs};
 ghost use Rattle.files.specs.Fields.{rangedAt};
 ghost use Rattle.files.specs.Signed.{signedBytes};
 ghost use Rattle.files.specs.Rows.{limitAt, nextColumn, RowsTold};
@@ -33,8 +35,14 @@ fn next_column(n: usize, column: usize) -> usize
 }
 
 // The coefficients into an array of zeros that is lent, so that no copy of it is handed back; the place behind them.
-pub fn read_rows(s: &[u8], at: usize, n: usize, modes: usize, coef: &mut [i64; 320]) -> Walk
-    requires { ⌜ (n ≤ 4) × (modes ≤ 16) × (now coef ≡ replicate 320 (pos 0)) ⌝ }
+pub fn read_rows(
+    s: &[u8],
+    at: usize,
+    n: usize,
+    modes: usize,
+    coef: &mut [i64; COEFFICIENTS],
+) -> Walk
+    requires { ⌜ (n ≤ 4) × (modes ≤ 16) × (now coef ≡ replicate mostCoefs (pos 0)) ⌝ }
     ensures { λ r. ⌜ RowsTold (now (s .entry)) at n modes (now (coef .exit)) r ⌝ }
 {
     let count = modes * n * (n + 1);
@@ -54,8 +62,8 @@ pub fn read_rows(s: &[u8], at: usize, n: usize, modes: usize, coef: &mut [i64; 3
 }
 
 // The first `count` coefficients from `at` on, as far as there is room; the place behind them.
-pub fn put_rows(buf: &mut [u8], at: usize, coef: [i64; 320], count: usize) -> usize
-    requires { ⌜ count ≤ 320 ⌝ ∗ ⌜ at ≤ length (now buf) + 1 ⌝ }
+pub fn put_rows(buf: &mut [u8], at: usize, coef: [i64; COEFFICIENTS], count: usize) -> usize
+    requires { ⌜ count ≤ mostCoefs ⌝ ∗ ⌜ at ≤ length (now buf) + 1 ⌝ }
     ensures { λ r. ⌜ Put (now (buf .entry)) at (signedBytes (tab (Lists.at coef) count 0)) r (now (buf .exit)) ⌝ }
 {
     let mut p = at;

@@ -93,6 +93,10 @@ plantForm = headed 16 λ n modes. edgesAndBands n (times (modes * n) (row n) end
 abbrev pub column : List ℤ → ℕ → ℕ → ℕ → List ℤ
 column vs first by m = padded 4 (pos 0) (tab (λ i. at vs (first + by * i)) m 0)
 
+-- as many coefficients as there may be: of sixteen modes, four rows of five numbers each
+abbrev pub mostCoefs : ℕ
+mostCoefs = 320
+
 -- how many coefficients there are
 abbrev pub coefCount : ℕ → ℕ → ℕ
 coefCount modes n = modes * n * (n + 1)
@@ -113,7 +117,7 @@ plantOf vs =
       shi = column vs 9 4 n;
       wlo = column vs (6 + 4 * n) 2 n;
       whi = column vs (7 + 4 * n) 2 n;
-      coef = padded 320 (pos 0) (tab (λ i. at vs (6 + 6 * n + i)) (coefCount modes n) 0);
+      coef = padded mostCoefs (pos 0) (tab (λ i. at vs (6 + 6 * n + i)) (coefCount modes n) 0);
     }
 
 -- R and S of each dimension, then w of each dimension

@@ -33,6 +33,9 @@ pub enum Written {
     Refused(Refusal),
 }
 
+// The mode coefficients of the largest plant.
+pub const COEFFICIENTS: usize = 320;
+
 // A plant. Of each array of edges and of the band the first n entries count. The coefficients stand in file order:
 // row i of mode u begins at (u·n + i)·(n + 1) with its n entries of A, and b_i ends it.
 pub struct Plant {
@@ -47,7 +50,7 @@ pub struct Plant {
     pub shi: [i64; 4],
     pub wlo: [i64; 4],
     pub whi: [i64; 4],
-    pub coef: [i64; 320],
+    pub coef: [i64; COEFFICIENTS],
 }
 
 // A plant's reader answers both: a refused one's plant is all zeros.

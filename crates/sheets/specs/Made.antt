@@ -7,7 +7,7 @@ use Rattle.laws.specs.Lists.{tab, all, firstFalse}
 use Rattle.meaning.specs.declared.Plant.{Plant}
 use Rattle.meaning.specs.declared.Sheet.{Sheet}
 use Rattle.meaning.specs.declared.Whole.{Whole}
-use Rattle.meaning.specs.Plants.{entryLimit, offsetLimit, coefCount}
+use Rattle.meaning.specs.Plants.{entryLimit, offsetLimit, mostCoefs, coefCount}
 use Rattle.meaning.specs.Sheets.{wholeOf, coefficient, offset, madeModes, madeNumbers, isNear}
 use Rattle.sheets.specs.declared.made.Entries.{Entries}
 use Rattle.sheets.specs.declared.made.Made.{Made}
@@ -23,7 +23,7 @@ entryAt h p =
     cond (ltb j (h .n)) (wholeOf entryLimit (h .q) (coefficient h i j)) (wholeOf offsetLimit (h .q * h .r) (offset h u i))
 
 abbrev pub entriesOf : Sheet → ℕ → Entries
-entriesOf h count = record { first = firstOut (tab (entryAt h) count 0); coef = held 320 (entryAt h) count }
+entriesOf h count = record { first = firstOut (tab (entryAt h) count 0); coef = held mostCoefs (entryAt h) count }
 
 -- the plant that is made, as the code holds it: 0 where a number is out, and the sheet's own arrays of edges
 abbrev pub heldPlant : Sheet → Plant
@@ -39,7 +39,7 @@ heldPlant h = record {
   shi = h .shi;
   wlo = held 4 (lowEnd h) (h .n);
   whi = held 4 (highEnd h) (h .n);
-  coef = held 320 (entryAt h) (coefCount (madeModes h) (h .n));
+  coef = held mostCoefs (entryAt h) (coefCount (madeModes h) (h .n));
 }
 
 abbrev pub madeOf : Sheet → Made

@@ -114,6 +114,10 @@ TakenSized r = SizedAs (r .sheet) (r .verdict)
 
 -- ---- drafted: the two floats and the rooms behind the beginning
 
+-- the bytes of the draft's array
+abbrev pub sheetRoom : ℕ
+sheetRoom = 512
+
 abbrev pub restBytes : Sheet → List ℕ
 restBytes h = floatBytes (h .time) ++ (floatBytes (h .outside) ++ tabs (bytesOfRoom (h .n) (h .rooms)) (h .n) 0)
 

@@ -3,12 +3,14 @@
 use crate::bands;
 use crate::equations;
 use crate::wholes;
+use meaning::COEFFICIENTS;
 use meaning::Plant;
 use meaning::Sheet;
 use meaning::Whole;
 ghost use mathlib.Core.Path.{_≡_};
 ghost use Prim.Native.Nat.{_≤_};
 ghost use Rattle.meaning.specs.Sheets.{madeModes};
+ghost use Rattle.meaning.specs.Plants.{mostCoefs};
 ghost use Rattle.sheets.specs.Sizes.{Sized};
 ghost use Rattle.sheets.specs.Made.{entryAt, entriesOf, madeOf};
 
@@ -34,14 +36,14 @@ fn entry(h: Sheet, p: usize) -> Whole
 // where one is out.
 struct Entries {
     first: usize,
-    coef: [i64; 320],
+    coef: [i64; COEFFICIENTS],
 }
 
 fn coefficients(h: Sheet, count: usize) -> Entries
-    requires { ⌜ Sized h ⌝ ∗ ⌜ count ≤ 320 ⌝ }
+    requires { ⌜ Sized h ⌝ ∗ ⌜ count ≤ mostCoefs ⌝ }
     ensures { λ r. ⌜ r ≡ entriesOf h count ⌝ }
 {
-    let mut coef = [0i64; 320];
+    let mut coef = [0i64; COEFFICIENTS];
     let mut first: usize = 0;
     let mut p: usize = 0;
     while p < count {

@@ -25,6 +25,9 @@ ghost use Rattle.files.specs.Beginnings.{relation, Begun};
 ghost use Rattle.sheets.specs.Sheets.{unfitted, thenFitting, bodyRead, sheetWith, TakenSized, sheetDraft};
 ghost use Rattle.sheets.specs.Sizes.{Sized};
 
+// The writer's draft: more than the 503 bytes that any values of a sheet take, right or not.
+const DRAFT: usize = 512;
+
 // A refused sheet is all zeros.
 fn refused(e: Refusal) -> SheetRead
     ensures { λ r. ⌜ r ≡ sheetReadOf (bad e) ⌝ }
@@ -204,7 +207,7 @@ pub fn write_sheet(h: Sheet, buf: &mut [u8]) -> Written
     ensures answer { λ r. ⌜ r ≡ sheetLeft h (now (buf .entry)) .answer ⌝ }
     ensures bytes { λ r. ⌜ now (buf .exit) ≡ sheetLeft h (now (buf .entry)) .buffer ⌝ }
 {
-    let mut draft = [0u8; 512];
+    let mut draft = [0u8; DRAFT];
     let drafted = put_sheet(h, &mut draft);
     let file = &draft[..drafted];
     let read = read_sheet(file);

@@ -7,7 +7,7 @@ use lib.IntN.{ℤ, natAbs}
 use Rattle.laws.specs.Lists.{at, tab}
 use Rattle.meaning.specs.Boxes.{Side, sidesOf}
 use Rattle.meaning.specs.Images.{Row, Step, leastOf, greatestOf, extreme}
-use Rattle.meaning.specs.Plants.{bandLimit, entryLimit, offsetLimit, rowStart}
+use Rattle.meaning.specs.Plants.{bandLimit, entryLimit, offsetLimit, rowStart, mostCoefs}
 use Rattle.tables.specs.Boxes.{Small}
 
 -- an entry of A times an edge of S; four of them; and with an offset and an edge of the band
@@ -44,7 +44,7 @@ stepFrom n q wlo whi coef u = record { rows = tab (rowFrom n wlo whi coef u) n 0
 pub record RowSound (n : ℕ) (coef : List ℤ) (start : ℕ) : Type 0 where
   pub some : 1 ≤ n
   pub rooms : n ≤ 4
-  pub inside : start + n < 320
+  pub inside : start + n < mostCoefs
   pub entries : (j : ℕ) → j < n → natAbs (at coef (start + j)) ≤ entryLimit
   pub offset : natAbs (at coef (start + n)) ≤ offsetLimit
 

@@ -7,6 +7,7 @@ use crate::headers;
 use crate::refusals;
 use crate::walks;
 use files::plants;
+use meaning::COEFFICIENTS;
 use meaning::Verdict;
 use meaning::Walk;
 ghost use mathlib.Core.Path.{_≡_};
@@ -15,7 +16,7 @@ ghost use Rattle.meaning.specs.Verdicts.{tableEnd, verdict};
 ghost use Rattle.tables.specs.Frames.{rulesIn, FrameSound};
 
 // The place behind a table, its header and its tree, against a frame. What may stand there is not asked.
-pub(crate) fn table_end(f: Frame, coef: &[i64; 320], table: &[u8]) -> Walk
+pub(crate) fn table_end(f: Frame, coef: &[i64; COEFFICIENTS], table: &[u8]) -> Walk
     requires { ⌜ FrameSound f (now coef) ⌝ }
     ensures { λ r. ⌜ r ≡ tableEnd (rulesIn f (now (coef .entry))) (now (table .entry)) ⌝ }
 {
@@ -39,7 +40,7 @@ pub(crate) fn table_end(f: Frame, coef: &[i64; 320], table: &[u8]) -> Walk
 }
 
 // A table against a frame: it has to end where its bytes do.
-fn judge(f: Frame, coef: &[i64; 320], table: &[u8]) -> Verdict
+fn judge(f: Frame, coef: &[i64; COEFFICIENTS], table: &[u8]) -> Verdict
     requires { ⌜ FrameSound f (now coef) ⌝ }
     ensures { λ r. ⌜ r ≡ verdict (rulesIn f (now (coef .entry))) (now (table .entry)) ⌝ }
 {

@@ -12,6 +12,7 @@ use crate::refusals;
 use crate::states;
 use files::plants;
 use meaning::Answer;
+use meaning::COEFFICIENTS;
 use meaning::Found;
 use meaning::State;
 use meaning::Verdict;
@@ -45,7 +46,7 @@ fn admit(can: bool, n: usize, b: Bx, x: [i64; 4]) -> Verdict
 // Idle: the reading must be in R; its tile is found, its first mode answered.
 fn idle_call(
     f: Frame,
-    coef: &[i64; 320],
+    coef: &[i64; COEFFICIENTS],
     table: &[u8],
     at: usize,
     place: usize,
@@ -78,7 +79,7 @@ fn idle_call(
 // Running: the reading must be in S; the mode at the place is answered.
 fn running_call(
     f: Frame,
-    coef: &[i64; 320],
+    coef: &[i64; COEFFICIENTS],
     table: &[u8],
     place: usize,
     left: usize,
@@ -95,7 +96,7 @@ fn running_call(
 }
 
 // A call on a plant that was read.
-pub(crate) fn call(f: Frame, coef: &[i64; 320], table: &[u8], st: State, x: [i64; 4]) -> Answer
+pub(crate) fn call(f: Frame, coef: &[i64; COEFFICIENTS], table: &[u8], st: State, x: [i64; 4]) -> Answer
     requires { ⌜ FrameSound f (now coef) ⌝ }
     ensures { λ r. ⌜ r ≡ call (rulesIn f (now (coef .entry))) (now (table .entry)) st x ⌝ }
 {

@@ -9,6 +9,7 @@ use crate::levels::ROOM;
 use crate::limits;
 use crate::search;
 use files::numbers;
+use meaning::COEFFICIENTS;
 ghost use Prim.Native.Nat.{_≤_};
 ghost use Rattle.laws.specs.Writing.{Put};
 ghost use Rattle.meaning.specs.Plants.{edgeLimit};
@@ -48,7 +49,7 @@ fn put_tile(buf: &mut [u8], at: usize, k: usize, us: &[usize; LONGEST]) -> usize
 // The defined tree of box b with depth d left: a tile of the first pattern, or where there is none a split and the trees of the children.
 fn tree(
     f: Frame,
-    coef: &[i64; 320],
+    coef: &[i64; COEFFICIENTS],
     limits: &[i64; ROOM],
     d: usize,
     b: Bx,
@@ -86,7 +87,7 @@ fn tree(
 }
 
 // The table of a frame: header, then the tree of the box that is tiled. The limits are made once, and lent from then on.
-pub fn table(f: Frame, coef: &[i64; 320], buf: &mut [u8]) -> Grown
+pub fn table(f: Frame, coef: &[i64; COEFFICIENTS], buf: &mut [u8]) -> Grown
     requires { ⌜ FrameSound f (now coef) ⌝ }
     ensures { λ r. ⌜ Wrote (definedBytes (rulesIn f (now (coef .entry)))) (now (buf .entry)) 0 r (now (buf .exit)) ⌝ }
 {

@@ -8,6 +8,7 @@ use crate::modes;
 use crate::refusals;
 use crate::walks;
 use files::numbers;
+use meaning::COEFFICIENTS;
 use meaning::Found;
 use meaning::Number;
 use meaning::Walk;
@@ -36,7 +37,7 @@ fn tile(modes: usize, k: usize, table: &[u8], from: usize) -> Found
 pub fn find(
     f: Counts,
     edges: &[[i64; 4]; 8],
-    coef: &[i64; 320],
+    coef: &[i64; COEFFICIENTS],
     table: &[u8],
     d: usize,
     at: usize,

@@ -3,13 +3,14 @@
 // Every sum fits 64 bits: 4 entries of A within 20,000 times edges within 1,000,000, an offset and a band.
 use crate::boxes::Bx;
 use crate::division;
+use meaning::COEFFICIENTS;
 ghost use mathlib.Core.Path.{_≡_};
 ghost use Prim.Native.Nat.{_+_, _≤_, _<_};
 ghost use lib.IntN.{natAbs, _+ℤ_};
 ghost use Rattle.laws.specs.Lists.{at};
 ghost use Rattle.meaning.specs.Boxes.{side, sideAt, sidesOf};
 ghost use Rattle.meaning.specs.Images.{leastOf, greatestOf, imageSide, image};
-ghost use Rattle.meaning.specs.Plants.{edgeLimit, bandLimit, entryLimit, rowStart};
+ghost use Rattle.meaning.specs.Plants.{edgeLimit, bandLimit, entryLimit, rowStart, mostCoefs};
 ghost use Rattle.tables.specs.Boxes.{boxOf, Small};
 ghost use Rattle.promises.specs.files.Sound.{Bounded};
 ghost use Rattle.tables.specs.Images.{rowLimit, entriesOf, rowAt, stepFrom, RowSound, StepSound, Extremes};
@@ -41,8 +42,15 @@ pub fn term(a: i64, l: i64, h: i64) -> Span
 }
 
 // One more term of a row: s and entry j, taken over side j.
-fn more(coef: &[i64; 320], start: usize, j: usize, lo: &[i64; 4], hi: &[i64; 4], s: Span) -> Span
-    requires place { ⌜ (j < 4) × (start + j < 320) ⌝ }
+fn more(
+    coef: &[i64; COEFFICIENTS],
+    start: usize,
+    j: usize,
+    lo: &[i64; 4],
+    hi: &[i64; 4],
+    s: Span,
+) -> Span
+    requires place { ⌜ (j < 4) × (start + j < mostCoefs) ⌝ }
     requires entry { ⌜ (natAbs (at (now coef) (start + j)) ≤ entryLimit) × Bounded edgeLimit (sideAt (now lo) (now hi) j) ⌝ }
     requires sums { ⌜ (natAbs (s .lo) ≤ rowLimit) × (natAbs (s .hi) ≤ rowLimit) ⌝ }
     ensures least { λ r. ⌜ r .lo ≡ s .lo +ℤ leastOf (at (now (coef .entry)) (start + j)) (sideAt (now (lo .entry)) (now (hi .entry)) j) ⌝ }
@@ -62,7 +70,13 @@ fn more(coef: &[i64; 320], start: usize, j: usize, lo: &[i64; 4], hi: &[i64; 4],
 
 // The least and the greatest of A·x over a box, A being the row that starts at `start`. Written out room by room: a loop of at most four rounds
 // costs more than its terms.
-pub fn extremes(n: usize, coef: &[i64; 320], start: usize, lo: &[i64; 4], hi: &[i64; 4]) -> Span
+pub fn extremes(
+    n: usize,
+    coef: &[i64; COEFFICIENTS],
+    start: usize,
+    lo: &[i64; 4],
+    hi: &[i64; 4],
+) -> Span
     requires { ⌜ RowSound n (now coef) start × Small edgeLimit (sidesOf n (now lo) (now hi)) ⌝ }
     ensures { λ r. ⌜ Extremes (entriesOf n (now (coef .entry)) start) (sidesOf n (now (lo .entry)) (now (hi .entry))) (r .lo) (r .hi) ⌝ }
 {
@@ -84,7 +98,7 @@ pub fn extremes(n: usize, coef: &[i64; 320], start: usize, lo: &[i64; 4], hi: &[
 
 // Where row i of mode u starts.
 pub fn row(n: usize, u: usize, i: usize) -> usize
-    requires { ⌜ rowStart n u i + n < 320 ⌝ }
+    requires { ⌜ rowStart n u i + n < mostCoefs ⌝ }
     ensures { λ r. ⌜ r ≡ rowStart n u i ⌝ }
 {
     (u * n + i) * (n + 1)
@@ -94,7 +108,7 @@ pub fn row(n: usize, u: usize, i: usize) -> usize
 fn image_side(
     n: usize,
     q: usize,
-    coef: &[i64; 320],
+    coef: &[i64; COEFFICIENTS],
     start: usize,
     wl: i64,
     wh: i64,
@@ -118,7 +132,7 @@ pub fn image(
     q: usize,
     wlo: &[i64; 4],
     whi: &[i64; 4],
-    coef: &[i64; 320],
+    coef: &[i64; COEFFICIENTS],
     u: usize,
     lo: &[i64; 4],
     hi: &[i64; 4],

@@ -4,6 +4,7 @@
 use crate::boxes::Bx;
 use crate::images;
 use crate::images::Span;
+use meaning::COEFFICIENTS;
 ghost use mathlib.Core.Path.{_≡_};
 ghost use Prim.Native.Nat.{_+_, _≤_, _<_};
 ghost use lib.ListN.{length};
@@ -11,7 +12,7 @@ ghost use lib.IntN.{natAbs, _+ℤ_};
 ghost use Rattle.laws.specs.Lists.{at};
 ghost use Rattle.meaning.specs.Boxes.{side};
 ghost use Rattle.meaning.specs.Images.{leastOf, greatestOf};
-ghost use Rattle.meaning.specs.Plants.{edgeLimit, entryLimit};
+ghost use Rattle.meaning.specs.Plants.{edgeLimit, entryLimit, mostCoefs};
 ghost use Rattle.tables.specs.Boxes.{boxOf, Small};
 ghost use Rattle.promises.specs.files.Sound.{Bounded};
 ghost use Rattle.tables.specs.Images.{rowLimit, entriesOf, RowSound, Extremes};
@@ -49,14 +50,14 @@ pub fn begin(n: usize, b: Bx, boxes: &mut [i64; ROOM])
 
 // One more term of a row: s and entry j, taken over side j of the box at `place`.
 fn more(
-    coef: &[i64; 320],
+    coef: &[i64; COEFFICIENTS],
     start: usize,
     j: usize,
     boxes: &[i64; ROOM],
     place: usize,
     s: Span,
 ) -> Span
-    requires place { ⌜ (j < 4) × (start + j < 320) × (place + wide ≤ room) ⌝ }
+    requires place { ⌜ (j < 4) × (start + j < mostCoefs) × (place + wide ≤ room) ⌝ }
     requires entry { ⌜ (natAbs (at (now coef) (start + j)) ≤ entryLimit) × Bounded edgeLimit (sideIn (now boxes) place j) ⌝ }
     requires sums { ⌜ (natAbs (s .lo) ≤ rowLimit) × (natAbs (s .hi) ≤ rowLimit) ⌝ }
     ensures least { λ r. ⌜ r .lo ≡ s .lo +ℤ leastOf (at (now (coef .entry)) (start + j)) (sideIn (now (boxes .entry)) place j) ⌝ }
@@ -77,7 +78,7 @@ fn more(
 // The least and the greatest of A·x over the box at `place`, A being the row that starts at `start`: as images has it of a box by itself.
 pub fn extremes(
     n: usize,
-    coef: &[i64; 320],
+    coef: &[i64; COEFFICIENTS],
     start: usize,
     boxes: &[i64; ROOM],
     place: usize,

@@ -7,6 +7,7 @@ use crate::images;
 use crate::images::Span;
 use crate::levels;
 use crate::levels::ROOM;
+use meaning::COEFFICIENTS;
 ghost use mathlib.Core.Path.{_≡_};
 ghost use mathlib.Core.Bool.{true};
 ghost use Prim.Native.Nat.{_-_, _≤_, _<_};
@@ -76,7 +77,7 @@ fn lay_boxes(f: Frame) -> Limits
 }
 
 // Whether two rows have the same entries.
-fn same_row(n: usize, coef: &[i64; 320], a: usize, b: usize) -> bool
+fn same_row(n: usize, coef: &[i64; COEFFICIENTS], a: usize, b: usize) -> bool
     requires { ⌜ RowSound n (now coef) a × RowSound n (now coef) b ⌝ }
     ensures { λ r. ⌜ (r ≡ true → entriesOf n (now (coef .entry)) a ≡ entriesOf n (now (coef .entry)) b) ⌝ }
 {
@@ -94,7 +95,7 @@ fn same_row(n: usize, coef: &[i64; 320], a: usize, b: usize) -> bool
 }
 
 // The mark of mode u: 1 where its last row has the entries of that of the mode before it, else 0.
-fn mark(n: usize, coef: &[i64; 320], u: usize) -> i64
+fn mark(n: usize, coef: &[i64; COEFFICIENTS], u: usize) -> i64
     requires { ⌜ (1 ≤ n) × (u < mostModes) × RowsSound n (now coef) u × (1 ≤ u → RowsSound n (now coef) (u - 1)) ⌝ }
     ensures { λ r. ⌜ ((r ≡ pos 0 → ⊥) → (1 ≤ u) × (lastEntries n (now (coef .entry)) (u - 1) ≡ lastEntries n (now (coef .entry)) u)) ⌝ }
 {
@@ -110,7 +111,7 @@ fn mark(n: usize, coef: &[i64; 320], u: usize) -> i64
 }
 
 // The boxes, and behind them the marks.
-pub fn lay(f: Frame, coef: &[i64; 320]) -> Limits
+pub fn lay(f: Frame, coef: &[i64; COEFFICIENTS]) -> Limits
     requires { ⌜ FrameSound f (now coef) ⌝ }
     ensures { λ r. ⌜ LimitsLaid f (now (coef .entry)) (r .of) ⌝ }
 {

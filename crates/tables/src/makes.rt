@@ -11,6 +11,7 @@ use crate::frames::Frame;
 use crate::refusals;
 use files::buffers;
 use files::plants;
+use meaning::COEFFICIENTS;
 use meaning::Verdict;
 use meaning::Written;
 ghost use mathlib.Core.Path.{_≡_};
@@ -22,7 +23,7 @@ ghost use Rattle.tables.specs.Frames.{rulesIn, FrameSound};
 ghost use Rattle.tables.specs.Makes.{definedLeft};
 
 // The table of a frame, drafted where there is room for it, and written: 9, 10. Finished, only the table's bytes are changed; refused, the buffer is all zeros.
-fn write_table(f: Frame, coef: &[i64; 320], draft: &mut [u8], buf: &mut [u8]) -> Written
+fn write_table(f: Frame, coef: &[i64; COEFFICIENTS], draft: &mut [u8], buf: &mut [u8]) -> Written
     requires frame { ⌜ FrameSound f (now coef) ⌝ }
     requires room { ⌜ 2 + most (2 ^ f .n) 7 (f .d) ≤ length (now draft) ⌝ }
     ensures answer { λ r. ⌜ r ≡ definedLeft (rulesIn f (now (coef .entry))) (now (buf .entry)) .answer ⌝ }

@@ -9,6 +9,7 @@ use crate::levels::LONGEST;
 use crate::levels::ROOM;
 use crate::levels::WIDE;
 use crate::steps;
+use meaning::COEFFICIENTS;
 ghost use mathlib.Core.Path.{_≡_};
 ghost use mathlib.Core.Bool.{true};
 ghost use Prim.Native.Nat.{suc, _+_, _≤_, _<_};
@@ -25,7 +26,7 @@ fn descend(
     n: usize,
     count: usize,
     q: usize,
-    coef: &[i64; 320],
+    coef: &[i64; COEFFICIENTS],
     limits: &[i64; ROOM],
     l: usize,
     u: usize,
@@ -58,7 +59,7 @@ pub fn first(
     count: usize,
     q: usize,
     k: usize,
-    coef: &[i64; 320],
+    coef: &[i64; COEFFICIENTS],
     limits: &[i64; ROOM],
     b: Bx,
     us: &mut [usize; LONGEST],

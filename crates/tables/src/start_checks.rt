@@ -9,6 +9,7 @@ use crate::parts;
 use crate::parts::Part;
 use crate::refusals;
 use files::plants;
+use meaning::COEFFICIENTS;
 use meaning::Verdict;
 use meaning::Walk;
 ghost use mathlib.Core.Path.{_≡_};
@@ -19,7 +20,7 @@ ghost use Rattle.tables.specs.Frames.{rulesIn, FrameSound};
 ghost use Rattle.tables.specs.StartChecks.{rulesAt, tableAt};
 
 // The place behind the table whose length stands at `at`. What is told of the table is told at its place in the file.
-fn table_at(f: Frame, coef: &[i64; 320], start: &[u8], at: usize) -> Walk
+fn table_at(f: Frame, coef: &[i64; COEFFICIENTS], start: &[u8], at: usize) -> Walk
     requires { ⌜ FrameSound f (now coef) ⌝ }
     ensures { λ r. ⌜ r ≡ tableAt (rulesIn f (now (coef .entry))) (now (start .entry)) at ⌝ }
 {
@@ -45,7 +46,7 @@ fn table_at(f: Frame, coef: &[i64; 320], start: &[u8], at: usize) -> Walk
 fn tables_at(
     f: Frame,
     edges: &[i64; 64],
-    coef: &[i64; 320],
+    coef: &[i64; COEFFICIENTS],
     start: &[u8],
     m: usize,
     at: usize,

@@ -13,6 +13,7 @@ use crate::parts;
 use crate::parts::Part;
 use crate::refusals;
 use files::plants;
+use meaning::COEFFICIENTS;
 use meaning::Answer;
 use meaning::Refusal;
 use meaning::StartAnswer;
@@ -114,7 +115,7 @@ fn state_in(i: usize, st: State) -> StartState
 // The call on table i, the first length being at `at`. What is told of the table is told at its place in the file.
 fn call_behind(
     f: Frame,
-    coef: &[i64; 320],
+    coef: &[i64; COEFFICIENTS],
     start: &[u8],
     at: usize,
     i: usize,
@@ -140,7 +141,7 @@ fn call_behind(
 fn start_call(
     f: Frame,
     edges: &[i64; 64],
-    coef: &[i64; 320],
+    coef: &[i64; COEFFICIENTS],
     start: &[u8],
     m: usize,
     at: usize,

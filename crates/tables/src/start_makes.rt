@@ -14,6 +14,7 @@ use crate::refusals;
 use files::buffers;
 use files::numbers;
 use files::plants;
+use meaning::COEFFICIENTS;
 use meaning::Verdict;
 use meaning::Walk;
 use meaning::Written;
@@ -32,7 +33,7 @@ ghost use Rattle.tables.specs.Frames.{rulesIn, FrameSound};
 ghost use Rattle.tables.specs.StartMakes.{partBytes, WroteParts, framesTables, FramesSound, behindChain, chainLeft};
 
 // A frame's table behind its length: drafted where there is room for it, then copied.
-fn put_part(f: Frame, coef: &[i64; 320], draft: &mut [u8], buf: &mut [u8], at: usize) -> Grown
+fn put_part(f: Frame, coef: &[i64; COEFFICIENTS], draft: &mut [u8], buf: &mut [u8], at: usize) -> Grown
     requires frame { ⌜ FrameSound f (now coef) ⌝ }
     requires room { ⌜ 2 + most (2 ^ f .n) 7 (f .d) ≤ length (now draft) ⌝ }
     ensures { λ r. ⌜ Wrote (partBytes (rulesIn f (now (coef .entry)))) (now (buf .entry)) at r (now (buf .exit)) ⌝ }
@@ -47,7 +48,7 @@ fn put_part(f: Frame, coef: &[i64; 320], draft: &mut [u8], buf: &mut [u8], at: u
 // The tables of R0..Rm, one draft for all; or 9 with the first index that has none.
 fn put_parts(
     f: Frame,
-    coef: &[i64; 320],
+    coef: &[i64; COEFFICIENTS],
     edges: &[i64; EDGES],
     m: usize,
     draft: &mut [u8],
@@ -76,7 +77,7 @@ fn put_parts(
 // The chain's bytes, then the tables: 9, 10. Finished, only the file's bytes are changed; refused, the buffer is all zeros.
 fn write_start(
     f: Frame,
-    coef: &[i64; 320],
+    coef: &[i64; COEFFICIENTS],
     edges: &[i64; EDGES],
     m: usize,
     chain: &[u8],
@@ -102,7 +103,7 @@ fn write_start(
 }
 
 // For a frame: chain, 15, 9, 10.
-fn make_start(f: Frame, coef: &[i64; 320], chain: &[u8], buf: &mut [u8]) -> Written
+fn make_start(f: Frame, coef: &[i64; COEFFICIENTS], chain: &[u8], buf: &mut [u8]) -> Written
     requires frame { ⌜ FrameSound f (now coef) ⌝ }
     requires root { ⌜ within (boxOf (f .n) (f .root)) (boxOf (f .n) (f .safe)) ≡ true ⌝ }
     ensures answer { λ r. ⌜ r ≡ chainLeft f (now (coef .entry)) (now (chain .entry)) (now (buf .entry)) .answer ⌝ }

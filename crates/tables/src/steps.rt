@@ -1,4 +1,4 @@
-// One mode on a box, as the search needs it: whether the image lies in R, the first mode whose image does, and the image where it lies in S.
+// One mode on a box, as the search needs it: whether the image lies in the goal, the first mode whose image does, and the image where it lies in S.
 // Relies on levels for the boxes and the extremes of a row, on limits for where the sums have to lie. Leaves out which modes are tried in which
 // order (search).
 // Neither test divides. Everything is lent, so that a call copies only small numbers.
@@ -13,6 +13,7 @@ use crate::limits::BAND;
 use crate::limits::GOAL;
 use crate::limits::MARKS;
 use crate::limits::SAFE;
+use meaning::COEFFICIENTS;
 ghost use mathlib.Core.Path.{_≡_};
 ghost use mathlib.Core.Bool.{true, false};
 ghost use Prim.Native.Nat.{ℕ, _+_, _-_, _≤_, _<_};
@@ -29,7 +30,13 @@ ghost use Rattle.tables.specs.Limits.{addLimit, bandAt, marksAt, mostMod
 ghost use Rattle.tables.specs.Search.{oneOf};
 
 // The least and the greatest of A·x + b over the box at `place`, by the row that starts at `start`.
-fn sums(n: usize, coef: &[i64; 320], start: usize, boxes: &[i64; ROOM], place: usize) -> Span
+fn sums(
+    n: usize,
+    coef: &[i64; COEFFICIENTS],
+    start: usize,
+    boxes: &[i64; ROOM],
+    place: usize,
+) -> Span
     requires { ⌜ RowSound n (now coef) start × (place + wide ≤ room) × Small edgeLimit (boxIn n (now boxes) place) ⌝ }
     ensures sides { λ r. ⌜ side (r .lo) (r .hi) ≡ sumSide n (now (coef .entry)) start (boxIn n (now (boxes .entry)) place) ⌝ }
     ensures sizes { λ r. ⌜ (natAbs (r .lo) ≤ addLimit) × (natAbs (r .hi) ≤ addLimit) ⌝ }
@@ -58,7 +65,7 @@ fn inside(limits: &[i64; ROOM], base: usize, i: usize, least: i64, greatest: i64
 // say nothing.
 fn stays(
     n: usize,
-    coef: &[i64; 320],
+    coef: &[i64; COEFFICIENTS],
     limits: &[i64; ROOM],
     base: usize,
     u: usize,
@@ -122,7 +129,7 @@ fn divide(
 pub fn step(
     n: usize,
     q: usize,
-    coef: &[i64; 320],
+    coef: &[i64; COEFFICIENTS],
     limits: &[i64; ROOM],
     u: usize,
     boxes: &mut [i64; ROOM],
@@ -147,7 +154,7 @@ pub fn step(
 // The extremes of the last row under mode u: e where the mode is marked, which then are those of the mode before.
 fn shared(
     n: usize,
-    coef: &[i64; 320],
+    coef: &[i64; COEFFICIENTS],
     limits: &[i64; ROOM],
     u: usize,
     e: Span,
@@ -166,10 +173,10 @@ fn shared(
     e
 }
 
-// Whether the image under mode u lies in R. The last row is tried first, by its extremes e; most modes fail there, and need no other sum.
+// Whether the image under mode u lies in the goal. The last row is tried first, by its extremes e; most modes fail there, and need no other sum.
 fn lands(
     n: usize,
-    coef: &[i64; 320],
+    coef: &[i64; COEFFICIENTS],
     limits: &[i64; ROOM],
     u: usize,
     e: Span,
@@ -190,11 +197,11 @@ fn lands(
     false
 }
 
-// The first mode under which the image of the box at `place` lies in R; `count` where there is none.
+// The first mode under which the image of the box at `place` lies in the goal; `count` where there is none.
 pub fn last(
     n: usize,
     count: usize,
-    coef: &[i64; 320],
+    coef: &[i64; COEFFICIENTS],
     limits: &[i64; ROOM],
     boxes: &[i64; ROOM],
     place: usize,

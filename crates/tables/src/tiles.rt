@@ -5,6 +5,7 @@ use crate::boxes;
 use crate::boxes::Bx;
 use crate::frames::Counts;
 use crate::images;
+use meaning::COEFFICIENTS;
 use meaning::Tried;
 ghost use mathlib.Core.Path.{_≡_};
 ghost use Rattle.meaning.specs.Plants.{edgeLimit};
@@ -17,7 +18,7 @@ ghost use Rattle.tables.specs.Tiles.{patternOf, Pattern};
 pub fn tile_rule(
     f: Counts,
     edges: &[[i64; 4]; 8],
-    coef: &[i64; 320],
+    coef: &[i64; COEFFICIENTS],
     k: usize,
     us: [usize; 6],
     b: Bx,

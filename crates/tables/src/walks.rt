@@ -9,6 +9,7 @@ use crate::modes;
 use crate::refusals;
 use crate::tiles;
 use files::numbers;
+use meaning::COEFFICIENTS;
 use meaning::Number;
 use meaning::Tried;
 use meaning::Walk;
@@ -24,7 +25,7 @@ ghost use Rattle.tables.specs.Walks.{judgeBy, walkBy};
 fn tile(
     f: Counts,
     edges: &[[i64; 4]; 8],
-    coef: &[i64; 320],
+    coef: &[i64; COEFFICIENTS],
     judged: bool,
     table: &[u8],
     at: usize,
@@ -59,7 +60,7 @@ fn tile(
 pub fn walk(
     f: Counts,
     edges: &[[i64; 4]; 8],
-    coef: &[i64; 320],
+    coef: &[i64; COEFFICIENTS],
     judged: bool,
     table: &[u8],
     d: usize,

@@ -21,7 +21,7 @@ use Rattle.files.specs.Rows.{entriesFrom, nextColumn, rows-entries}
 use Rattle.files.specs.Beginnings.{headNumbers, headOf, edgesIn, bandsIn, beginningNumbers, verdictOf, byVerdict}
 use Rattle.files.specs.BeginningFiles.{signed-long}
 use Rattle.files.specs.DraftLaws.{draft-long, draft-left, InDraft, in-array}
-use Rattle.files.specs.Plants.{rowsForm, plantBeginning, coefNumbers, plantDraft}
+use Rattle.files.specs.Plants.{rowsForm, plantBeginning, coefNumbers, plantRoom, plantDraft}
 use Rattle.files.proofs.rows.Laws.{few-numbers}
 
 -- ---- the file of a plant's values
@@ -48,9 +48,9 @@ module _ (p : Plant) where
 
   -- ---- the draft in its array
 
-  pub in-draft : (r : ℕ) (out : List ℕ) → Put (replicate 3500 0) 0 (plantDraft p) r out → InDraft (plantDraft p) r out
+  pub in-draft : (r : ℕ) (out : List ℕ) → Put (replicate plantRoom 0) 0 (plantDraft p) r out → InDraft (plantDraft p) r out
   unfolding plantDraft
-  in-draft r out t = in-array 3500 (plantDraft p) r out (draft-long 16 (omega arith) (plantBeginning p) (signedBytes (coefNumbers p)) 3200 rows-long) t
+  in-draft r out t = in-array plantRoom (plantDraft p) r out (draft-long 16 (omega arith) (plantBeginning p) (signedBytes (coefNumbers p)) 3200 rows-long) t
     where
       rows-long : p .n ≤ 4 → p .modes ≤ 16 → length (signedBytes (coefNumbers p)) ≤ 3200
       rows-long h l =

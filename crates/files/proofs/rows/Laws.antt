@@ -12,7 +12,7 @@ use Rattle.laws.specs.Lists.{at, tab}
 use Rattle.laws.specs.Tabs.{Filled, filled-none, filled-more, tab-stored, tab-step, tab-done}
 use Rattle.meaning.specs.declared.Signed.{Signed}
 use Rattle.meaning.specs.Files.{Form, refused, valuesAt}
-use Rattle.meaning.specs.Plants.{limited, times, row, coefCount}
+use Rattle.meaning.specs.Plants.{limited, times, row, mostCoefs, coefCount}
 use Rattle.meaning.specs.Numbers.{bytesOf, stored}
 use Rattle.files.specs.Signed.{signedBytes}
 use Rattle.files.specs.Fields.{rangedAt, faultAt}
@@ -20,7 +20,7 @@ use Rattle.files.specs.FieldLaws.{ranged-was, ranged-fault}
 use Rattle.files.specs.Parts.{behind, behind-append, behind-refused, Fails}
 use Rattle.files.specs.Rows.{limitAt, nextColumn, entriesFrom, rows-entries, RowsRead}
 
-pub few-numbers : (modes n : ℕ) → n ≤ 4 → modes ≤ 16 → (modes * n ≤ 64) × (coefCount modes n ≤ 320)
+pub few-numbers : (modes n : ℕ) → n ≤ 4 → modes ≤ 16 → (modes * n ≤ 64) × (coefCount modes n ≤ mostCoefs)
 few-numbers modes n h l =
     let a : modes * n ≤ 16 * 4 = mul-le-mul l h in
     let d : n + 1 ≤ 5 = omega arith in
@@ -30,15 +30,15 @@ few-numbers modes n h l =
 pub record EntriesUpTo (s : List ℕ) (from n count c column p : ℕ) (coef : List ℤ) : Type 0 where
   pub few : c ≤ count
   pub within : column ≤ n
-  pub filled : Filled 320 c coef
+  pub filled : Filled mostCoefs c coef
   pub done : (rest : Form) → valuesAt (entriesFrom n 0 count rest) s from ≡ behind (tab (at coef) c 0) (valuesAt (entriesFrom n column (count - c) rest) s p)
 
-pub entries-none : (s : List ℕ) (from n count : ℕ) → EntriesUpTo s from n count 0 0 from (replicate 320 (pos 0))
+pub entries-none : (s : List ℕ) (from n count : ℕ) → EntriesUpTo s from n count 0 0 from (replicate mostCoefs (pos 0))
 unfolding behind tab
 entries-none s from n count = record {
   few = omega arith;
   within = omega arith;
-  filled = filled-none 320;
+  filled = filled-none mostCoefs;
   done = λ rest. let q : count - 0 ≡ count = omega arith in rw q refl;
 }
 
@@ -54,7 +54,7 @@ module _ {s : List ℕ} {from n count c column p : ℕ} {coef : List ℤ} (w : E
   unfolding entriesFrom
   one-more h rest = let q : count - c ≡ suc (count - (c + 1)) = omega arith in rw q refl
 
-  pub entries-more : (v : ℤ) (next : ℕ) → c < count → count ≤ 320 → rangedAt s p (negℤ (pos (limitAt n column))) (pos (limitAt n column)) ≡ Signed.Value v next
+  pub entries-more : (v : ℤ) (next : ℕ) → c < count → count ≤ mostCoefs → rangedAt s p (negℤ (pos (limitAt n column))) (pos (limitAt n column)) ≡ Signed.Value v next
       → EntriesUpTo s from n count (c + 1) (nextColumn n column) next (set coef c v)
   unfolding behind
   entries-more v next h l e = record {

@@ -15,7 +15,7 @@ use Rattle.meaning.specs.declared.Plant.{Plant}
 use Rattle.meaning.specs.Boxes.{within}
 use Rattle.meaning.specs.Files.{Form, end, valuesOf, good}
 use Rattle.meaning.specs.Plants as P
-use Rattle.meaning.specs.Plants.{entryLimit, offsetLimit, limited, row, times, plantForm, coefCount, plantOf, rootOf, safeOf, bandsOf, wide, plantJudged, rowStart}
+use Rattle.meaning.specs.Plants.{entryLimit, offsetLimit, limited, row, times, plantForm, mostCoefs, coefCount, plantOf, rootOf, safeOf, bandsOf, wide, plantJudged, rowStart}
 use Rattle.promises.specs.files.Files.{file-writes}
 use Rattle.promises.specs.files.Forms.{Right, values-right, times-right}
 use Rattle.promises.specs.files.Framed.{limited-right, wide-bands, framed}
@@ -43,11 +43,11 @@ module _ (vs : List ℤ) where
 
 module _ (vs : List ℤ) (n modes : ℕ) where
   coefs : List ℤ
-  coefs = padded 320 (pos 0) (tab (λ i. at vs (6 + 6 * n + i)) (coefCount modes n) 0)
+  coefs = padded mostCoefs (pos 0) (tab (λ i. at vs (6 + 6 * n + i)) (coefCount modes n) 0)
 
-  coefs-size : n ≤ 4 → modes ≤ 16 → length coefs ≡ 320
+  coefs-size : n ≤ 4 → modes ≤ 16 → length coefs ≡ mostCoefs
   unfolding coefs
-  coefs-size few m = padded-size (λ i. at vs (6 + 6 * n + i)) 320 (coefCount modes n) (numbers-few modes n few m)
+  coefs-size few m = padded-size (λ i. at vs (6 + 6 * n + i)) mostCoefs (coefCount modes n) (numbers-few modes n few m)
 
   -- entry j of row i of mode u, its b_i being entry n
   coefs-at : (u i j : ℕ) → u < modes → i < n → j ≤ n → at coefs (rowStart n u i + j) ≡ at vs (6 + 4 * n + 2 * n + (n + 1) * (u * n + i) + 1 * j)
@@ -56,7 +56,7 @@ module _ (vs : List ℤ) (n modes : ℕ) where
       let t : u * n + i < modes * n = omega (arith, mul-le-mul hu (le-refl n)) in
       let l : rowStart n u i + j < coefCount modes n = omega (arith, mul-le-mul t (le-refl (n + 1))) in
       let q : 6 + 6 * n + (rowStart n u i + j) ≡ 6 + 4 * n + 2 * n + (n + 1) * (u * n + i) + 1 * j = omega arith in
-      padded-at (λ i. at vs (6 + 6 * n + i)) 320 (coefCount modes n) (rowStart n u i + j) l ∙ rw q refl
+      padded-at (λ i. at vs (6 + 6 * n + i)) mostCoefs (coefCount modes n) (rowStart n u i + j) l ∙ rw q refl
 
 -- ---- the whole form
 

@@ -14,7 +14,7 @@ use Rattle.laws.specs.Tabs.{length-tab, length-tabs, tab-same, padded-at, Fille
 use Rattle.laws.specs.Columns.{tab-at, padded-filled}
 use Rattle.meaning.specs.declared.Plant.{Plant}
 use Rattle.meaning.specs.Files.{Form, end, read, valuesAt}
-use Rattle.meaning.specs.Plants.{times, edgesAndBands, row, headed, plantForm, edgesOf, bandOf, column, coefCount, plantOf, numbersOf}
+use Rattle.meaning.specs.Plants.{times, edgesAndBands, row, headed, plantForm, edgesOf, bandOf, column, mostCoefs, coefCount, plantOf, numbersOf}
 use Rattle.promises.specs.files.Bodies.{body-back}
 use Rattle.promises.specs.files.Files.{Shaped, writes-back}
 use Rattle.promises.specs.files.FormShapes.{edges-takes, row-takes, times-takes, then-takes, takes-all}
@@ -50,7 +50,7 @@ plant-shaped p = (refl, (refl, (refl, (refl, (refl, (refl, body-shape (p .n) (p 
         omega (arith, length-append edges (bands ++ coefs), length-append bands coefs)
 
 -- a plant has at most 320 coefficients
-pub numbers-few : (modes n : ℕ) → n ≤ 4 → modes ≤ 16 → coefCount modes n ≤ 320
+pub numbers-few : (modes n : ℕ) → n ≤ 4 → modes ≤ 16 → coefCount modes n ≤ mostCoefs
 numbers-few modes n few many = let a : modes * n ≤ 16 * 4 = mul-le-mul many few in let b : n + 1 ≤ 5 = omega arith in omega (arith, mul-le-mul a b)
 
 -- ---- numbers that were read, as many as n rooms and N modes call for
@@ -62,13 +62,13 @@ module _ (n modes q k d : ℕ) (body : List ℤ) (few : n ≤ 4) (many : modes �
   numbers : List ℤ
   numbers = front ++ body
 
-  coefs-back : tab (at (padded 320 (pos 0) (tab (λ i. at numbers (6 + 6 * n + i)) (coefCount modes n) 0))) (coefCount modes n) 0 ≡ drop (6 * n) body
+  coefs-back : tab (at (padded mostCoefs (pos 0) (tab (λ i. at numbers (6 + 6 * n + i)) (coefCount modes n) 0))) (coefCount modes n) 0 ≡ drop (6 * n) body
   unfolding front numbers
   coefs-back =
       let c = coefCount modes n in
       let l = drop (6 * n) body in
       let e : c ≡ length l = omega (arith, length-drop (6 * n) body) in
-      tab-same (at (padded 320 (pos 0) (tab (λ i. at numbers (6 + 6 * n + i)) c 0))) (at l) c 0 (λ i a b. padded-at (λ i. at numbers (6 + 6 * n + i)) 320 c i (omega arith) ∙ here i)
+      tab-same (at (padded mostCoefs (pos 0) (tab (λ i. at numbers (6 + 6 * n + i)) c 0))) (at l) c 0 (λ i a b. padded-at (λ i. at numbers (6 + 6 * n + i)) mostCoefs c i (omega arith) ∙ here i)
       ∙ ap (λ (m : ℕ). tab (at l) m 0) e ∙ tab-at l
     where
       here : (i : ℕ) → at numbers (6 + 6 * n + i) ≡ at (drop (6 * n) body) i
@@ -91,7 +91,7 @@ module _ (n modes q k d : ℕ) (body : List ℤ) (few : n ≤ 4) (many : modes �
     shi-filled = columns 9 4;
     wlo-filled = columns (6 + 4 * n) 2;
     whi-filled = columns (7 + 4 * n) 2;
-    coef-filled = padded-filled (λ i. at numbers (6 + 6 * n + i)) 320 (coefCount modes n) (numbers-few modes n few many);
+    coef-filled = padded-filled (λ i. at numbers (6 + 6 * n + i)) mostCoefs (coefCount modes n) (numbers-few modes n few many);
   }
     where
       columns : (first by : ℕ) → Filled 4 n (column numbers first by n)

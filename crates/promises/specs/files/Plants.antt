@@ -8,20 +8,20 @@ use lib.IntN.{ℤ, pos}
 use Rattle.laws.specs.Lists.{at, tab, padded}
 use Rattle.laws.specs.Tabs.{getD-tab, tab-same, Filled, filled-padded}
 use Rattle.meaning.specs.declared.Plant.{Plant}
-use Rattle.meaning.specs.Plants.{edgesOf, bandOf, column, coefCount, plantOf, numbersOf}
+use Rattle.meaning.specs.Plants.{edgesOf, bandOf, column, mostCoefs, coefCount, plantOf, numbersOf}
 use Rattle.promises.specs.files.Bodies.{edge-same, band-same, rest-at}
 
 -- a plant whose arrays hold zeros beyond n rooms and N modes: what a reader makes
 pub record Tidy (p : Plant) : Type 0 where
   pub rooms : p .n ≤ 4
-  pub numbers : coefCount (p .modes) (p .n) ≤ 320
+  pub numbers : coefCount (p .modes) (p .n) ≤ mostCoefs
   pub rlo-filled : Filled 4 (p .n) (p .rlo)
   pub rhi-filled : Filled 4 (p .n) (p .rhi)
   pub slo-filled : Filled 4 (p .n) (p .slo)
   pub shi-filled : Filled 4 (p .n) (p .shi)
   pub wlo-filled : Filled 4 (p .n) (p .wlo)
   pub whi-filled : Filled 4 (p .n) (p .whi)
-  pub coef-filled : Filled 320 (coefCount (p .modes) (p .n)) (p .coef)
+  pub coef-filled : Filled mostCoefs (coefCount (p .modes) (p .n)) (p .coef)
 
 -- two plants of the same fields
 same : (n modes q k d : ℕ) {rlo rhi slo shi wlo whi coef rlo′ rhi′ slo′ shi′ wlo′ whi′ coef′ : List ℤ}
@@ -56,10 +56,10 @@ module _ (p : Plant) (t : Tidy p) where
   unfolding numbersOf n front edges bands coefs
   bands-same = band-same front refl n edges bands (λ i. refl) (λ i. refl) coefs (t .rooms)
 
-  coef-same : padded 320 (pos 0) (tab (λ i. at (numbersOf p) (6 + 6 * n + i)) (coefCount (p .modes) n) 0) ≡ p .coef
+  coef-same : padded mostCoefs (pos 0) (tab (λ i. at (numbersOf p) (6 + 6 * n + i)) (coefCount (p .modes) n) 0) ≡ p .coef
   unfolding numbersOf n front edges bands coefs
   coef-same =
-      ap (padded 320 (pos 0)) (tab-same (λ i. at (numbersOf p) (6 + 6 * n + i)) (at (p .coef)) (coefCount (p .modes) n) 0 (λ i a b. here i (omega arith)))
+      ap (padded mostCoefs (pos 0)) (tab-same (λ i. at (numbersOf p) (6 + 6 * n + i)) (at (p .coef)) (coefCount (p .modes) n) 0 (λ i a b. here i (omega arith)))
       ∙ filled-padded (t .coef-filled) (t .numbers)
     where
       here : (i : ℕ) → i < coefCount (p .modes) n → at (numbersOf p) (6 + 6 * n + i) ≡ at (p .coef) i

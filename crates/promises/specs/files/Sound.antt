@@ -10,7 +10,7 @@ use lib.Signed.{_≤ℤ_}
 use Rattle.laws.specs.Lists.{at}
 use Rattle.meaning.specs.declared.Plant.{Plant}
 use Rattle.meaning.specs.Boxes.{Side, sideAt, within}
-use Rattle.meaning.specs.Plants.{edgeLimit, bandLimit, entryLimit, offsetLimit, rootOf, safeOf, rowStart}
+use Rattle.meaning.specs.Plants.{edgeLimit, bandLimit, entryLimit, offsetLimit, rootOf, safeOf, rowStart, mostCoefs}
 
 -- a side within ± a limit, and not empty
 pub record Bounded (limit : ℕ) (s : Side) : Type 0 where
@@ -45,6 +45,6 @@ pub record Sound (p : Plant) : Type 0 where
   pub root-safe : within (rootOf p) (safeOf p) ≡ true
   pub wide : (i : ℕ) → i < p .n → (pos (p .q) -ℤ pos 1) ≤ℤ (at (p .whi) i -ℤ at (p .wlo) i)
   -- row i of mode u, its n entries of A and b_i behind them
-  pub coef-size : length (p .coef) ≡ 320
+  pub coef-size : length (p .coef) ≡ mostCoefs
   pub entries : (u i j : ℕ) → u < p .modes → i < p .n → j < p .n → natAbs (at (p .coef) (rowStart (p .n) u i + j)) ≤ entryLimit
   pub offsets : (u i : ℕ) → u < p .modes → i < p .n → natAbs (at (p .coef) (rowStart (p .n) u i + p .n)) ≤ offsetLimit

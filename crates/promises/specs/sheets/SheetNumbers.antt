@@ -14,7 +14,7 @@ use Rattle.meaning.specs.declared.Whole.{Whole}
 use Rattle.meaning.specs.declared.Sheet.{Sheet}
 use Rattle.meaning.specs.Images.{Row}
 use Rattle.meaning.specs.Plants as P
-use Rattle.meaning.specs.Plants.{entryLimit, offsetLimit, bandLimit, column, coefCount, edgesOf, plantOf, rowStart, rowOf}
+use Rattle.meaning.specs.Plants.{entryLimit, offsetLimit, bandLimit, column, mostCoefs, coefCount, edgesOf, plantOf, rowStart, rowOf}
 use Rattle.meaning.specs.Sheets as S
 use Rattle.meaning.specs.Sheets.{sheetEdges, coefficient, offset, wholeOf, limitedTo, widening, madeBand, madeRow, madeModes, madeNumbers, nearValue, madeValues, madePlant}
 use Rattle.promises.specs.files.Bodies.{edge-column, band-column, rest-at}
@@ -102,7 +102,7 @@ module _ (h : Sheet) where
       let n = h .n in
       let t : suc (u * n + i) ≤ madeModes h * n = omega (arith, mul-le-mul a (le-refl n)) in
       let l : rowStart n u i + j < coefCount (madeModes h) n = omega (arith, mul-le-mul t (le-refl (n + 1))) in
-      padded-at (λ k. at (madeValues h) (6 + 6 * n + k)) 320 (coefCount (madeModes h) n) (rowStart n u i + j) l
+      padded-at (λ k. at (madeValues h) (6 + 6 * n + k)) mostCoefs (coefCount (madeModes h) n) (rowStart n u i + j) l
       ∙ rw made-groups (rest-at header refl n edges ends (λ i. refl) (λ i. refl) rows (rowStart n u i + j)) ∙ row-at u i j a b c
 
   -- ---- a row of the plant

@@ -16,7 +16,7 @@ use Rattle.laws.specs.Tabs.{length-tab, tab-snoc}
 use Rattle.laws.specs.Columns.{tabs-tab}
 use Rattle.meaning.specs.declared.Sheet.{Sheet}
 use Rattle.meaning.specs.declared.Whole.{Whole}
-use Rattle.meaning.specs.Plants.{entryLimit, offsetLimit, coefCount}
+use Rattle.meaning.specs.Plants.{entryLimit, offsetLimit, mostCoefs, coefCount}
 use Rattle.meaning.specs.Sheets.{wholeOf, coefficient, offset, madeRow, madeModes, nearValue}
 use Rattle.promises.specs.files.PlantShapes.{numbers-few}
 use Rattle.promises.specs.sheets.SheetPlants.{emitters-few}
@@ -111,7 +111,7 @@ module _ (h : Sheet) (s : Sized h) where
   pub rows-few : madeModes h * h .n ≤ 64
   rows-few = mul-le-mul modes-few (s .few)
 
-  pub count-few : coefCount (madeModes h) (h .n) ≤ 320
+  pub count-few : coefCount (madeModes h) (h .n) ≤ mostCoefs
   count-few = numbers-few (madeModes h) (h .n) (s .few) modes-few
 
   pub scaled : (1 ≤ h .q * h .r) × (h .q * h .r ≤ 10000000)
@@ -121,28 +121,28 @@ module _ (h : Sheet) (s : Sized h) where
 
 pub record EntriesUpTo (h : Sheet) (count p : ℕ) (coef : List ℤ) (first : ℕ) : Type 0 where
   pub few : p ≤ count
-  pub values : Holding 320 (entryAt h) p coef
+  pub values : Holding mostCoefs (entryAt h) p coef
   pub out : first ≡ firstOut (tab (entryAt h) p 0)
 
-pub entries-none : (h : Sheet) (count : ℕ) → EntriesUpTo h count 0 (replicate 320 (pos 0)) 0
+pub entries-none : (h : Sheet) (count : ℕ) → EntriesUpTo h count 0 (replicate mostCoefs (pos 0)) 0
 unfolding tab firstFalse
-entries-none h count = record { few = omega arith; values = holding-none 320 (entryAt h); out = refl }
+entries-none h count = record { few = omega arith; values = holding-none mostCoefs (entryAt h); out = refl }
 
-pub entries-more : {h : Sheet} {count p : ℕ} {coef : List ℤ} {first : ℕ} → EntriesUpTo h count p coef first → p < count → count ≤ 320
+pub entries-more : {h : Sheet} {count p : ℕ} {coef : List ℤ} {first : ℕ} → EntriesUpTo h count p coef first → p < count → count ≤ mostCoefs
     → EntriesUpTo h count (p + 1) (set coef p (nearValue (entryAt h p))) (joined first p (near (entryAt h p)))
 entries-more {h} {count} {p} {coef} {first} e l few = record {
   few = omega arith;
-  values = holding-more 320 (entryAt h) p coef (omega arith) (e .values);
+  values = holding-more mostCoefs (entryAt h) p coef (omega arith) (e .values);
   out = joined-one (tab (entryAt h) p 0) (entryAt h p) first p (e .out) (sym (length-tab (entryAt h) p 0)) ∙ ap firstOut (sym behind);
 }
   where
     behind : tab (entryAt h) (p + 1) 0 ≡ tab (entryAt h) p 0 ++ entryAt h p ∷ []
     behind = tab-snoc (entryAt h) p 0 ∙ rw zero-add refl
 
-pub entries-all : {h : Sheet} {count p : ℕ} {coef : List ℤ} {first : ℕ} → EntriesUpTo h count p coef first → count ≤ p → count ≤ 320
+pub entries-all : {h : Sheet} {count p : ℕ} {coef : List ℤ} {first : ℕ} → EntriesUpTo h count p coef first → count ≤ p → count ≤ mostCoefs
     → _≡_ {A = Entries} (record { first = first; coef = coef }) (entriesOf h count)
 entries-all {h} {count} {p} {coef} {first} e l few =
     let q : p ≡ count = omega (arith, e .few) in
-    let values : coef ≡ held 320 (entryAt h) count = holding-all 320 (entryAt h) count coef few (subst (λ (k : ℕ). Holding 320 (entryAt h) k coef) q (e .values)) in
+    let values : coef ≡ held mostCoefs (entryAt h) count = holding-all mostCoefs (entryAt h) count coef few (subst (λ (k : ℕ). Holding mostCoefs (entryAt h) k coef) q (e .values)) in
     let out : first ≡ firstOut (tab (entryAt h) count 0) = e .out ∙ ap (λ (k : ℕ). firstOut (tab (entryAt h) k 0)) q in
     rw (out, values) refl

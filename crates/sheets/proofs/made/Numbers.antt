@@ -14,7 +14,7 @@ use Rattle.laws.specs.Tabs.{length-tab, length-tabs, map-tab, map-tabs, tab-sam
 use Rattle.laws.specs.Tests.{first-within, first-behind}
 use Rattle.meaning.specs.declared.Sheet.{Sheet}
 use Rattle.meaning.specs.declared.Whole.{Whole}
-use Rattle.meaning.specs.Plants.{coefCount, edgesOf, bandOf, numbersOf}
+use Rattle.meaning.specs.Plants.{mostCoefs, coefCount, edgesOf, bandOf, numbersOf}
 use Rattle.meaning.specs.Sheets.{sheetEdges, madeBand, madeModes, madeNumbers, isNear, nearValue}
 use Rattle.promises.specs.sheets.SheetNumbers.{map-values}
 use Rattle.sheets.specs.Sizes.{Sized}
@@ -59,10 +59,10 @@ module _ (h : Sheet) (s : Sized h) where
       ∙ tabs-same (λ k. map nearValue (madeBand h k)) (bandOf (held 4 (lowEnd h) (h .n)) (held 4 (highEnd h) (h .n))) (h .n) 0
       (λ k a b. rw (padded-at (λ i. nearValue (lowEnd h i)) 4 (h .n) k (omega arith), padded-at (λ i. nearValue (highEnd h i)) 4 (h .n) k (omega arith)) refl)
 
-  entries-held : map nearValue entries ≡ tab (at (held 320 (entryAt h) count)) count 0
+  entries-held : map nearValue entries ≡ tab (at (held mostCoefs (entryAt h) count)) count 0
   entries-held =
       map-tab nearValue (entryAt h) count 0
-      ∙ tab-same (λ k. nearValue (entryAt h k)) (at (held 320 (entryAt h) count)) count 0 (λ k a b. sym (padded-at (λ i. nearValue (entryAt h i)) 320 count k (omega arith)))
+      ∙ tab-same (λ k. nearValue (entryAt h k)) (at (held mostCoefs (entryAt h) count)) count 0 (λ k a b. sym (padded-at (λ i. nearValue (entryAt h i)) mostCoefs count k (omega arith)))
 
   pub made-numbers : numbersOf (heldPlant h) ≡ map nearValue (madeNumbers h)
   unfolding numbersOf
@@ -101,7 +101,7 @@ module _ (h : Sheet) (s : Sized h) where
   pub behind-few : behind ≤ 2 * h .n + count
   behind-few = omega (arith, made-place, fits-long, first-few (map isNear (madeNumbers h)))
 
-  pub entries-few : firstOut entries ≤ 320
+  pub entries-few : firstOut entries ≤ mostCoefs
   entries-few = omega (arith, count-few h s, first-few (map isNear entries), length-map entries isNear, length-tab (entryAt h) count 0)
 
   made-fits : eqb behind (2 * h .n + count) ≡ all (map isNear (madeNumbers h))

@@ -26,7 +26,7 @@ use Rattle.files.specs.BeginningFiles.{file-times}
 use Rattle.files.specs.DraftLaws.{draft-long, draft-left, InDraft, in-array}
 use Rattle.sheets.specs.Floats.{floatBytes}
 use Rattle.sheets.specs.Rooms.{exchangeBits, emitterPart, restPart, restValues, valuesOfRoom, exchangeBytes, emitterBytes, roomBytes, bytesOfRoom}
-use Rattle.sheets.specs.Sheets.{roomsForm, sheetBeginning, restBytes, sheetDraft}
+use Rattle.sheets.specs.Sheets.{roomsForm, sheetBeginning, restBytes, sheetRoom, sheetDraft}
 
 -- ---- the bytes of the parts behind the beginning
 
@@ -114,9 +114,9 @@ module _ (h : Sheet) where
 
   -- ---- the draft in its array
 
-  pub in-draft : (r : ℕ) (out : List ℕ) → Put (replicate 512 0) 0 (sheetDraft h) r out → InDraft (sheetDraft h) r out
+  pub in-draft : (r : ℕ) (out : List ℕ) → Put (replicate sheetRoom 0) 0 (sheetDraft h) r out → InDraft (sheetDraft h) r out
   unfolding sheetDraft
-  in-draft r out t = in-array 512 (sheetDraft h) r out (draft-long 1000 (omega arith) (sheetBeginning h) (restBytes h) 212 rest-long) t
+  in-draft r out t = in-array sheetRoom (sheetDraft h) r out (draft-long 1000 (omega arith) (sheetBeginning h) (restBytes h) 212 rest-long) t
     where
       rooms : List ℕ
       rooms = tabs (bytesOfRoom (h .n) (h .rooms)) (h .n) 0

@@ -8,7 +8,7 @@ use native.Mathlib.Nat.{mul-le-mul}
 use lib.IntN.{ℤ}
 use Rattle.meaning.specs.declared.Plant.{Plant}
 use Rattle.meaning.specs.Boxes.{sideAt, sidesOf}
-use Rattle.meaning.specs.Plants.{edgeLimit, rowStart}
+use Rattle.meaning.specs.Plants.{edgeLimit, rowStart, mostCoefs}
 use Rattle.tables.specs.declared.frames.Frame.{Frame}
 use Rattle.tables.specs.declared.frames.Counts.{Counts}
 use Rattle.tables.specs.Boxes.{boxOf, Small}
@@ -38,7 +38,7 @@ edges-small {k} {n} {lo} {hi} e =
     small-tab (sideAt lo hi) n 0 (λ j a b. e .sides j (omega arith))
 
 -- row i of mode u ends before 320
-row-inside : (n modes u i : ℕ) → n ≤ 4 → modes ≤ 16 → u < modes → i < n → rowStart n u i + n < 320
+row-inside : (n modes u i : ℕ) → n ≤ 4 → modes ≤ 16 → u < modes → i < n → rowStart n u i + n < mostCoefs
 row-inside n modes u i h m l k =
     let a : u ≤ 15 = omega arith in
     let b : n + 1 ≤ 5 = omega arith in

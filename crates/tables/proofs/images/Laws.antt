@@ -17,7 +17,7 @@ use Rattle.laws.specs.Tabs.{length-tab, tab-snoc, map-tab}
 use Rattle.laws.specs.Tests.{orders, all-tab}
 use Rattle.meaning.specs.Boxes.{Side, side, sideAt, covers, within}
 use Rattle.meaning.specs.Images.{Row, leastOf, greatestOf, extreme, imageSide, image}
-use Rattle.meaning.specs.Plants.{edgeLimit, entryLimit}
+use Rattle.meaning.specs.Plants.{edgeLimit, entryLimit, mostCoefs}
 use Rattle.tables.specs.declared.frames.Frame.{Frame}
 use Rattle.tables.specs.Boxes.{boxOf, Small}
 use Rattle.promises.specs.files.Sound.{Bounded}
@@ -115,7 +115,7 @@ module _ (n : ℕ) (coef : List ℤ) (start : ℕ) (ss : ℕ → Side) where
       summed-more greatestOf (entryAt coef start) ss j y hi (w .1) (greatest-small (entryAt coef start j) (ss j) (r .entries j h) bounded) (e .1),
     )
 
-    pub sums-place : (j < 4) × (start + j < 320)
+    pub sums-place : (j < 4) × (start + j < mostCoefs)
     sums-place = (omega (arith, r .rooms), omega (arith, r .inside))
 
     pub sums-asked : (lo hi : ℤ) → Sums j lo hi → ((natAbs (entryAt coef start j) ≤ entryLimit) × Bounded edgeLimit (ss j)) × ((natAbs lo ≤ rowLimit) × (natAbs hi ≤ rowLimit))

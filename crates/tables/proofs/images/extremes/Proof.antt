@@ -7,7 +7,7 @@ use denote.Ref.{now}
 use Rattle.laws.specs.Lists.{tab}
 use Rattle.meaning.specs.Boxes.{Side, sideAt}
 use Rattle.meaning.specs.Images.{leastOf, greatestOf}
-use Rattle.meaning.specs.Plants.{edgeLimit, entryLimit}
+use Rattle.meaning.specs.Plants.{edgeLimit, entryLimit, mostCoefs}
 use Rattle.promises.specs.files.Sound.{Bounded}
 use Rattle.tables.specs.Images.{rowLimit, entryAt, Extremes}
 use Rattle.tables.proofs.images.Laws.{Sums, sums-none, sums-more, sums-done, sums-place, sums-asked}
@@ -35,7 +35,7 @@ module _ (s : tie.Start) where
 
   -- one room more can be asked for
   asks : (j : ℕ) → j < s .args .n → (lo hi : ℤ) → Summed j lo hi
-      → ((j < 4) × (s .args .start + j < 320))
+      → ((j < 4) × (s .args .start + j < mostCoefs))
       × (((natAbs (entries j) ≤ entryLimit) × Bounded edgeLimit (sides j)) × ((natAbs lo ≤ rowLimit) × (natAbs hi ≤ rowLimit)))
   asks j h lo hi w =
       let p = sums-place (s .args .n) (now (s .args .coef)) (s .args .start) sides (s .pre .0) (s .pre .1) j h in
