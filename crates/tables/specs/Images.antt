@@ -3,7 +3,7 @@
 use Prim.Native.Nat.{ℕ, _+_, _≤_, _<_}
 use mathlib.Core.Path.{_≡_}
 use mathlib.Core.List.{List}
-use lib.IntN.{ℤ, natAbs}
+use lib.IntN.{ℤ, pos, negsuc, natAbs}
 use Rattle.laws.specs.Lists.{at, tab}
 use Rattle.meaning.specs.Boxes.{Side, sidesOf}
 use Rattle.meaning.specs.Images.{Row, Step, leastOf, greatestOf, extreme}
@@ -19,6 +19,16 @@ rowLimit = 80_000_000_000
 
 abbrev pub sumLimit : ℕ
 sumLimit = 91_000_000_000
+
+-- ---- the two parts of an entry: what it has above 0 and what it has below. Of 0 both are 0
+
+abbrev pub positivePart : ℤ → ℤ
+positivePart (pos a) = pos a
+positivePart (negsuc a) = pos 0
+
+abbrev pub negativePart : ℤ → ℤ
+negativePart (pos a) = pos 0
+negativePart (negsuc a) = negsuc a
 
 -- ---- the step
 

@@ -13,7 +13,7 @@ ghost use Rattle.meaning.specs.Images.{leastOf, greatestOf, imageSide, image};
 ghost use Rattle.meaning.specs.Plants.{edgeLimit, bandLimit, entryLimit, rowStart, mostCoefs};
 ghost use Rattle.tables.specs.Boxes.{boxOf, Small};
 ghost use Rattle.promises.specs.files.Sound.{Bounded};
-ghost use Rattle.tables.specs.Images.{rowLimit, entriesOf, rowAt, stepFrom, RowSound, StepSound, Extremes};
+ghost use Rattle.tables.specs.Images.{negativePart, rowLimit, entriesOf, rowAt, stepFrom, RowSound, StepSound, Extremes};
 
 // A least and a greatest number.
 pub struct Span {
@@ -21,27 +21,15 @@ pub struct Span {
     pub hi: i64,
 }
 
-// The least and the greatest of a·x over l..h: a takes the low or the high edge by its sign.
-pub fn term(a: i64, l: i64, h: i64) -> Span
-    requires { ⌜ (natAbs a ≤ entryLimit) × (natAbs l ≤ edgeLimit) × (natAbs h ≤ edgeLimit) ⌝ }
-    ensures { λ r. ⌜ (r .lo ≡ leastOf a (side l h)) × (r .hi ≡ greatestOf a (side l h)) ⌝ }
+// The negative part of a number: the number where it is below 0, else 0. What is left of the number is its positive part.
+fn negative_part(a: i64) -> i64
+    ensures { λ r. ⌜ r ≡ negativePart a ⌝ }
 {
-    let at_low = a * l;
-    let at_high = a * h;
-    if 0 <= a {
-        Span {
-            lo: at_low,
-            hi: at_high,
-        }
-    } else {
-        Span {
-            lo: at_high,
-            hi: at_low,
-        }
-    }
+    if a < 0 { a } else { 0 }
 }
 
-// One more term of a row: s and entry j, taken over side j.
+// One more term of a row: s and entry j, taken over side j. A larger reading makes the product with a positive part larger and that with a negative
+// part smaller, so for the least the positive part takes the low edge and the negative part the high one, and for the greatest the other way round.
 fn more(
     coef: &[i64; COEFFICIENTS],
     start: usize,
@@ -59,9 +47,10 @@ fn more(
     let a = coef[start + j];
     let l = lo[j];
     let h = hi[j];
-    let t = term(a, l, h);
-    let least = s.lo + t.lo;
-    let greatest = s.hi + t.hi;
+    let negative = negative_part(a);
+    let positive = a - negative;
+    let least = s.lo + positive * l + negative * h;
+    let greatest = s.hi + positive * h + negative * l;
     Span {
         lo: least,
         hi: greatest,
@@ -157,5 +146,26 @@ pub fn image(
     Bx {
         lo: least,
         hi: greatest,
+    }
+}
+
+// The least and the greatest of a·x over l..h by the sign of a, for the search (levels): two products where the parts need four, which its inner loop
+// would feel. That both say the same is `parts-least` (proofs/images/Laws).
+pub fn term(a: i64, l: i64, h: i64) -> Span
+    requires { ⌜ (natAbs a ≤ entryLimit) × (natAbs l ≤ edgeLimit) × (natAbs h ≤ edgeLimit) ⌝ }
+    ensures { λ r. ⌜ (r .lo ≡ leastOf a (side l h)) × (r .hi ≡ greatestOf a (side l h)) ⌝ }
+{
+    let at_low = a * l;
+    let at_high = a * h;
+    if 0 <= a {
+        Span {
+            lo: at_low,
+            hi: at_high,
+        }
+    } else {
+        Span {
+            lo: at_high,
+            hi: at_low,
+        }
     }
 }

@@ -1,5 +1,5 @@
--- Laws of images for the proofs of module images and of its callers: the terms of a row and their sum, term by term; the sides of an image; and
--- that an image inside S is a small box again. Assumes nothing.
+-- Laws of images for the proofs of module images and of its callers: a term by its sign and by its parts, and that both say the same; the sum of a
+-- row's terms; the sides of an image; and that an image inside S is a small box again. Assumes nothing.
 use Prim.Native.Nat.{ℕ, suc, _+_, _*_, _≤_, _<_}
 use mathlib.Core.Path.{_≡_, refl, sym, ap, _∙_}
 use mathlib.Core.Bool.{true}
@@ -7,7 +7,7 @@ use mathlib.Core.List.{List, [], _∷_, _++_}
 use native.Mathlib.Omega.{arith}
 use native.Mathlib.Nat.{mul-le-mul, mul-le-mul-left, zero-add}
 use lib.ListN.{length, set}
-use lib.IntN.{ℤ, pos, negsuc, natAbs, _+ℤ_, _-ℤ_, _*ℤ_, +ℤ-assoc, +ℤ-idl, +ℤ-idr}
+use lib.IntN.{ℤ, pos, negsuc, natAbs, _+ℤ_, _-ℤ_, _*ℤ_, +ℤ-assoc, +ℤ-idl, +ℤ-idr, zero-*ℤ}
 use lib.Signed.{_≤ℤ_, _<ℤ_, ≤ℤ-refl}
 use Rattle.laws.specs.Integers.{zarith, of-le, add, sub, mul, abs-add, abs-mul}
 use Rattle.laws.specs.Division.{floorZ, ceilZ}
@@ -21,33 +21,69 @@ use Rattle.meaning.specs.Plants.{edgeLimit, entryLimit, mostCoefs}
 use Rattle.tables.specs.declared.frames.Frame.{Frame}
 use Rattle.tables.specs.Boxes.{boxOf, Small}
 use Rattle.promises.specs.files.Sound.{Bounded}
-use Rattle.tables.specs.Images.{termLimit, rowLimit, entryAt, entriesOf, rowFrom, stepFrom, RowSound, Extremes}
+use Rattle.tables.specs.Images.{positivePart, negativePart, termLimit, rowLimit, entryAt, entriesOf, rowFrom, stepFrom, RowSound, Extremes}
 use Rattle.tables.specs.Frames.{FrameSound}
 use Rattle.tables.proofs.boxes.Laws.{small-at, small-tab, small-side, between, sides-stored, lies-tab}
 
 -- ---- one term: by the sign of a; and the greatest is the least of the turned side
 
+above : (Q : ℤ → Type 0) → ((m : ℕ) → Q (pos m)) → (a : ℤ) → pos 0 ≤ℤ a → Q a
+above Q f (pos m) k = f m
+above Q f (negsuc m) k = absurd (k .le)
+
+below : (Q : ℤ → Type 0) → ((m : ℕ) → Q (negsuc m)) → (a : ℤ) → a <ℤ pos 0 → Q a
+below Q f (pos m) k = absurd (none k)
+  where
+    none : {m : ℕ} → pos m <ℤ pos 0 → ⊥
+    none {m} k = omega zarith
+below Q f (negsuc m) k = f m
+
 module _ (a l h : ℤ) where
   pub least-above : pos 0 ≤ℤ a → (a *ℤ l ≡ leastOf a (side l h)) × (a *ℤ h ≡ greatestOf a (side l h))
-  least-above k = go a k
-    where
-      go : (a : ℤ) → pos 0 ≤ℤ a → (a *ℤ l ≡ leastOf a (side l h)) × (a *ℤ h ≡ greatestOf a (side l h))
-      go (pos m) k = (refl, refl)
-      go (negsuc m) k = absurd (k .le)
+  least-above = above (λ z. (z *ℤ l ≡ leastOf z (side l h)) × (z *ℤ h ≡ greatestOf z (side l h))) (λ m. (refl, refl)) a
 
   pub least-below : a <ℤ pos 0 → (a *ℤ h ≡ leastOf a (side l h)) × (a *ℤ l ≡ greatestOf a (side l h))
-  least-below k = go a k
-    where
-      none : {m : ℕ} → pos m <ℤ pos 0 → ⊥
-      none {m} k = omega zarith
-
-      go : (a : ℤ) → a <ℤ pos 0 → (a *ℤ h ≡ leastOf a (side l h)) × (a *ℤ l ≡ greatestOf a (side l h))
-      go (pos m) k = absurd (none k)
-      go (negsuc m) k = (refl, refl)
+  least-below = below (λ z. (z *ℤ h ≡ leastOf z (side l h)) × (z *ℤ l ≡ greatestOf z (side l h))) (λ m. (refl, refl)) a
 
 turned : (a : ℤ) (s : Side) → leastOf a (side (s .hi) (s .lo)) ≡ greatestOf a s
 turned (pos a) s = refl
 turned (negsuc a) s = refl
+
+-- ---- the same term by parts: the positive part times one edge and the negative part times the other say what the sign says
+
+pub negative-above : (a : ℤ) → pos 0 ≤ℤ a → pos 0 ≡ negativePart a
+negative-above = above (λ z. pos 0 ≡ negativePart z) (λ m. refl)
+
+pub negative-below : (a : ℤ) → a <ℤ pos 0 → a ≡ negativePart a
+negative-below = below (λ z. z ≡ negativePart z) (λ m. refl)
+
+positive-left : (a : ℤ) → a -ℤ negativePart a ≡ positivePart a
+positive-left (pos a) = omega (zarith, sub (pos a) (pos 0))
+positive-left (negsuc a) = omega (zarith, sub (negsuc a) (negsuc a))
+
+parts-least : (a l h : ℤ) → positivePart a *ℤ l +ℤ negativePart a *ℤ h ≡ leastOf a (side l h)
+parts-least (pos a) l h = rw (zero-*ℤ h) (+ℤ-idr (pos a *ℤ l))
+parts-least (negsuc a) l h = rw (zero-*ℤ l) (+ℤ-idl (negsuc a *ℤ h))
+
+parts-greatest : (a l h : ℤ) → positivePart a *ℤ h +ℤ negativePart a *ℤ l ≡ greatestOf a (side l h)
+parts-greatest a l h = parts-least a h l ∙ turned a (side l h)
+
+-- of n that is a's negative part: how large it is, and both terms added to z part by part
+module _ {n : ℤ} (a : ℤ) (e : n ≡ negativePart a) where
+  pub negative-small : {k : ℕ} → natAbs a ≤ k → natAbs n ≤ k
+  negative-small {k} f = rw e (go a f)
+    where
+      go : (a : ℤ) → natAbs a ≤ k → natAbs (negativePart a) ≤ k
+      go (pos a) f = omega arith
+      go (negsuc a) f = f
+
+  pub parts-added : (z l h : ℤ) → (z +ℤ (a -ℤ n) *ℤ l +ℤ n *ℤ h ≡ z +ℤ leastOf a (side l h)) × (z +ℤ (a -ℤ n) *ℤ h +ℤ n *ℤ l ≡ z +ℤ greatestOf a (side l h))
+  parts-added z l h = rw (e, positive-left a) (
+    +ℤ-assoc z (positivePart a *ℤ l) (negativePart a *ℤ h) ∙ ap (λ (t : ℤ). z +ℤ t) (parts-least a l h),
+    +ℤ-assoc z (positivePart a *ℤ h) (negativePart a *ℤ l) ∙ ap (λ (t : ℤ). z +ℤ t) (parts-greatest a l h),
+  )
+
+-- ---- how large a term is
 
 abs-least : {m k : ℕ} (a : ℤ) (s : Side) → natAbs a ≤ m → natAbs (s .lo) ≤ k → natAbs (s .hi) ≤ k → natAbs (leastOf a s) ≤ m * k
 abs-least (pos a) s f g h = omega (zarith, abs-mul (pos a) (s .lo), mul-le-mul f g)
