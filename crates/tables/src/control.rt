@@ -96,7 +96,13 @@ fn running_call(
 }
 
 // A call on a plant that was read.
-pub(crate) fn call(f: Frame, coef: &[i64; COEFFICIENTS], table: &[u8], st: State, x: [i64; 4]) -> Answer
+pub(crate) fn call(
+    f: Frame,
+    coef: &[i64; COEFFICIENTS],
+    table: &[u8],
+    st: State,
+    x: [i64; 4],
+) -> Answer
     requires { ⌜ FrameSound f (now coef) ⌝ }
     ensures { λ r. ⌜ r ≡ call (rulesIn f (now (coef .entry))) (now (table .entry)) st x ⌝ }
 {

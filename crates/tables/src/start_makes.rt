@@ -33,7 +33,13 @@ ghost use Rattle.tables.specs.Frames.{rulesIn, FrameSound};
 ghost use Rattle.tables.specs.StartMakes.{partBytes, WroteParts, framesTables, FramesSound, behindChain, chainLeft};
 
 // A frame's table behind its length: drafted where there is room for it, then copied.
-fn put_part(f: Frame, coef: &[i64; COEFFICIENTS], draft: &mut [u8], buf: &mut [u8], at: usize) -> Grown
+fn put_part(
+    f: Frame,
+    coef: &[i64; COEFFICIENTS],
+    draft: &mut [u8],
+    buf: &mut [u8],
+    at: usize,
+) -> Grown
     requires frame { ⌜ FrameSound f (now coef) ⌝ }
     requires room { ⌜ 2 + most (2 ^ f .n) 7 (f .d) ≤ length (now draft) ⌝ }
     ensures { λ r. ⌜ Wrote (partBytes (rulesIn f (now (coef .entry)))) (now (buf .entry)) at r (now (buf .exit)) ⌝ }
