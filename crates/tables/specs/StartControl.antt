@@ -1,6 +1,6 @@
 -- A call on a start file as the code makes it: which table is called, then the call on it. Definitions alone.
 use Prim.Native.Nat.{ℕ}
-use mathlib.Core.Bool.{Bool, _&&_, _||_, not}
+use mathlib.Core.Bool.{Bool, not}
 use mathlib.Core.List.{List}
 use lib.Dec.{leb, eqb}
 use lib.IntN.{ℤ}
@@ -30,21 +30,18 @@ module _ (n : ℕ) (root : List Side) (vs : List ℤ) where
   abbrev pub missesAt : List ℤ → ℕ → Bool
   missesAt x i = not (all (fitsAt x i))
 
-  -- idle: outside Rm it is 11
-  abbrev pub idleChoice : List ℤ → Choice
-  idleChoice x =
+  -- idle: an index that was kept cannot be, and outside Rm it is 11
+  abbrev pub idleChoice : ℕ → List ℤ → Choice
+  idleChoice i x =
       let fit = fitsAt x (above vs) in
+      guard (eqb i 0) (Choice.Refused badState) λ _.
       guard (all fit) (Choice.Refused (outside (firstFalse fit))) λ _. Choice.Table (chosen n root vs x)
-
-  -- the index can be
-  abbrev pub mayIndex : ℕ → State → Bool
-  mayIndex i st = leb i (above vs) && (eqb i 0 || not (isIdle st))
 
   -- the table that is called
   abbrev pub choiceOf : StartState → List ℤ → Choice
   choiceOf st x =
-      guard (mayIndex (st .index) (st .state)) (Choice.Refused badState) λ _.
-      choose (isIdle (st .state)) (λ _. idleChoice x) (λ _. Choice.Table (st .index))
+      guard (leb (st .index) (above vs)) (Choice.Refused badState) λ _.
+      choose (isIdle (st .state)) (λ _. idleChoice (st .index) x) (λ _. Choice.Table (st .index))
 
 abbrev pub onChoice : {A : Type 0} → Choice → (Refusal → A) → (ℕ → A) → A
 onChoice (Choice.Refused e) refuse rest = refuse e

@@ -27,7 +27,7 @@ ghost use Rattle.tables.specs.Frames.{rulesIn, FrameSound};
 ghost use Rattle.tables.specs.Control.{admission};
 
 // Whether a call may go on: the state can be, and then the box holds the reading; 12 before 11.
-fn admit(can: bool, n: usize, b: Bx, x: [i64; 4]) -> Verdict
+pub(crate) fn admit(can: bool, n: usize, b: Bx, x: [i64; 4]) -> Verdict
     requires { ⌜ n ≤ 4 ⌝ }
     ensures { λ r. ⌜ r ≡ admission can (fits (boxOf n b) (readingOf n x)) ⌝ }
 {

@@ -19,7 +19,8 @@ pub fn part_at(s: &[u8], at: usize) -> Part
     let Number::Value(size, first) = numbers::number(s, at) else {
         return Part::Refused(files::refusals::broken(at));
     };
-    if s.len() - first < size {
+    let left = s.len() - first;
+    if left < size {
         return Part::Refused(files::refusals::unfit(at));
     }
     Part::At(first, size)

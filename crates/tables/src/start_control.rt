@@ -57,20 +57,19 @@ fn lowest(n: usize, root: Bx, edges: &[i64; 64], m: usize, x: [i64; 4]) -> usize
     i
 }
 
-// Idle: the reading must be in Rm; of the boxes that hold it the lowest index.
-fn idle_choice(n: usize, root: Bx, edges: &[i64; 64], m: usize, x: [i64; 4]) -> Choice
+// Idle: no index may be kept, and the reading must be in Rm; of the boxes that hold it the lowest index.
+fn idle_choice(n: usize, root: Bx, edges: &[i64; 64], m: usize, i: usize, x: [i64; 4]) -> Choice
     requires { ⌜ (n ≤ 4) × (m ≤ mostAbove) ⌝ }
-    ensures { λ r. ⌜ r ≡ idleChoice n (boxOf n root) (valuesIn m (now (edges .entry))) x ⌝ }
+    ensures { λ r. ⌜ r ≡ idleChoice n (boxOf n root) (valuesIn m (now (edges .entry))) i x ⌝ }
 {
     let top = chains::box_at(n, root, edges, m);
-    let missed = boxes::missed(n, top, x);
-    if missed < n {
-        return Choice::Refused(refusals::outside(missed));
+    match control::admit(i == 0, n, top, x) {
+        Verdict::Refused(e) => Choice::Refused(e),
+        Verdict::Accepted => Choice::Table(lowest(n, root, edges, m, x)),
     }
-    Choice::Table(lowest(n, root, edges, m, x))
 }
 
-// The table that a state and a reading call: an index over m, or one kept when idle, cannot be.
+// The table that a state and a reading call: an index over m cannot be.
 fn choose_table(
     n: usize,
     root: Bx,
@@ -88,10 +87,7 @@ fn choose_table(
         return Choice::Refused(refusals::bad_state());
     }
     if is_idle(state) {
-        if i != 0 {
-            return Choice::Refused(refusals::bad_state());
-        }
-        return idle_choice(n, root, edges, m, x);
+        return idle_choice(n, root, edges, m, i, x);
     }
     Choice::Table(i)
 }

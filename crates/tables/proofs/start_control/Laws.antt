@@ -8,7 +8,7 @@ use native.Mathlib.Omega.{arith}
 use native.Mathlib.Nat.{zero-add}
 use lib.Dec.{leb, eqb}
 use lib.IntN.{ℤ}
-use borrow.Author.Tests.{leb-true, eqb-true, le-leb, lt-leb, eq-eqb, ne-eqb}
+use borrow.Author.Tests.{leb-true, eqb-true, le-leb, lt-leb}
 use Rattle.laws.specs.Guards.{guard, choose}
 use Rattle.laws.specs.Lists as L
 use Rattle.laws.specs.Lists.{tab, all, firstFalse}
@@ -20,6 +20,7 @@ use Rattle.meaning.specs.declared.Refusal.{Refusal}
 use Rattle.meaning.specs.declared.StartAnswer.{StartAnswer}
 use Rattle.meaning.specs.declared.StartState.{StartState}
 use Rattle.meaning.specs.declared.State.{State}
+use Rattle.meaning.specs.declared.Verdict.{Verdict}
 use Rattle.meaning.specs.Boxes.{Side, fits}
 use Rattle.meaning.specs.Control.{idle, call}
 use Rattle.meaning.specs.Files.{good, bad}
@@ -34,9 +35,10 @@ use Rattle.tables.specs.declared.parts.Part.{Part}
 use Rattle.tables.specs.declared.start_control.Choice.{Choice}
 use Rattle.tables.specs.Boxes.{boxOf}
 use Rattle.tables.specs.Chains.{valuesIn, bxAt, frameAt}
+use Rattle.tables.specs.Control.{admission}
 use Rattle.tables.specs.Frames.{frameOf, rulesIn}
 use Rattle.tables.specs.Parts.{partBehind}
-use Rattle.tables.specs.StartControl.{fitsAt, missesAt, idleChoice, mayIndex, choiceOf, onChoice, callBehind, startAnswer}
+use Rattle.tables.specs.StartControl.{fitsAt, missesAt, idleChoice, choiceOf, onChoice, callBehind, startAnswer}
 use Rattle.tables.proofs.chains.Laws.{Edged, in-edged, box-same, answers-at}
 use Rattle.tables.proofs.finds.Laws.{held, not-held}
 use Rattle.tables.proofs.parts.Laws.{by-part}
@@ -63,70 +65,63 @@ kept-index i st e = simp e
 
 -- ---- whether Ri holds a reading, by the box that the code has
 
-module _ (n : ℕ) (rooms : n ≤ 4) (root : Bx) (edges : List ℤ) (m : ℕ) (x : List ℤ) (i : ℕ) (b : Bx) (q : b ≡ bxAt n root edges i) (k : ℕ) (f : k ≡ firstFalse (fits (boxOf n b) (readingOf n x))) where
+module _ (n : ℕ) (rooms : n ≤ 4) (root : Bx) (edges : List ℤ) (m : ℕ) (x : List ℤ) (i : ℕ) (b : Bx) (q : b ≡ bxAt n root edges i) where
   box : boxOf n b ≡ boxAt n (boxOf n root) (valuesIn m edges) i
   box = ap (boxOf n) q ∙ box-same n rooms edges (valuesIn m edges) (in-edged m edges) root i
 
-  pub box-missed : k ≡ firstFalse (fitsAt n (boxOf n root) (valuesIn m edges) x i)
-  box-missed = f ∙ ap (λ (b : List Side). firstFalse (fits b (readingOf n x))) box
+  pub box-fits : fits (boxOf n b) (readingOf n x) ≡ fitsAt n (boxOf n root) (valuesIn m edges) x i
+  box-fits = ap (λ (b : List Side). fits b (readingOf n x)) box
 
-  pub box-holds : n ≤ k → all (fitsAt n (boxOf n root) (valuesIn m edges) x i) ≡ true
-  box-holds h = ap (λ (b : List Side). all (fits b (readingOf n x))) (sym box) ∙ held n (b .lo) (b .hi) x (omega (arith, f))
+  module _ (k : ℕ) (f : k ≡ firstFalse (fits (boxOf n b) (readingOf n x))) where
+    pub box-stops : n ≤ k → missesAt n (boxOf n root) (valuesIn m edges) x i ≡ false
+    box-stops h = ap (λ (b : List Side). not (all (fits b (readingOf n x)))) (sym box) ∙ ap not (held n (b .lo) (b .hi) x (omega (arith, f)))
 
-  pub box-lets : k < n → all (fitsAt n (boxOf n root) (valuesIn m edges) x i) ≡ false
-  box-lets h = ap (λ (b : List Side). all (fits b (readingOf n x))) (sym box) ∙ not-held n (b .lo) (b .hi) x (omega (arith, f))
-
-  pub box-stops : n ≤ k → missesAt n (boxOf n root) (valuesIn m edges) x i ≡ false
-  box-stops h = ap not (box-holds h)
-
-  pub box-passed : k < n → missesAt n (boxOf n root) (valuesIn m edges) x i ≡ true
-  box-passed h = ap not (box-lets h)
+    pub box-passed : k < n → missesAt n (boxOf n root) (valuesIn m edges) x i ≡ true
+    box-passed h = ap (λ (b : List Side). not (all (fits b (readingOf n x)))) (sym box) ∙ ap not (not-held n (b .lo) (b .hi) x (omega (arith, f)))
 
 -- ---- the table that is called
 
-module _ (n : ℕ) (root : List Side) (vs : List ℤ) (x : List ℤ) where
-  pub choice-outside : (k : ℕ) → k ≡ firstFalse (fitsAt n root vs x (above vs)) → all (fitsAt n root vs x (above vs)) ≡ false → Choice.Refused (outside k) ≡ idleChoice n root vs x
-  choice-outside k q e = ap (λ (j : ℕ). Choice.Refused (outside j)) q ∙ simp e
+-- by the admission to Rm
+refused-by : (can held : Bool) (k low : ℕ) (e : Refusal) → guard can (Verdict.Refused badState) (λ _. guard held (Verdict.Refused (outside k)) λ _. Verdict.Accepted) ≡ Verdict.Refused e
+    → Choice.Refused e ≡ guard can (Choice.Refused badState) (λ _. guard held (Choice.Refused (outside k)) λ _. Choice.Table low)
+refused-by true true k low e q = never cc
+refused-by true false k low e q = cc
+refused-by false held k low e q = cc
 
-  pub choice-lowest : (i : ℕ) → i ≡ chosen n root vs x → all (fitsAt n root vs x (above vs)) ≡ true → Choice.Table i ≡ idleChoice n root vs x
-  choice-lowest i q e = ap Choice.Table q ∙ simp e
+accepted-by : (can held : Bool) (k low : ℕ) → guard can (Verdict.Refused badState) (λ _. guard held (Verdict.Refused (outside k)) λ _. Verdict.Accepted) ≡ Verdict.Accepted
+    → Choice.Table low ≡ guard can (Choice.Refused badState) (λ _. guard held (Choice.Refused (outside k)) λ _. Choice.Table low)
+accepted-by true true k low q = refl
+accepted-by true false k low q = never cc
+accepted-by false held k low q = never cc
+
+module _ (n : ℕ) (root : List Side) (vs : List ℤ) (x : List ℤ) where
+  module _ (i : ℕ) (v : Verdict) (q : v ≡ admission (eqb i 0) (fitsAt n root vs x (above vs))) where
+    abbrev fit : List Bool
+    fit = fitsAt n root vs x (above vs)
+
+    pub choice-refused : (e : Refusal) → v ≡ Verdict.Refused e → Choice.Refused e ≡ idleChoice n root vs i x
+    choice-refused e h = refused-by (eqb i 0) (all fit) (firstFalse fit) (chosen n root vs x) e (sym q ∙ h)
+
+    pub choice-lowest : v ≡ Verdict.Accepted → (k : ℕ) → k ≡ chosen n root vs x → Choice.Table k ≡ idleChoice n root vs i x
+    choice-lowest h k c = ap Choice.Table c ∙ accepted-by (eqb i 0) (all fit) (firstFalse fit) (chosen n root vs x) (sym q ∙ h)
 
   module _ (st : StartState) where
+    pub index-over : above vs < st .index → Choice.Refused badState ≡ choiceOf n root vs st x
+    index-over h = sym (simp (lt-leb (st .index) (above vs) h))
+
     -- by the tests
     abbrev by : Bool → Bool → Choice
-    by can none = guard can (Choice.Refused badState) λ _. choose none (λ _. idleChoice n root vs x) (λ _. Choice.Table (st .index))
-
-    pub index-over : above vs < st .index → Choice.Refused badState ≡ choiceOf n root vs st x
-    index-over h = sym (ap (λ (t : Bool). by t (isIdle (st .state))) cannot)
-      where
-        cannot : mayIndex n root vs (st .index) (st .state) ≡ false
-        cannot = rw (lt-leb (st .index) (above vs) h) refl
+    by can none = guard can (Choice.Refused badState) λ _. choose none (λ _. idleChoice n root vs (st .index) x) (λ _. Choice.Table (st .index))
 
     module _ (h : st .index ≤ above vs) where
-      below : leb (st .index) (above vs) ≡ true
-      below = le-leb (st .index) (above vs) h
+      known : (none : Bool) → isIdle (st .state) ≡ none → by true none ≡ choiceOf n root vs st x
+      known none e = sym (ap (λ (t : Bool). by t (isIdle (st .state))) (le-leb (st .index) (above vs) h) ∙ ap (by true) e)
 
-      pub index-kept : isIdle (st .state) ≡ true → (st .index ≡ 0 → ⊥) → Choice.Refused badState ≡ choiceOf n root vs st x
-      index-kept e z = sym (ap (λ (t : Bool). by t (isIdle (st .state))) cannot)
-        where
-          cannot : mayIndex n root vs (st .index) (st .state) ≡ false
-          cannot = rw (below, ne-eqb (st .index) 0 z, e) refl
-
-      pub index-idle : isIdle (st .state) ≡ true → st .index ≡ 0 → idleChoice n root vs x ≡ choiceOf n root vs st x
-      index-idle e z = sym (ap (λ (t : Bool). by t (isIdle (st .state))) can ∙ ap (by true) e)
-        where
-          can : mayIndex n root vs (st .index) (st .state) ≡ true
-          can = rw (below, eq-eqb (st .index) 0 z) refl
+      pub index-idle : isIdle (st .state) ≡ true → idleChoice n root vs (st .index) x ≡ choiceOf n root vs st x
+      index-idle e = known true e
 
       pub index-running : isIdle (st .state) ≡ false → Choice.Table (st .index) ≡ choiceOf n root vs st x
-      index-running e = sym (ap (λ (t : Bool). by t (isIdle (st .state))) can ∙ ap (by true) e)
-        where
-          either : (t : Bool) → (t || true) ≡ true
-          either true = refl
-          either false = refl
-
-          can : mayIndex n root vs (st .index) (st .state) ≡ true
-          can = rw (below, e) (either (eqb (st .index) 0))
+      index-running e = known false e
 
 -- the first that does not hold is no later than one that does not
 first-under : (t : ℕ → Bool) (m i k : ℕ) → k < m → t (i + k) ≡ false → firstFalse (tab t m i) ≤ k
@@ -147,16 +142,16 @@ module _ (n : ℕ) (root : List Side) (vs : List ℤ) (x : List ℤ) where
       first-under (missesAt n root vs x) (above vs + 1) 0 (above vs) (omega arith) (rw z (ap not e))
 
   pub choice-within : (st : StartState) (i : ℕ) → choiceOf n root vs st x ≡ Choice.Table i → i ≤ above vs
-  choice-within st i q = go (leb (st .index) (above vs)) refl (eqb (st .index) 0 || not (isIdle (st .state))) (isIdle (st .state)) (all (fitsAt n root vs x (above vs))) refl q
+  choice-within st i q = go (leb (st .index) (above vs)) refl (isIdle (st .state)) (eqb (st .index) 0) (all (fitsAt n root vs x (above vs))) refl q
     where
-      go : (a : Bool) → leb (st .index) (above vs) ≡ a → (c d e : Bool) → all (fitsAt n root vs x (above vs)) ≡ e
-          → guard (a && c) (Choice.Refused badState) (λ _. choose d (λ _. guard e (Choice.Refused (outside (firstFalse (fitsAt n root vs x (above vs))))) λ _. Choice.Table (chosen n root vs x)) (λ _. Choice.Table (st .index))) ≡ Choice.Table i
+      go : (a : Bool) → leb (st .index) (above vs) ≡ a → (none nought held : Bool) → all (fitsAt n root vs x (above vs)) ≡ held
+          → guard a (Choice.Refused badState) (λ _. choose none (λ _. guard nought (Choice.Refused badState) λ _. guard held (Choice.Refused (outside (firstFalse (fitsAt n root vs x (above vs))))) λ _. Choice.Table (chosen n root vs x)) (λ _. Choice.Table (st .index))) ≡ Choice.Table i
           → i ≤ above vs
-      go false p c d e r q = never cc
-      go true p false d e r q = never cc
+      go false p none nought held r q = never cc
+      go true p true false held r q = never cc
       go true p true true false r q = never cc
       go true p true true true r q = let z : chosen n root vs x ≡ i = cc in omega (arith, chosen-within r)
-      go true p true false e r q = let z : st .index ≡ i = cc in omega (arith, leb-true (st .index) (above vs) p)
+      go true p false nought held r q = let z : st .index ≡ i = cc in omega (arith, leb-true (st .index) (above vs) p)
 
 -- ---- the call on it
 
@@ -174,7 +169,7 @@ module _ (f : Frame) (coef : List ℤ) (s : List ℕ) (at i : ℕ) (st : State) 
 
 module _ (p : Plant) (vs : List ℤ) (s : List ℕ) (at : ℕ) (st : StartState) (x : List ℤ) where
   pub called-as : onChoice (choiceOf (p .n) (rootOf p) vs st x) StartAnswer.Refused (λ i. callIn p vs s at i (st .state) x) ≡ startCall p vs s at st x
-  called-as = go (mayIndex (p .n) (rootOf p) vs (st .index) (st .state)) (isIdle (st .state)) refl (all fit)
+  called-as = go (leb (st .index) (above vs)) (isIdle (st .state)) refl (eqb (st .index) 0) (all fit)
     where
       fit : List Bool
       fit = fitsAt (p .n) (rootOf p) vs x (above vs)
@@ -182,19 +177,21 @@ module _ (p : Plant) (vs : List ℤ) (s : List ℕ) (at : ℕ) (st : StartState)
       low : ℕ
       low = chosen (p .n) (rootOf p) vs x
 
-      go : (can none : Bool) → isIdle (st .state) ≡ none → (held : Bool)
-          → onChoice (guard can (Choice.Refused badState) (λ _. choose none (λ _. guard held (Choice.Refused (outside (firstFalse fit))) λ _. Choice.Table low) (λ _. Choice.Table (st .index)))) StartAnswer.Refused (λ i. callIn p vs s at i (st .state) x)
-          ≡ guard can (StartAnswer.Refused badState) (λ _. choose none (λ _. guard held (StartAnswer.Refused (outside (firstFalse fit))) λ _. callIn p vs s at low idle x) (λ _. callIn p vs s at (st .index) (st .state) x))
-      go false none e held = refl
-      go true false e held = refl
-      go true true e false = refl
-      go true true e true = ap (λ (z : State). callIn p vs s at low z x) (is-idle (st .state) e)
+      go : (a none : Bool) → isIdle (st .state) ≡ none → (nought held : Bool)
+          → onChoice (guard a (Choice.Refused badState) (λ _. choose none (λ _. guard nought (Choice.Refused badState) λ _. guard held (Choice.Refused (outside (firstFalse fit))) λ _. Choice.Table low) (λ _. Choice.Table (st .index)))) StartAnswer.Refused (λ i. callIn p vs s at i (st .state) x)
+          ≡ guard (a && (nought || not none)) (StartAnswer.Refused badState) (λ _. choose none (λ _. guard held (StartAnswer.Refused (outside (firstFalse fit))) λ _. callIn p vs s at low idle x) (λ _. callIn p vs s at (st .index) (st .state) x))
+      go false none e nought held = refl
+      go true false e true held = refl
+      go true false e false held = refl
+      go true true e false held = refl
+      go true true e true false = refl
+      go true true e true true = ap (λ (z : State). callIn p vs s at low z x) (is-idle (st .state) e)
 
 -- the same boxes, the same choice
 abbrev choiceBy : ℕ → List Bool → ℕ → StartState → Choice
 choiceBy m fit low st =
-    guard (leb (st .index) m && (eqb (st .index) 0 || not (isIdle (st .state)))) (Choice.Refused badState) λ _.
-    choose (isIdle (st .state)) (λ _. guard (all fit) (Choice.Refused (outside (firstFalse fit))) λ _. Choice.Table low) (λ _. Choice.Table (st .index))
+    guard (leb (st .index) m) (Choice.Refused badState) λ _.
+    choose (isIdle (st .state)) (λ _. guard (eqb (st .index) 0) (Choice.Refused badState) λ _. guard (all fit) (Choice.Refused (outside (firstFalse fit))) λ _. Choice.Table low) (λ _. Choice.Table (st .index))
 
 choice-same : (n : ℕ) (root : List Side) (vs ws : List ℤ) (st : StartState) (x : List ℤ) → above vs ≡ above ws → ((i : ℕ) → boxAt n root vs i ≡ boxAt n root ws i)
     → choiceOf n root vs st x ≡ choiceOf n root ws st x

@@ -25,8 +25,8 @@ returns c =
     let a = c .before .before .before .before .before .args in
     ap Part.Refused (c .broken .ensures) ∙ part-broken (now (a .s)) (a .at) (sym (c .before .before .before .number .ensures) ∙ c .before .enum-told .given .1)
 
-sub-if1 : tie.Need-sub-if1
-sub-if1 c =
+sub-left : tie.Need-sub-left
+sub-left c =
     let a = c .before .before .before .before .before .args in
     let g = c .before .size .given in
     omega (arith, number-within (now (a .s)) (a .at) (g .0 .0) (g .0 .1 .0) (sym (c .before .before .before .number .ensures) ∙ g .1))
@@ -40,14 +40,14 @@ returns-2 c =
     let a = k .before .before .before .before .before .args in
     let g = k .before .size .given in
     ap Part.Refused (c .unfit .ensures)
-    ∙ part-over (now (a .s)) (a .at) (g .0 .0) (g .0 .1 .0) (sym (k .before .before .before .number .ensures) ∙ g .1) (c .before .if1 .taken)
+    ∙ part-over (now (a .s)) (a .at) (g .0 .0) (g .0 .1 .0) (sym (k .before .before .before .number .ensures) ∙ g .1) (omega arith)
 
 returns-3 : tie.Need-returns-3
 returns-3 c =
     let k = c .before in
     let a = k .before .before .before .before .before .args in
     let g = k .before .size .given in
-    part-there (now (a .s)) (a .at) (g .0 .0) (g .0 .1 .0) (sym (k .before .before .before .number .ensures) ∙ g .1) (c .if1 .left)
+    part-there (now (a .s)) (a .at) (g .0 .0) (g .0 .1 .0) (sym (k .before .before .before .number .ensures) ∙ g .1) (omega arith)
 
 pub part-at-spec : {M : Type 1} → statement M
 part-at-spec =
@@ -58,7 +58,7 @@ part-at-spec =
     enum-told
     broken-requires
     returns
-    sub-if1
+    sub-left
     unfit-requires
     returns-2
     returns-3)

@@ -8,7 +8,7 @@ use Rattle.meaning.specs.Boxes.{Side}
 use Rattle.tables.specs.declared.start_control.Choice.{Choice}
 use Rattle.tables.specs.Boxes.{boxOf}
 use Rattle.tables.specs.Chains.{valuesIn}
-use Rattle.tables.proofs.start_control.Laws.{index-over, index-kept, index-idle, index-running}
+use Rattle.tables.proofs.start_control.Laws.{index-over, index-idle, index-running}
 use Rattle.tables.proofs.start_control.choose_table.Statement.{statement}
 use Rattle.tables.proofs.start_control.choose_table.Tie as tie
 
@@ -30,28 +30,18 @@ returns c =
 is-idle-requires : tie.Need-is-idle-requires
 is-idle-requires c κs = search needs
 
-bad-state-requires-2 : tie.Need-bad-state-requires-2
-bad-state-requires-2 c κs = search needs
-
-returns-2 : tie.Need-returns-2
-returns-2 c =
-    let y = c .before .before .before in
-    let s = y .before .before .before in
-    ap Choice.Refused (c .bad-state2 .ensures)
-    ∙ index-kept (s .args .n) (root s) (vs s) (s .args .x) (s .args .st) (y .before .if1 .left) (sym (y .is-idle .ensures) ∙ c .before .before .if2 .taken) (c .before .if3 .taken)
-
 idle-choice-requires : tie.Need-idle-choice-requires
 idle-choice-requires c κs = search needs
 
-returns-3 : tie.Need-returns-3
-returns-3 c =
-    let y = c .before .before .before in
+returns-2 : tie.Need-returns-2
+returns-2 c =
+    let y = c .before .before in
     let s = y .before .before .before in
     c .idle-choice .ensures
-    ∙ index-idle (s .args .n) (root s) (vs s) (s .args .x) (s .args .st) (y .before .if1 .left) (sym (y .is-idle .ensures) ∙ c .before .before .if2 .taken) (c .before .if3 .left)
+    ∙ index-idle (s .args .n) (root s) (vs s) (s .args .x) (s .args .st) (y .before .if1 .left) (sym (y .is-idle .ensures) ∙ c .before .if2 .taken)
 
-returns-4 : tie.Need-returns-4
-returns-4 c =
+returns-3 : tie.Need-returns-3
+returns-3 c =
     let y = c .before in
     let s = y .before .before .before in
     index-running (s .args .n) (root s) (vs s) (s .args .x) (s .args .st) (y .before .if1 .left) (sym (y .is-idle .ensures) ∙ c .if2 .left)
@@ -63,8 +53,6 @@ choose-table-spec =
     bad-state-requires
     returns
     is-idle-requires
-    bad-state-requires-2
-    returns-2
     idle-choice-requires
-    returns-3
-    returns-4)
+    returns-2
+    returns-3)
