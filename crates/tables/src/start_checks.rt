@@ -2,6 +2,7 @@
 // over last.
 // Relies on crate files for the plant, on chains for the boxes, on parts and checks for a table. Leaves out how the tables are made.
 use crate::chains;
+use crate::chains::EDGES;
 use crate::checks;
 use crate::frames;
 use crate::frames::Frame;
@@ -45,7 +46,7 @@ fn table_at(f: Frame, coef: &[i64; COEFFICIENTS], start: &[u8], at: usize) -> Wa
 // The tables of R0..Rm, the first length at `at`, and nothing behind them.
 fn tables_at(
     f: Frame,
-    edges: &[i64; 64],
+    edges: &[i64; EDGES],
     coef: &[i64; COEFFICIENTS],
     start: &[u8],
     m: usize,

@@ -6,6 +6,7 @@
 use crate::boxes;
 use crate::boxes::Bx;
 use crate::chains;
+use crate::chains::EDGES;
 use crate::control;
 use crate::frames;
 use crate::frames::Frame;
@@ -42,7 +43,7 @@ fn is_idle(st: State) -> bool
 }
 
 // The lowest index of the boxes that hold a reading; m + 1 where none does.
-fn lowest(n: usize, root: Bx, edges: &[i64; 64], m: usize, x: [i64; 4]) -> usize
+fn lowest(n: usize, root: Bx, edges: &[i64; EDGES], m: usize, x: [i64; 4]) -> usize
     requires { ⌜ (n ≤ 4) × (m ≤ mostAbove) ⌝ }
     ensures { λ r. ⌜ r ≡ chosen n (boxOf n root) (valuesIn m (now (edges .entry))) x ⌝ }
 {
@@ -58,7 +59,7 @@ fn lowest(n: usize, root: Bx, edges: &[i64; 64], m: usize, x: [i64; 4]) -> usize
 }
 
 // Idle: no index may be kept, and the reading must be in Rm; of the boxes that hold it the lowest index.
-fn idle_choice(n: usize, root: Bx, edges: &[i64; 64], m: usize, i: usize, x: [i64; 4]) -> Choice
+fn idle_choice(n: usize, root: Bx, edges: &[i64; EDGES], m: usize, i: usize, x: [i64; 4]) -> Choice
     requires { ⌜ (n ≤ 4) × (m ≤ mostAbove) ⌝ }
     ensures { λ r. ⌜ r ≡ idleChoice n (boxOf n root) (valuesIn m (now (edges .entry))) i x ⌝ }
 {
@@ -73,7 +74,7 @@ fn idle_choice(n: usize, root: Bx, edges: &[i64; 64], m: usize, i: usize, x: [i6
 fn choose_table(
     n: usize,
     root: Bx,
-    edges: &[i64; 64],
+    edges: &[i64; EDGES],
     m: usize,
     st: StartState,
     x: [i64; 4],
@@ -136,7 +137,7 @@ fn call_behind(
 // A call on a chain that was read.
 fn start_call(
     f: Frame,
-    edges: &[i64; 64],
+    edges: &[i64; EDGES],
     coef: &[i64; COEFFICIENTS],
     start: &[u8],
     m: usize,
