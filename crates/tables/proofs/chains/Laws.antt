@@ -29,13 +29,13 @@ use Rattle.meaning.specs.Starts as S
 use Rattle.meaning.specs.Starts.{chainForm, above, chainSide, boxAt, boxBelow, held, onChain, boxRules}
 use Rattle.meaning.specs.Tables.{tableRules}
 use Rattle.promises.specs.files.Files.{file-writes}
-use Rattle.promises.specs.files.Sound.{Sound}
+use Rattle.promises.specs.files.Sound.{Bounded, Sound}
 use Rattle.promises.specs.files.Forms as F
 use Rattle.promises.specs.files.Forms.{Right, values-right, times-right}
 use Rattle.tables.specs.declared.boxes.Bx.{Bx}
 use Rattle.tables.specs.declared.chains.ChainRead.{ChainRead}
 use Rattle.tables.specs.declared.frames.Frame.{Frame}
-use Rattle.tables.specs.Boxes.{boxOf, Bounded, Small}
+use Rattle.tables.specs.Boxes.{boxOf, Small}
 use Rattle.tables.specs.Chains.{mostAbove, mostEdges, edgesAbove, valuesIn, noChain, chainWith, chainValues, chainRead, boxOn, bxAt, bxBelow, frameAt, keeps, FramesSound}
 use Rattle.tables.specs.Frames.{frameOf, rulesIn, FrameSound}
 use Rattle.tables.proofs.boxes.Laws.{small-tab}

@@ -69,7 +69,7 @@ module _ (x : tie.After-read-chain) where
         let s = start good-plant in
         let edged = plant-edged false plant (sound good-plant) f framed s chain was-read kept in
         ap (λ (g : Frame). tablesAt (rulesAt g (chain .edges) (plant .coef)) s (chain .m + 1) 0 (chain .next)) framed
-        ∙ tables-same (rulesAt (frameOf plant) (chain .edges) (plant .coef)) (boxRules plant (kept .vs)) (rules-at plant (sound good-plant .n-high) (chain .edges) (kept .vs) edged) s (chain .m + 1) 0 (chain .next)
+        ∙ tables-same (rulesAt (frameOf plant) (chain .edges) (plant .coef)) (boxRules plant (kept .vs)) (rules-at plant (sound good-plant .ranges .n-high) (chain .edges) (kept .vs) edged) s (chain .m + 1) 0 (chain .next)
         ∙ ap (λ (m : ℕ). tablesAt (boxRules plant (kept .vs)) s (m + 1) 0 (chain .next)) (kept .count)
 
 read-plant-requires : tie.Need-read-plant-requires
@@ -85,7 +85,7 @@ framed-requires : tie.Need-framed-requires
 framed-requires c κs = search needs
 
 read-chain-requires : tie.Need-read-chain-requires
-read-chain-requires c κs = subst (λ (f : Frame). f .n ≤ 4) (sym (c .framed .ensures)) (sound (c .before .before) .n-high)
+read-chain-requires c κs = subst (λ (f : Frame). f .n ≤ 4) (sym (c .framed .ensures)) (sound (c .before .before) .ranges .n-high)
 
 enum-known-kept : tie.Need-enum-known-kept
 enum-known-kept c = search needs

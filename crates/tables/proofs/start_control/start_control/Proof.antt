@@ -82,7 +82,7 @@ framed-requires : tie.Need-framed-requires
 framed-requires c κs = search needs
 
 read-chain-requires : tie.Need-read-chain-requires
-read-chain-requires c κs = subst (λ (f : Frame). f .n ≤ 4) (sym (c .framed .ensures)) (sound (c .before .before) .n-high)
+read-chain-requires c κs = subst (λ (f : Frame). f .n ≤ 4) (sym (c .framed .ensures)) (sound (c .before .before) .ranges .n-high)
 
 enum-known-kept : tie.Need-enum-known-kept
 enum-known-kept c = search needs
@@ -119,7 +119,7 @@ returns-3 c =
     let g = good-plant x in
     let t = kept x (k .enum-told2 .given .1) in
     c .start-call .ensures
-    ∙ answer-as (p g) (sound g .n-high) (chain x .edges) (t .vs) (plant-edged false (p g) (sound g) (f x) (framed x) (start g) (chain x) (was-read x) t) (chain x .m) (t .count) (f x) (framed x) (start g) (chain x .next) (state g) (reading g)
+    ∙ answer-as (p g) (sound g .ranges .n-high) (chain x .edges) (t .vs) (plant-edged false (p g) (sound g) (f x) (framed x) (start g) (chain x) (was-read x) t) (chain x .m) (t .count) (f x) (framed x) (start g) (chain x .next) (state g) (reading g)
     ∙ plant-goes false (p g) (sound g) (f x) (framed x) (start g) (chain x) (was-read x) t StartAnswer.Refused (λ vs next. startCall (p g) vs (start g) next (state g) (reading g))
     ∙ plant-good (plant g) (start g) (state g) (reading g) (p g) (taken g)
 
