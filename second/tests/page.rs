@@ -3,8 +3,10 @@
 //! `PAGE=write cargo test --test page` writes it anew.
 
 mod common;
+mod page_starts;
 
 use common::{encode, file, marked, plant_values, sheet_values, two_room_sheet, two_rooms, with, Field, F, P, Raw, S, U};
+use page_starts::starts;
 use second::boxes::Box;
 use second::checker::check;
 use second::control::{control, State};
@@ -31,6 +33,7 @@ use Rattle.meaning.specs.declared.Tried.{Tried}
 use Rattle.meaning.specs.declared.Verdict.{Verdict}
 use Rattle.meaning.specs.declared.Written.{Written}
 use Rattle.meaning.specs.declared.Answer.{Answer}
+use Rattle.meaning.specs.declared.StartAnswer.{StartAnswer}
 use Rattle.meaning.specs.Refusals.{refusal}
 use Rattle.meaning.specs.Numbers.{numberAt, signedAt}
 use Rattle.meaning.specs.Boxes.{side, children}
@@ -38,6 +41,7 @@ use Rattle.meaning.specs.Images.{image}
 use Rattle.meaning.specs.Plants.{plantOf, numbersOf, plantRead, plantLeft, stepOf}
 use Rattle.meaning.specs.Rules.{rule}
 use Rattle.meaning.specs.Tables.{rulesOf, checked, makerLeft, controlled}
+use Rattle.meaning.specs.Starts.{startChecked, startLeft, startControlled}
 use Rattle.meaning.specs.Sheets.{sheetOf, sheetValues, sheetRead, sheetLeft, madeLeft}
 use Rattle.meaning.specs.Computing.{computing}
 
@@ -488,6 +492,8 @@ fn page() -> String {
     plants(&mut page);
     tables(&mut page);
     sheets(&mut page);
+    starts(&mut page, 1, 1, 2);
+    starts(&mut page, 2, 2, 1);
     page.text
 }
 
