@@ -24,6 +24,7 @@ pub mod search;
 pub mod sheet;
 pub mod sheet_plant;
 pub mod start;
+pub mod start_listing;
 pub mod table;
 pub mod tile;
 

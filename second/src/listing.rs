@@ -12,10 +12,7 @@ use crate::LARGEST_TABLE;
 
 /// What the listing program prints for a plant's file.
 pub fn listing(plant_bytes: &[u8]) -> String {
-    match list(plant_bytes) {
-        Ok(lines) => lines,
-        Err(refusal) => refused_line(&refusal),
-    }
+    list(plant_bytes).unwrap_or_else(|refusal| refused_line(&refusal))
 }
 
 /// "refused", number and place, in one line.
@@ -27,21 +24,26 @@ fn list(plant_bytes: &[u8]) -> Result<String, Refusal> {
     let plant = read_plant(plant_bytes)?;
     let mut table = vec![0; LARGEST_TABLE];
     let length = make(plant_bytes, &mut table)?;
-    let mut file = File::new(&table[..length]);
-    read_header(&plant, &mut file)?;
-    let mut tiles = Tiles { lines: String::new(), count: 0, longest: 0 };
-    tiles.list_box(&plant, &mut file, &plant.r(), plant.d)?;
+    let tiles = Tiles::of(&plant, &plant.r(), File::new(&table[..length]))?;
     Ok(format!("table {} {} {}\n{}", plant.n, tiles.count, tiles.longest, tiles.lines))
 }
 
 /// The tiles listed so far.
-struct Tiles {
-    lines: String,
-    count: usize,
-    longest: usize,
+pub(crate) struct Tiles {
+    pub lines: String,
+    pub count: usize,
+    pub longest: usize,
 }
 
 impl Tiles {
+    /// The tiles of the table that `file` is, whose tree starts at box `root`.
+    pub fn of(plant: &Plant, root: &Box, mut file: File) -> Result<Tiles, Refusal> {
+        read_header(plant, &mut file)?;
+        let mut tiles = Tiles { lines: String::new(), count: 0, longest: 0 };
+        tiles.list_box(plant, &mut file, root, plant.d)?;
+        Ok(tiles)
+    }
+
     fn list_box(
         &mut self,
         plant: &Plant,
@@ -61,10 +63,7 @@ impl Tiles {
     }
 
     fn list_tile(&mut self, tile: &Box, modes: &[u8]) {
-        for side in tile.sides() {
-            self.lines.push_str(&format!("{} {} ", side.lo, side.hi));
-        }
-        self.lines.push(':');
+        self.lines.push_str(&format!("{} :", edges_of(tile)));
         for mode in modes {
             self.lines.push_str(&format!(" {mode}"));
         }
@@ -72,4 +71,10 @@ impl Tiles {
         self.count += 1;
         self.longest = self.longest.max(modes.len());
     }
+}
+
+/// "Lo and hi for each dimension", single blanks between them.
+pub(crate) fn edges_of(of: &Box) -> String {
+    let sides: Vec<String> = of.sides().iter().map(|side| format!("{} {}", side.lo, side.hi)).collect();
+    sides.join(" ")
 }

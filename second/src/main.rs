@@ -1,6 +1,7 @@
 //! The second program's command line, thin over the library: `list` prints
 //! the listing of the plant on standard input; `make`, `check` and `sheet`
-//! work on named files; `drive` answers one controller call for each line
+//! work on named files; `check start` and `list start` take a start file beside
+//! the plant; `drive` answers one controller call for each line
 //! "place left x1 .. xn" on standard input.
 
 use second::checker::check;
@@ -9,11 +10,14 @@ use second::listing::{listing, refused_line};
 use second::maker::make;
 use second::refusal::Refusal;
 use second::sheet::sheet_to_plant;
+use second::start::start_check;
+use second::start_listing::start_listing;
 use second::{LARGEST_PLANT, LARGEST_TABLE};
 use std::io::{self, BufRead, Read};
 use std::process::ExitCode;
 
-const USAGE: &str = "second list < PLANT | make PLANT TABLE | check PLANT TABLE \
+const USAGE: &str = "second list < PLANT | list start PLANT START | make PLANT TABLE \
+                     | check PLANT TABLE | check start PLANT START \
                      | sheet SHEET PLANT | drive PLANT TABLE < CALLS";
 
 fn main() -> ExitCode {
@@ -23,7 +27,9 @@ fn main() -> ExitCode {
         ["list"] => list(),
         ["make", plant, table] => transform(plant, table, LARGEST_TABLE, make),
         ["sheet", sheet, plant] => transform(sheet, plant, LARGEST_PLANT, sheet_to_plant),
-        ["check", plant, table] => check_files(plant, table),
+        ["check", plant, table] => check_files(plant, table, check),
+        ["check", "start", plant, start] => check_files(plant, start, start_check),
+        ["list", "start", plant, start] => list_start(plant, start),
         ["drive", plant, table] => drive(plant, table),
         _ => Err(io::Error::other(USAGE)),
     };
@@ -59,8 +65,18 @@ fn transform(
     tell(answer.map(|_| ()))
 }
 
-fn check_files(plant: &str, table: &str) -> io::Result<()> {
-    tell(check(&std::fs::read(plant)?, &std::fs::read(table)?))
+/// Judges a table or a start file for a plant.
+fn check_files(
+    plant: &str,
+    judged: &str,
+    by: fn(&[u8], &[u8]) -> Result<(), Refusal>,
+) -> io::Result<()> {
+    tell(by(&std::fs::read(plant)?, &std::fs::read(judged)?))
+}
+
+fn list_start(plant: &str, start: &str) -> io::Result<()> {
+    print!("{}", start_listing(&std::fs::read(plant)?, &std::fs::read(start)?));
+    Ok(())
 }
 
 /// Prints what happened, the row's words on standard error.

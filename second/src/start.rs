@@ -119,14 +119,14 @@ pub fn start_control(
 }
 
 /// A start file up to 15.
-fn read_beginning(plant: &Plant, file: &mut File) -> Result<Chain, Refusal> {
+pub(crate) fn read_beginning(plant: &Plant, file: &mut File) -> Result<Chain, Refusal> {
     let chain = Chain::read(plant, file)?;
     chain.judge(plant)?;
     Ok(chain)
 }
 
 /// A byte length, and the table within it: 1, then 3 where it passes the end.
-fn next_table<'a>(file: &mut File<'a>) -> Result<File<'a>, Refusal> {
+pub(crate) fn next_table<'a>(file: &mut File<'a>) -> Result<File<'a>, Refusal> {
     let place = file.place();
     let length = file.unsigned()?;
     file.inner(length).ok_or(Refusal::at(OUT_OF_RANGE, place))
