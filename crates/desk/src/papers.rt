@@ -14,8 +14,8 @@ pub const PLANT: usize = 1_184;
 
 pub const TABLE: usize = 30_044;
 
-// Far more than the 270,476 bytes of the largest.
-pub const START: usize = 1_048_576;
+// More than the 270,476 bytes of the largest.
+pub const START: usize = 300_000;
 
 // A file that was read, how many of its bytes, and whether that is all of it; or not read, which was told.
 pub struct Paper {

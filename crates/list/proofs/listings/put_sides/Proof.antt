@@ -7,10 +7,10 @@ use Rattle.list.proofs.listings.put_sides.Statement.{statement}
 use Rattle.list.proofs.listings.put_sides.Tie as tie
 
 abbrev Inv-loop : tie.InvT-loop
-Inv-loop line₀ n b most at₀ j₀ line at j = (j ≤ most) × (length line ≡ length line₀)
+Inv-loop line₀ from n b most at₀ j₀ line at j = (j ≤ most) × (length line ≡ length line₀)
 
 abbrev μ-loop : tie.MeasureT-loop
-μ-loop line₀ n b most at₀ j₀ line at j = most - j
+μ-loop line₀ from n b most at₀ j₀ line at j = most - j
 
 sides-requires : tie.Need-sides-requires Inv-loop μ-loop
 sides-requires c κs = tt

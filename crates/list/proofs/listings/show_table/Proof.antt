@@ -11,14 +11,14 @@ returns c = search needs
 slice-aggregate-table : tie.Need-slice-aggregate-table
 slice-aggregate-table c = sym (length-take-le _ (c .before .before .before .args .buf .now) (c .before .if1 .left))
 
-tree-requires : tie.Need-tree-requires
-tree-requires c κs = search needs
+walk-requires : tie.Need-walk-requires
+walk-requires c κs = search needs
 
 show-header-requires : tie.Need-show-header-requires
 show-header-requires c κs = search needs
 
-tree-requires-2 : tie.Need-tree-requires-2
-tree-requires-2 c κs = search needs
+walk-requires-2 : tie.Need-walk-requires-2
+walk-requires-2 c κs = search needs
 
 returns-2 : tie.Need-returns-2
 returns-2 c = search needs
@@ -29,7 +29,7 @@ show-table-spec =
     (tie.spec
     returns
     slice-aggregate-table
-    tree-requires
+    walk-requires
     show-header-requires
-    tree-requires-2
+    walk-requires-2
     returns-2)
