@@ -3,6 +3,8 @@
 // there is no table, and whether the table works: that is proved of the definition.
 use crate::boxes;
 use crate::boxes::Bx;
+use crate::frames;
+use crate::frames::Counts;
 use crate::frames::Frame;
 use crate::levels::LONGEST;
 use crate::levels::ROOM;
@@ -15,7 +17,7 @@ ghost use Rattle.laws.specs.Writing.{Put};
 ghost use Rattle.meaning.specs.Plants.{edgeLimit};
 ghost use Rattle.meaning.specs.Trees.{tile, layout};
 ghost use Rattle.tables.specs.Boxes.{boxOf, Small};
-ghost use Rattle.tables.specs.Frames.{rulesIn, FrameSound};
+ghost use Rattle.tables.specs.Frames.{frameFrom, rulesIn, FrameSound};
 ghost use Rattle.tables.specs.Limits.{LimitsLaid};
 ghost use Rattle.tables.specs.Tiles.{longestPattern, patternOf};
 ghost use Rattle.tables.specs.Drafts.{Wrote, treeBytes, definedBytes};
@@ -46,9 +48,11 @@ fn put_tile(buf: &mut [u8], at: usize, k: usize, us: &[usize; LONGEST]) -> usize
     place
 }
 
-// The defined tree of box b with depth d left: a tile of the first pattern, or where there is none a split and the trees of the children.
+// The defined tree of box b with depth d left: a tile of the first pattern, or where there is none a split and the trees of the children. The frame is
+// taken apart, as for the walk: no call copies its boxes, which the limits stand for.
 fn tree(
-    f: Frame,
+    f: Counts,
+    edges: &[[i64; 4]; 8],
     coef: &[i64; COEFFICIENTS],
     limits: &[i64; ROOM],
     d: usize,
@@ -56,8 +60,8 @@ fn tree(
     buf: &mut [u8],
     at: usize,
 ) -> Grown
-    requires { ⌜ LimitsLaid f (now coef) (now limits) × Small edgeLimit (boxOf (f .n) b) ⌝ }
-    ensures { λ r. ⌜ Wrote (treeBytes (rulesIn f (now (coef .entry))) d (boxOf (f .n) b)) (now (buf .entry)) at r (now (buf .exit)) ⌝ }
+    requires { ⌜ LimitsLaid (frameFrom f (now edges)) (now coef) (now limits) × Small edgeLimit (boxOf (f .n) b) ⌝ }
+    ensures { λ r. ⌜ Wrote (treeBytes (rulesIn (frameFrom f (now (edges .entry))) (now (coef .entry))) d (boxOf (f .n) b)) (now (buf .entry)) at r (now (buf .exit)) ⌝ }
 {
     let n = f.n;
     let mut us = [0usize; LONGEST];
@@ -76,7 +80,7 @@ fn tree(
     let mut c: usize = 0;
     while c < count {
         let child = boxes::child(n, b, c);
-        let grown = tree(f, coef, limits, d - 1, child, buf, place);
+        let grown = tree(f, edges, coef, limits, d - 1, child, buf, place);
         let Grown::Next(next) = grown else {
             return Grown::Nothing;
         };
@@ -94,7 +98,17 @@ pub fn table(f: Frame, coef: &[i64; COEFFICIENTS], buf: &mut [u8]) -> Grown
     let laid = limits::lay(f, coef);
     let limits = laid.of;
     let root = f.root;
+    let edges = frames::edges_of(f);
     let past_form = numbers::put_number(buf, 0, 1);
     let past_rooms = numbers::put_number(buf, past_form, f.n);
-    tree(f, coef, &limits, f.d, root, buf, past_rooms)
+    tree(
+        frames::counts_of(f),
+        &edges,
+        coef,
+        &limits,
+        f.d,
+        root,
+        buf,
+        past_rooms,
+    )
 }

@@ -28,6 +28,9 @@ module _ (f : Frame) (c : Counts) (edges : List (List ℤ)) (p : c ≡ countsOf 
   pub lent-sound : (coef : List ℤ) → FrameSound f coef → FrameSound (frameFrom c edges) coef × Small edgeLimit (boxOf (c .n) (f .root))
   lent-sound coef g = rw (p, q) (g, g .root)
 
+  pub lent-is : frameFrom c edges ≡ f
+  lent-is = rw (p, q) refl
+
   pub lent-same : {A : Type 0} (answer : Counts → List (List ℤ) → A) → answer c edges ≡ answer (countsOf f) (edgesOf f)
   lent-same answer = rw (p, q) refl
 

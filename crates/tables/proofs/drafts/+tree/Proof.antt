@@ -17,7 +17,7 @@ use Rattle.meaning.specs.Defined.{firstPattern}
 use Rattle.tables.specs.declared.frames.Frame.{Frame}
 use Rattle.tables.specs.declared.drafts.Grown.{Grown}
 use Rattle.tables.specs.Boxes.{boxOf}
-use Rattle.tables.specs.Frames.{rulesIn}
+use Rattle.tables.specs.Frames.{frameFrom, rulesIn}
 use Rattle.tables.specs.Search.{patternBy}
 use Rattle.tables.specs.Drafts.{Wrote, treeBytes, treesBytes}
 use Rattle.tables.proofs.boxes.Laws.{small-children}
@@ -36,25 +36,25 @@ use Rattle.tables.proofs.search.first.Reads as first-reads
 use Rattle.tables.proofs.drafts.+tree.{statement}
 use Rattle.tables.proofs.drafts.+tree.Tie.{close}
 
-abbrev μ-tree : Measures 3 tree-kinds.ps ℕ
-μ-tree κs a = a .1 .1 .1 .0
+abbrev μ-tree : Measures 4 tree-kinds.ps ℕ
+μ-tree κs a = a .1 .1 .1 .1 .0
 
-abbrev tree-at : ℕ → In 3 tree-kinds.ps
-tree-at t = and 3 tree-kinds.ps (is 3 tree-kinds.ps μ-tree t) tree.Pre
+abbrev tree-at : ℕ → In 4 tree-kinds.ps
+tree-at t = and 4 tree-kinds.ps (is 4 tree-kinds.ps μ-tree t) tree.Pre
 
-abbrev tree-below : ℕ → In 3 tree-kinds.ps
-tree-below t = and 3 tree-kinds.ps (falls 3 tree-kinds.ps _<_ μ-tree t) tree.Pre
+abbrev tree-below : ℕ → In 4 tree-kinds.ps
+tree-below t = and 4 tree-kinds.ps (falls 4 tree-kinds.ps _<_ μ-tree t) tree.Pre
 
 abbrev claims : ℕ → tree-lts.Claims
 claims t = (first-reads.Asked, first-reads.Learnt, put-tile-reads.Asked, put-tile-reads.Learnt, count-reads.Asked, count-reads.Learnt, put-number-reads.Asked, put-number-reads.Learnt, child-reads.Asked, child-reads.Learnt, tree-below t, tree.Post)
 
 abbrev tree-Inv-loop : tree-lts.InvT-loop
-tree-Inv-loop f coef limits d b buf₀ at n size count place₀ c₀ buf place c =
-    (c ≤ count)
-    × Growing buf₀ place₀ (treesBytes (rulesIn f coef) (d - 1) (children (boxOf (f .n) b))) (treesBytes (rulesIn f coef) (d - 1) (drop c (children (boxOf (f .n) b)))) place buf
+tree-Inv-loop f edges coef limits d b buf₀ at n size count place₀ c₀ buf place c =
+    let r = rulesIn (frameFrom f edges) coef in
+    (c ≤ count) × Growing buf₀ place₀ (treesBytes r (d - 1) (children (boxOf (f .n) b))) (treesBytes r (d - 1) (drop c (children (boxOf (f .n) b)))) place buf
 
 abbrev tree-μ-loop : tree-lts.MeasureT-loop
-tree-μ-loop f coef limits d b buf₀ at n size count place₀ c₀ buf place c = count - c
+tree-μ-loop f edges coef limits d b buf₀ at n size count place₀ c₀ buf place c = count - c
 
 -- a call with that much depth: at its start, with a pattern sought, with a split's number written, with a child's tree written
 abbrev Call : ℕ → Type 0
@@ -71,7 +71,7 @@ Child t = tree-lts.After-tree (claims t) (tree-at t) tree.Post tree-Inv-loop tre
 
 module _ (t : ℕ) (s : Call t) where
   abbrev frame : Frame
-  frame = s .args .f
+  frame = frameFrom (s .args .f) (now (s .args .edges))
 
   abbrev coef : List ℤ
   coef = now (s .args .coef)
@@ -120,7 +120,7 @@ module _ (t : ℕ) (w : Child t) where
   done = w .before .before .before .before .loop .c
 
   abbrev left : List ℕ
-  left = w .tree .last .1 .1 .1 .1 .1 .0
+  left = w .tree .last .1 .1 .1 .1 .1 .1 .0
 
   in-count : done < length (children (box t (from t parent)))
   in-count = in-box t parent (w .before .before .before .loop-test .taken)

@@ -1,13 +1,31 @@
--- `drafts::table`: header, then the tree of the box that is tiled. Assumes nothing.
+-- `drafts::table`: header, then the tree of the box that is tiled, by the frame taken apart. Assumes nothing.
+use mathlib.Core.Path.{_≡_, sym, subst}
 use denote.Ref.{now}
 use borrow.Author.Needs.{needs}
-use Rattle.tables.specs.Frames.{rulesIn}
+use Rattle.meaning.specs.Plants.{edgeLimit}
+use Rattle.tables.specs.declared.frames.Frame.{Frame}
+use Rattle.tables.specs.Boxes.{boxOf, Small}
+use Rattle.tables.specs.Drafts.{Wrote, treeBytes}
+use Rattle.tables.specs.Frames.{frameFrom, rulesIn}
+use Rattle.tables.specs.Limits.{LimitsLaid}
+use Rattle.tables.proofs.frames.Laws.{lent-is}
 use Rattle.tables.proofs.drafts.Laws.{table-wrote}
 use Rattle.tables.proofs.drafts.table.Statement.{statement}
 use Rattle.tables.proofs.drafts.table.Tie as tie
 
+-- the frame was taken apart, and is the frame
+module _ (x : tie.After-counts-of) where
+  abbrev from : tie.Start
+  from = x .before .before .before .before .before .before .before .before .before .before .before .before .before .before
+
+  whole : frameFrom (x .counts-of .result) (x .before .before .before .before .before .before .before .before .before .edges-of .result) ≡ from .args .f
+  whole = lent-is (from .args .f) (x .counts-of .result) (x .before .before .before .before .before .before .before .before .before .edges-of .result) (x .counts-of .ensures) (x .before .before .before .before .before .before .before .before .before .edges-of .ensures)
+
 lay-requires : tie.Need-lay-requires
 lay-requires c κs = search needs
+
+edges-of-requires : tie.Need-edges-of-requires
+edges-of-requires c κs = search needs
 
 put-number-requires : tie.Need-put-number-requires
 put-number-requires c κs = search needs
@@ -15,19 +33,36 @@ put-number-requires c κs = search needs
 put-number-requires-2 : tie.Need-put-number-requires-2
 put-number-requires-2 c κs = search needs
 
+counts-of-requires : tie.Need-counts-of-requires
+counts-of-requires c κs = search needs
+
 tree-requires : tie.Need-tree-requires
-tree-requires c κs = search needs
+tree-requires c κs =
+    let x = c .before .before .before in
+    let a = from x .args in
+    subst (λ (f : Frame). LimitsLaid f (now (a .coef)) (x .before .before .before .before .before .before .before .before .before .before .before .before .lay .result .of) × Small edgeLimit (boxOf (f .n) (a .f .root))) (sym (whole x)) (x .before .before .before .before .before .before .before .before .before .before .before .before .lay .ensures, from x .pre .root)
 
 same-length : tie.Need-same-length
 same-length c = search needs
 
 returns : tie.Need-returns
 returns c =
-    let t = c .before .before in
-    let w = t .before .before .before .before .before in
-    let v = w .before .before .before .before in
-    let s = v .before .before .before .before .before .before in
-    table-wrote (rulesIn (s .args .f) (now (s .args .coef))) (v .put-number .ensures) (w .put-number2 .ensures) (t .tree .result) (t .tree .last .1 .1 .1 .1 .1 .0) (t .tree .ensures)
+    let x = c .before .before .before .before .before .before in
+    let a = from x .args in
+    let w = c .before .before .tree in
+    let v = c .before .before .before .before .before .before .before .before .before .put-number2 in
+    table-wrote (rulesIn (a .f) (now (a .coef))) (c .before .before .before .before .before .before .before .before .before .before .before .before .before .put-number .ensures) (v .ensures) (w .result) (w .last .1 .1 .1 .1 .1 .1 .0)
+    (subst (λ (f : Frame). Wrote (treeBytes (rulesIn f (now (a .coef))) (a .f .d) (boxOf (f .n) (a .f .root))) (v .last .0) (v .result) (w .result) (w .last .1 .1 .1 .1 .1 .1 .0)) (whole x) (w .ensures))
 
 pub table-spec : {M : Type 1} → statement M
-table-spec = tie.close (tie.spec lay-requires put-number-requires put-number-requires-2 tree-requires same-length returns)
+table-spec =
+    tie.close
+    (tie.spec
+    lay-requires
+    edges-of-requires
+    put-number-requires
+    put-number-requires-2
+    counts-of-requires
+    tree-requires
+    same-length
+    returns)
