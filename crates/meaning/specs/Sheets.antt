@@ -154,21 +154,6 @@ sumFrom s (g ∷ gs) = sumFrom (add binary64 s g) gs
 abbrev pub lossSum : ℕ → Room → Float
 lossSum n room = sumFrom (room .loss) (tab (exchangeAt room) (n - 1) 0)
 
--- diagonal 1 − time·s; off it time·g_ij, which stands before or behind the gap at j = i
-unfoldable pub coefficient : Sheet → ℕ → ℕ → Float
-coefficient h i j =
-    let room = roomAt h i in
-    let time = h .time in
-    let diagonal = sub binary64 oneF (mul binary64 time (lossSum (h .n) room)) in
-    let off = mul binary64 time (exchangeAt room (cond (ltb j i) j (j - 1))) in
-    cond (eqb i j) diagonal off
-
--- offset c = time·(loss·outside); with a heater on, c + time·(p·water); with a steady one on, c + time·rate
-abbrev pub pushed : Float → Float → Emitter → Float
-pushed c time Emitter.None = c
-pushed c time (Emitter.Heater p water) = add binary64 c (mul binary64 time (mul binary64 p water))
-pushed c time (Emitter.Steady rate) = add binary64 c (mul binary64 time rate)
-
 abbrev pub hasEmitter : Emitter → ℕ
 hasEmitter Emitter.None = 0
 hasEmitter (Emitter.Heater p water) = 1
@@ -182,6 +167,32 @@ emitters h (suc m) = emitters h m + hasEmitter (roomAt h m .emitter)
 -- mode bit t, the lowest being bit 0, switches the t-th room that has an emitter, counted from 0; asked of a room that has none, nothing is switched
 abbrev pub switchedOn : Sheet → ℕ → ℕ → Bool
 switchedOn h u i = eqb (u / 2 ^ emitters h i % 2) 1
+
+-- for a heater that is on, s gains p after the exchanges (request 2026-02); steady emitters stay
+abbrev pub gained : Float → Emitter → Float
+gained s Emitter.None = s
+gained s (Emitter.Heater p water) = add binary64 s p
+gained s (Emitter.Steady rate) = s
+
+abbrev pub fadingSum : Sheet → ℕ → ℕ → Float
+fadingSum h u i =
+    let room = roomAt h i in
+    let s = lossSum (h .n) room in
+    cond (switchedOn h u i) (gained s (room .emitter)) s
+
+-- in mode u: diagonal 1 − time·s; off it time·g_ij, which stands before or behind the gap at j = i
+unfoldable pub coefficient : Sheet → ℕ → ℕ → ℕ → Float
+coefficient h u i j =
+    let time = h .time in
+    let diagonal = sub binary64 oneF (mul binary64 time (fadingSum h u i)) in
+    let off = mul binary64 time (exchangeAt (roomAt h i) (cond (ltb j i) j (j - 1))) in
+    cond (eqb i j) diagonal off
+
+-- offset c = time·(loss·outside); with a heater on, c + time·(p·water); with a steady one on, c + time·rate
+abbrev pub pushed : Float → Float → Emitter → Float
+pushed c time Emitter.None = c
+pushed c time (Emitter.Heater p water) = add binary64 c (mul binary64 time (mul binary64 p water))
+pushed c time (Emitter.Steady rate) = add binary64 c (mul binary64 time rate)
 
 unfoldable pub offset : Sheet → ℕ → ℕ → Float
 offset h u i =
@@ -233,7 +244,7 @@ unitsOf (fin s m e) = signedBy s (m * up e * units / down e)
 -- q·y − (q·a·x + q·r·c) lies in the sheet's band, times the units
 abbrev pub exactRow : Sheet → ℕ → ℕ → Row
 exactRow h u i = record {
-  entries = tab (λ j. pos (h .q) *ℤ unitsOf (coefficient h i j)) (h .n) 0;
+  entries = tab (λ j. pos (h .q) *ℤ unitsOf (coefficient h u i j)) (h .n) 0;
   offset = pos (h .q * h .r) *ℤ unitsOf (offset h u i);
   low = pos units *ℤ at (h .wlo) i;
   high = pos units *ℤ at (h .whi) i;
@@ -252,7 +263,7 @@ madeBand h i =
 -- A is the whole number nearest q·a, b the one nearest q·r·c
 abbrev pub madeRow : Sheet → ℕ → ℕ → List Whole
 madeRow h u i =
-    tab (λ j. wholeOf entryLimit (h .q) (coefficient h i j)) (h .n) 0
+    tab (λ j. wholeOf entryLimit (h .q) (coefficient h u i j)) (h .n) 0
     ++ (wholeOf offsetLimit (h .q * h .r) (offset h u i) ∷ [])
 
 -- N is 2 to the number of rooms that have an emitter

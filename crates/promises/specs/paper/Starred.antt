@@ -1,6 +1,6 @@
--- The starred lines of document 01 ("Readings and tables on both sides"), one statement about the definitions: the checker computes each line.
--- Relies on crates/meaning alone. Lines 10 and 12 are not starred: crates/examples, page Worked, computes them, and the second
--- program's tests run them.
+-- The starred lines of document 01 ("Readings and tables on both sides"), line 13 with the second mode that request 2026-02 gives it, one statement about
+-- the definitions: the checker computes each line. Relies on crates/meaning alone. Lines 10 and 12 are not starred: crates/examples, page Worked, computes
+-- them, and the second program's tests run them.
 use Prim.Native.Nat.{ℕ}
 use mathlib.Core.Path.{_≡_, refl}
 use mathlib.Core.List.{List, [], _∷_, _++_}
@@ -85,7 +85,7 @@ bytes₁₃ =
 abbrev plant₁₃ : List ℤ
 plant₁₃ =
     pos 1 ∷ pos 1 ∷ pos 2 ∷ pos 8 ∷ pos 2 ∷ pos 1 ∷ pos 195 ∷ pos 225 ∷ pos 190 ∷ pos 230 ∷ minus 120 ∷ pos 119
-    ∷ pos 7 ∷ pos 80 ∷ pos 7 ∷ pos 480 ∷ []
+    ∷ pos 7 ∷ pos 80 ∷ pos 6 ∷ pos 480 ∷ []
 
 -- 0.75 and −0.75
 abbrev threeQuarters : Float

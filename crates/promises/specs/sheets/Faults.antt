@@ -293,7 +293,7 @@ numbers-many h few =
     let bands = tabs (madeBand h) n 0 in
     let rows = tabs (λ u. tabs (madeRow h u) n 0) (madeModes h) 0 in
     let header = map (λ v. Whole.Near (pos v)) (1 ∷ n ∷ madeModes h ∷ h .q ∷ h .k ∷ h .d ∷ []) in
-    let row : (u i : ℕ) → length (madeRow h u i) ≡ n + 1 = λ u i. omega (arith, length-append (tab (entryAt h i) n 0) (offsetAt h u i ∷ []), length-tab (entryAt h i) n 0) in
+    let row : (u i : ℕ) → length (madeRow h u i) ≡ n + 1 = λ u i. omega (arith, length-append (tab (entryAt h u i) n 0) (offsetAt h u i ∷ []), length-tab (entryAt h u i) n 0) in
     let mode : (u : ℕ) → length (tabs (madeRow h u) n 0) ≡ (n + 1) * n = λ u. length-tabs (madeRow h u) (n + 1) (row u) n 0 in
     let modes : madeModes h ≤ 16 = pow-mono {j = 4} (omega (arith, emitters-few h n)) in
     let a : n + 1 ≤ 5 = omega arith in

@@ -47,14 +47,14 @@ module _ (h : Sheet) (fit : all (map isNear (madeNumbers h)) ≡ true) where
       let mode : Every Near (tabs (madeRow h u) (h .n) 0) = rw (zero-add u) at (every-tabs-at Near (λ u. tabs (madeRow h u) (h .n) 0) (madeModes h) 0 (ends-and-rows .1) u a) in
       rw (zero-add i) at (every-tabs-at Near (madeRow h u) (h .n) 0 mode i b)
 
-  pub entry-near : (u i j : ℕ) → u < madeModes h → i < h .n → j < h .n → Near (entryAt h i j)
+  pub entry-near : (u i j : ℕ) → u < madeModes h → i < h .n → j < h .n → Near (entryAt h u i j)
   entry-near u i j a b c =
-      let es = every-parts Near (tab (entryAt h i) (h .n) 0) (offsetAt h u i ∷ []) (row-near u i a b) .0 in
-      rw (zero-add j) at (every-tab-at Near (entryAt h i) (h .n) 0 es j c)
+      let es = every-parts Near (tab (entryAt h u i) (h .n) 0) (offsetAt h u i ∷ []) (row-near u i a b) .0 in
+      rw (zero-add j) at (every-tab-at Near (entryAt h u i) (h .n) 0 es j c)
 
   pub offset-near : (u i : ℕ) → u < madeModes h → i < h .n → Near (offsetAt h u i)
   unfolding E.Every
-  offset-near u i a b = every-parts Near (tab (entryAt h i) (h .n) 0) (offsetAt h u i ∷ []) (row-near u i a b) .1 .0
+  offset-near u i a b = every-parts Near (tab (entryAt h u i) (h .n) 0) (offsetAt h u i ∷ []) (row-near u i a b) .1 .0
 
   -- the ends of the band are those of the sheet, made wider
   pub low-is : (i : ℕ) → i < h .n → nearValue (limitedTo bandLimit (at (h .wlo) i -ℤ pos (widening h))) ≡ at (h .wlo) i -ℤ pos (widening h)
@@ -75,8 +75,8 @@ module _ (h : Sheet) (fit : all (map isNear (madeNumbers h)) ≡ true) where
   unfolding E.Every
   high-few i l = limited-near bandLimit (at (h .whi) i +ℤ pos (widening h)) (ends-near i l .1 .0) .1
 
-  pub entry-few : (u i j : ℕ) → u < madeModes h → i < h .n → j < h .n → natAbs (nearValue (entryAt h i j)) ≤ entryLimit
-  entry-few u i j a b c = whole-limit entryLimit (h .q) (coefficient h i j) (nearValue (entryAt h i j)) (near-is (entryAt h i j) (entry-near u i j a b c))
+  pub entry-few : (u i j : ℕ) → u < madeModes h → i < h .n → j < h .n → natAbs (nearValue (entryAt h u i j)) ≤ entryLimit
+  entry-few u i j a b c = whole-limit entryLimit (h .q) (coefficient h u i j) (nearValue (entryAt h u i j)) (near-is (entryAt h u i j) (entry-near u i j a b c))
 
   pub offset-few : (u i : ℕ) → u < madeModes h → i < h .n → natAbs (nearValue (offsetAt h u i)) ≤ offsetLimit
   offset-few u i a b = whole-limit offsetLimit (h .q * h .r) (offset h u i) (nearValue (offsetAt h u i)) (near-is (offsetAt h u i) (offset-near u i a b))

@@ -77,9 +77,9 @@ module _ (h : Sheet) where
 
   row-long : (u i : ℕ) → length (numbersRow u i) ≡ h .n + 1
   row-long u i =
-      let es = tab (λ j. wholeOf entryLimit (h .q) (coefficient h i j)) (h .n) 0 in
+      let es = tab (λ j. wholeOf entryLimit (h .q) (coefficient h u i j)) (h .n) 0 in
       let b = wholeOf offsetLimit (h .q * h .r) (offset h u i) ∷ [] in
-      length-map (es ++ b) nearValue ∙ length-append es b ∙ ap (λ (m : ℕ). m + 1) (length-tab (λ j. wholeOf entryLimit (h .q) (coefficient h i j)) (h .n) 0)
+      length-map (es ++ b) nearValue ∙ length-append es b ∙ ap (λ (m : ℕ). m + 1) (length-tab (λ j. wholeOf entryLimit (h .q) (coefficient h u i j)) (h .n) 0)
 
   mode-long : (u : ℕ) → length (modeRows u) ≡ (h .n + 1) * h .n
   mode-long u = length-tabs (numbersRow u) (h .n + 1) (row-long u) (h .n) 0
@@ -107,23 +107,23 @@ module _ (h : Sheet) where
 
   -- ---- a row of the plant
 
-  abbrev pub entryAt : ℕ → ℕ → Whole
-  entryAt i j = wholeOf entryLimit (h .q) (coefficient h i j)
+  abbrev pub entryAt : ℕ → ℕ → ℕ → Whole
+  entryAt u i j = wholeOf entryLimit (h .q) (coefficient h u i j)
 
   abbrev pub offsetAt : ℕ → ℕ → Whole
   offsetAt u i = wholeOf offsetLimit (h .q * h .r) (offset h u i)
 
-  entry-is : (u i j : ℕ) → j < h .n → at (numbersRow u i) j ≡ nearValue (entryAt i j)
+  entry-is : (u i j : ℕ) → j < h .n → at (numbersRow u i) j ≡ nearValue (entryAt u i j)
   entry-is u i j l =
-      let es = tab (entryAt i) (h .n) 0 in
+      let es = tab (entryAt u i) (h .n) 0 in
       List·getD-map nearValue (es ++ offsetAt u i ∷ []) j (Whole.Near (pos 0))
-      ∙ ap nearValue (List·getD-append es (offsetAt u i ∷ []) (Whole.Near (pos 0)) j (omega (arith, length-tab (entryAt i) (h .n) 0))
-      ∙ getD-tab (entryAt i) (Whole.Near (pos 0)) (h .n) 0 j l ∙ ap (entryAt i) (zero-add j))
+      ∙ ap nearValue (List·getD-append es (offsetAt u i ∷ []) (Whole.Near (pos 0)) j (omega (arith, length-tab (entryAt u i) (h .n) 0))
+      ∙ getD-tab (entryAt u i) (Whole.Near (pos 0)) (h .n) 0 j l ∙ ap (entryAt u i) (zero-add j))
 
   offset-is : (u i : ℕ) → at (numbersRow u i) (h .n) ≡ nearValue (offsetAt u i)
   offset-is u i =
-      let es = tab (entryAt i) (h .n) 0 in
-      let e : h .n ≡ length es + 0 = omega (arith, length-tab (entryAt i) (h .n) 0) in
+      let es = tab (entryAt u i) (h .n) 0 in
+      let e : h .n ≡ length es + 0 = omega (arith, length-tab (entryAt u i) (h .n) 0) in
       List·getD-map nearValue (es ++ offsetAt u i ∷ []) (h .n) (Whole.Near (pos 0))
       ∙ ap nearValue (ap (λ (k : ℕ). getD (es ++ offsetAt u i ∷ []) k (Whole.Near (pos 0))) e ∙ getD-append-add es (offsetAt u i ∷ []) 0 (Whole.Near (pos 0)))
 
@@ -131,7 +131,7 @@ module _ (h : Sheet) where
   end-at j i l k = rw (band-made j l) (padded-at (λ i. at (ends i) j) 4 (h .n) i k)
 
   pub row-made : (u i : ℕ) → u < madeModes h → i < h .n → rowOf (madePlant h) u i ≡ record {
-    entries = tab (λ j. nearValue (entryAt i j)) (h .n) 0;
+    entries = tab (λ j. nearValue (entryAt u i j)) (h .n) 0;
     offset = nearValue (offsetAt u i);
     low = nearValue (limitedTo bandLimit (at (h .wlo) i -ℤ pos (widening h)));
     high = nearValue (limitedTo bandLimit (at (h .whi) i +ℤ pos (widening h)));
@@ -140,8 +140,8 @@ module _ (h : Sheet) where
   row-made u i a b =
       let n = h .n in
       let c = madePlant h .coef in
-      let e : tab (λ j. at c (rowStart n u i + j)) n 0 ≡ tab (λ j. nearValue (entryAt i j)) n 0 =
-      tab-same (λ j. at c (rowStart n u i + j)) (λ j. nearValue (entryAt i j)) n 0 (λ j x y. coef-made u i j a b (omega arith) ∙ entry-is u i j (omega arith)) in
+      let e : tab (λ j. at c (rowStart n u i + j)) n 0 ≡ tab (λ j. nearValue (entryAt u i j)) n 0 =
+      tab-same (λ j. at c (rowStart n u i + j)) (λ j. nearValue (entryAt u i j)) n 0 (λ j x y. coef-made u i j a b (omega arith) ∙ entry-is u i j (omega arith)) in
       same e (coef-made u i n a b (le-refl n) ∙ offset-is u i) (end-at 0 i (omega arith) b) (end-at 1 i (omega arith) b)
     where
       same : {es es′ : List ℤ} {b b′ l l′ g g′ : ℤ} → es ≡ es′ → b ≡ b′ → l ≡ l′ → g ≡ g′

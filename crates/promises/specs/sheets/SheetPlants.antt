@@ -75,10 +75,10 @@ module _ (h : Sheet) (s : SoundSheet h) where
   row-pass : (u i : ℕ) → u < madeModes h → i < h .n → (rest : Form) (vs : List ℤ) → Passes rest vs → Passes (row (h .n) rest) (numbersRow h u i ++ vs)
   unfolding P.row
   row-pass u i a b rest vs p =
-      let f : ℕ → ℤ = λ j. nearValue (entryAt h i j) in
+      let f : ℕ → ℤ = λ j. nearValue (entryAt h u i j) in
       let o = nearValue (offsetAt h u i) in
       let e : numbersRow h u i ≡ tabs (λ j. f j ∷ []) (h .n) 0 ++ o ∷ [] =
-      map-append nearValue (tab (entryAt h i) (h .n) 0) (offsetAt h u i ∷ []) ∙ rw (map-tab nearValue (entryAt h i) (h .n) 0, tab-tabs f (h .n) 0) refl in
+      map-append nearValue (tab (entryAt h u i) (h .n) 0) (offsetAt h u i ∷ []) ∙ rw (map-tab nearValue (entryAt h u i) (h .n) 0, tab-tabs f (h .n) 0) refl in
       rw (e, append-assoc (tabs (λ j. f j ∷ []) (h .n) 0) (o ∷ []) vs)
       (times-each Passes (limited entryLimit) (λ j. f j ∷ []) (h .n) 0 (limited offsetLimit rest) (o ∷ vs)
       (λ j c d rest vs q. limited-passes entryLimit (omega arith) rest (f j) vs (entry-few h (s .fit) u i j a b (omega arith)) q)

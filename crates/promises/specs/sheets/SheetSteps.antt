@@ -31,7 +31,7 @@ use Rattle.meaning.specs.Images.{Row, reached, reachedAll, follows}
 use Rattle.meaning.specs.Plants as P
 use Rattle.meaning.specs.Plants.{entryLimit, offsetLimit, rowOf, stepOf}
 use Rattle.meaning.specs.Sheets as S
-use Rattle.meaning.specs.Sheets.{roomAt, lossSum, oneF, coefficient, pushed, switchedOn, offset, wholeOf, largestEdge, widening, units, unitsOf, exactRow, exactStep, madeModes, madeNumbers, isNear, nearValue, madePlant, safeSheet, sheetForm, sheetJudged}
+use Rattle.meaning.specs.Sheets.{roomAt, fadingSum, oneF, coefficient, pushed, switchedOn, offset, wholeOf, largestEdge, widening, units, unitsOf, exactRow, exactStep, madeModes, madeNumbers, isNear, nearValue, madePlant, safeSheet, sheetForm, sheetJudged}
 use Rattle.promises.specs.sheets.Nearest.{Nearest, whole-nearest}
 use Rattle.promises.specs.files.Related.{good-sheet}
 use Rattle.promises.specs.sheets.SheetNear.{Near, near-is, entry-near, offset-near, low-is, high-is}
@@ -41,11 +41,10 @@ use Rattle.promises.specs.sheets.Widening.{Close, Halves, widely, widene
 
 -- ---- the floats are results of operations
 
-pub coefficient-held : (h : Sheet) (i j : ℕ) → T (fits binary64 (coefficient h i j))
+pub coefficient-held : (h : Sheet) (u i j : ℕ) → T (fits binary64 (coefficient h u i j))
 unfolding S.coefficient
-coefficient-held h i j =
-    let room = roomAt h i in
-    cond-fits binary64 (eqb i j) _ _ (sub-fits binary64 oneF (mul binary64 (h .time) (lossSum (h .n) room))) (mul-fits binary64 (h .time) _)
+coefficient-held h u i j =
+    cond-fits binary64 (eqb i j) _ _ (sub-fits binary64 oneF (mul binary64 (h .time) (fadingSum h u i))) (mul-fits binary64 (h .time) _)
 
 pushed-held : (c time : Float) (e : Emitter) → T (fits binary64 c) → T (fits binary64 (pushed c time e))
 pushed-held c time Emitter.None t = t
@@ -126,10 +125,10 @@ row-kept : (h : Sheet) → all (map isNear (madeNumbers h)) ≡ true → (u i : 
     → (x : List ℤ) → Every (λ z. natAbs z ≤ largestEdge h (h .n)) x → (y : ℤ)
     → reached (h .q * units) x (exactRow h u i) y ≡ true → reached (h .q) x (rowOf (madePlant h) u i) y ≡ true
 row-kept h fit u i a b x few y e =
-    let f : ℕ → ℤ = λ j. nearValue (entryAt h i j) in
-    let g : ℕ → ℤ = λ j. pos (h .q) *ℤ unitsOf (coefficient h i j) in
+    let f : ℕ → ℤ = λ j. nearValue (entryAt h u i j) in
+    let g : ℕ → ℤ = λ j. pos (h .q) *ℤ unitsOf (coefficient h u i j) in
     let near : Halves units (tab f (h .n) 0) (tab g (h .n) 0) =
-    halves-tab units f g (h .n) 0 (λ j c d. whole-close entryLimit (h .q) (coefficient h i j) (coefficient-held h i j) (entry-near h fit u i j a b (omega arith))) in
+    halves-tab units f g (h .n) 0 (λ j c d. whole-close entryLimit (h .q) (coefficient h u i j) (coefficient-held h u i j) (entry-near h fit u i j a b (omega arith))) in
     let offset-close = whole-close offsetLimit (h .q * h .r) (offset h u i) (offset-held h u i) (offset-near h fit u i a b) in
     let row : rowOf (madePlant h) u i ≡ widely units (widening h) (tab f (h .n) 0) (nearValue (offsetAt h u i)) (at (h .wlo) i) (at (h .whi) i) =
     row-made h u i a b ∙ rw (low-is h fit i b, high-is h fit i b) refl in
