@@ -20,7 +20,7 @@ entryAt h p =
     let j = p % (h .n + 1) in
     let i = p / (h .n + 1) % h .n in
     let u = p / (h .n + 1) / h .n in
-    cond (ltb j (h .n)) (wholeOf entryLimit (h .q) (coefficient h i j)) (wholeOf offsetLimit (h .q * h .r) (offset h u i))
+    cond (ltb j (h .n)) (wholeOf entryLimit (h .q) (coefficient h u i j)) (wholeOf offsetLimit (h .q * h .r) (offset h u i))
 
 abbrev pub entriesOf : Sheet → ℕ → Entries
 entriesOf h count = record { first = firstOut (tab (entryAt h) count 0); coef = held mostCoefs (entryAt h) count }

@@ -12,24 +12,27 @@ ghost use Prim.Native.Nat.{_≤_};
 ghost use Rattle.meaning.specs.Sheets.{madeModes};
 ghost use Rattle.meaning.specs.Plants.{mostCoefs};
 ghost use Rattle.sheets.specs.Sizes.{Sized};
+ghost use Rattle.sheets.specs.Equations.{sumsOf, bitsOf};
 ghost use Rattle.sheets.specs.Made.{entryAt, entriesOf, madeOf};
 
-// The p-th coefficient of the plant: row by row, mode by mode, n entries of A and b each.
-fn entry(h: Sheet, p: usize) -> Whole
-    requires { ⌜ Sized h ⌝ }
+// The p-th coefficient of the plant: row by row, mode by mode, n entries of A and b each. The sums and bits of the rooms are handed over.
+fn entry(h: Sheet, sums: [f64; 4], bits: [usize; 4], p: usize) -> Whole
+    requires { ⌜ Sized h ⌝ ∗ ⌜ sums ≡ sumsOf h ⌝ ∗ ⌜ bits ≡ bitsOf h ⌝ }
     ensures { λ r. ⌜ r ≡ entryAt h p ⌝ }
 {
     let j = p % (h.n + 1);
     let row = p / (h.n + 1);
     let i = row % h.n;
+    let u = row / h.n;
+    let bit = bits[i];
     if j < h.n {
-        return wholes::whole(20_000, h.q, equations::coefficient(h, i, j));
+        return wholes::whole(
+            20_000,
+            h.q,
+            equations::coefficient(h, sums[i], bit, u, i, j),
+        );
     }
-    wholes::whole(
-        10_000_000_000,
-        h.q * h.r,
-        equations::offset(h, row / h.n, i),
-    )
+    wholes::whole(10_000_000_000, h.q * h.r, equations::offset(h, bit, u, i))
 }
 
 // The coefficients: which is the first that is out (their count where none is), and what the plant holds of them, zeros behind them and
@@ -43,11 +46,13 @@ fn coefficients(h: Sheet, count: usize) -> Entries
     requires { ⌜ Sized h ⌝ ∗ ⌜ count ≤ mostCoefs ⌝ }
     ensures { λ r. ⌜ r ≡ entriesOf h count ⌝ }
 {
+    let sums = equations::loss_sums(h);
+    let bits = equations::bits(h);
     let mut coef = [0i64; COEFFICIENTS];
     let mut first: usize = 0;
     let mut p: usize = 0;
     while p < count {
-        let w = entry(h, p);
+        let w = entry(h, sums, bits, p);
         coef[p] = wholes::value(w);
         first = wholes::joined_one(first, p, w);
         p += 1;

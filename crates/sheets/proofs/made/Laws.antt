@@ -5,12 +5,13 @@ use mathlib.Core.Path.{_≡_, refl, sym, ap, _∙_, subst}
 use mathlib.Core.Bool.{cond}
 use mathlib.Core.List.{List, [], _∷_, _++_}
 use native.Mathlib.Omega.{arith}
-use native.Mathlib.Nat.{le-trans, zero-add, add-zero, mul-comm, mul-assoc, mul-add, mul-le-mul, one-le-mul, mod-eq-of-lt, div-eq-of-lt, mul-add-div, mul-add-mod-self-left}
+use native.Mathlib.Nat.{le-trans, lt-of-lt-of-le, mod-lt, zero-add, add-zero, mul-comm, mul-assoc, mul-add, mul-le-mul, one-le-mul, mod-eq-of-lt, div-eq-of-lt, mul-add-div, mul-add-mod-self-left}
 use borrow.Author.Tests.{lt-ltb, le-ltb}
 use lib.Dec.{ltb}
 use lib.Pow.{pow-mono}
 use lib.ListN.{set, replicate}
 use lib.IntN.{ℤ, pos}
+use lib.Ieee.{Float}
 use Rattle.laws.specs.Lists.{tab, tabs, firstFalse}
 use Rattle.laws.specs.Tabs.{length-tab, tab-snoc}
 use Rattle.laws.specs.Columns.{tabs-tab}
@@ -29,13 +30,22 @@ use Rattle.sheets.proofs.wholes.Counts.{joined-one, Holding, holding-no
 -- ---- what the code reads of a place: an entry of A, or b
 
 module _ (h : Sheet) (p : ℕ) where
-  pub entry-is : p % (h .n + 1) < h .n → wholeOf entryLimit (h .q) (coefficient h (p / (h .n + 1) % h .n) (p % (h .n + 1))) ≡ entryAt h p
+  pub entry-is : p % (h .n + 1) < h .n → (x : Float) → x ≡ coefficient h (p / (h .n + 1) / h .n) (p / (h .n + 1) % h .n) (p % (h .n + 1))
+      → wholeOf entryLimit (h .q) x ≡ entryAt h p
   unfolding entryAt
-  entry-is l = simp (lt-ltb (p % (h .n + 1)) (h .n) l)
+  entry-is l x e = rw e (simp (lt-ltb (p % (h .n + 1)) (h .n) l))
 
-  pub offset-is : h .n ≤ p % (h .n + 1) → wholeOf offsetLimit (h .q * h .r) (offset h (p / (h .n + 1) / h .n) (p / (h .n + 1) % h .n)) ≡ entryAt h p
+  pub offset-is : h .n ≤ p % (h .n + 1) → (x : Float) → x ≡ offset h (p / (h .n + 1) / h .n) (p / (h .n + 1) % h .n)
+      → wholeOf offsetLimit (h .q * h .r) x ≡ entryAt h p
   unfolding entryAt
-  offset-is l = simp (le-ltb (p % (h .n + 1)) (h .n) l)
+  offset-is l x e = rw e (simp (le-ltb (p % (h .n + 1)) (h .n) l))
+
+  -- the row in its mode
+  pub row-below : Sized h → p / (h .n + 1) % h .n < h .n
+  row-below s = mod-lt (p / (h .n + 1)) (s .some)
+
+  pub row-small : Sized h → p / (h .n + 1) % h .n < 4
+  row-small s = lt-of-lt-of-le (row-below s) (s .few)
 
 -- ---- entries that are those of g, `base` further on
 
@@ -71,11 +81,11 @@ module _ (h : Sheet) (some : 1 ≤ h .n) (u i : ℕ) (inside : i < h .n) where
         let wide : 0 < h .n + 1 = omega arith in
         mul-add-div wide row j ∙ ap (λ (k : ℕ). row + k) (div-eq-of-lt narrow) ∙ add-zero row
 
-    at-place : entryAt h ((h .n + 1) * row + j) ≡ cond (ltb j (h .n)) (wholeOf entryLimit (h .q) (coefficient h i j)) (wholeOf offsetLimit (h .q * h .r) (offset h u i))
+    at-place : entryAt h ((h .n + 1) * row + j) ≡ cond (ltb j (h .n)) (wholeOf entryLimit (h .q) (coefficient h u i j)) (wholeOf offsetLimit (h .q * h .r) (offset h u i))
     unfolding entryAt
     at-place = rw (place-mod, place-div, row-mod, row-div) refl
 
-  entry-place : (j : ℕ) → j < h .n → wholeOf entryLimit (h .q) (coefficient h i j) ≡ entryAt h ((h .n + 1) * row + j)
+  entry-place : (j : ℕ) → j < h .n → wholeOf entryLimit (h .q) (coefficient h u i j) ≡ entryAt h ((h .n + 1) * row + j)
   entry-place j l = rw (at-place j (omega arith)) (simp (lt-ltb j (h .n) l))
 
   offset-place : wholeOf offsetLimit (h .q * h .r) (offset h u i) ≡ entryAt h ((h .n + 1) * row + h .n)
@@ -83,7 +93,7 @@ module _ (h : Sheet) (some : 1 ≤ h .n) (u i : ℕ) (inside : i < h .n) where
 
   row-is : madeRow h u i ≡ tab (entryAt h) (h .n + 1) ((h .n + 1) * row)
   row-is =
-      rw (tab-shift (λ j. wholeOf entryLimit (h .q) (coefficient h i j)) (entryAt h) ((h .n + 1) * row) (h .n) entry-place, offset-place)
+      rw (tab-shift (λ j. wholeOf entryLimit (h .q) (coefficient h u i j)) (entryAt h) ((h .n + 1) * row) (h .n) entry-place, offset-place)
       (sym (tab-snoc (entryAt h) (h .n) ((h .n + 1) * row)))
 
 -- ---- all of them are the rows of all modes

@@ -1,38 +1,35 @@
--- `equations::offset`: the mode's bit of the room, found by counting the emitters before it. Assumes nothing.
+-- `equations::offset`, the room's emitter being on or not. Assumes nothing.
 use mathlib.Core.Path.{sym, _∙_}
 use native.Mathlib.Omega.{arith}
 use borrow.Author.Needs.{needs}
-use Rattle.sheets.proofs.equations.Laws.{bit-small, switched, unswitched}
+use Rattle.sheets.proofs.equations.Laws.{bit-small, pushed-offset, plain-offset}
 use Rattle.sheets.proofs.equations.offset.Statement.{statement}
 use Rattle.sheets.proofs.equations.offset.Tie as tie
 
 room-of-requires : tie.Need-room-of-requires
 room-of-requires c κs = search needs
 
-emitters-requires : tie.Need-emitters-requires
-emitters-requires c κs = search needs
-
-shr-if1 : tie.Need-shr-if1
-shr-if1 c = bit-small _ _ _ (c .emitters .ensures) (omega arith)
+switched-requires : tie.Need-switched-requires
+switched-requires c κs = let s = c .before .before .before .before in bit-small (s .args .h) (s .args .i) (s .args .bit) (s .pre .1) (omega arith)
 
 pushed-requires : tie.Need-pushed-requires
 pushed-requires c κs = search needs
 
 returns : tie.Need-returns
 returns c =
-    let l = c .before .before in
-    let a = l .before .before .before .before .before .args in
-    let e = l .emitters .ensures in
-    c .pushed .ensures ∙ rw (l .before .before .before .before .room-of .ensures) (sym (switched (a .h) (a .u) (a .i) (rw e at (c .before .if1 .taken))))
+    let w = c .before .before in
+    let s = w .before .before .before .before .before in
+    let a = s .args in
+    let set = rw (s .pre .1) at (sym (w .switched .ensures) ∙ c .before .if1 .taken) in
+    c .pushed .ensures ∙ rw (w .before .before .before .before .room-of .ensures) (sym (pushed-offset (a .h) (a .u) (a .i) set))
 
 returns-2 : tie.Need-returns-2
 returns-2 c =
-    let l = c .before in
-    let a = l .before .before .before .before .before .args in
-    let e = l .emitters .ensures in
-    rw (l .before .before .before .before .room-of .ensures) (sym (unswitched (a .h) (a .u) (a .i) (rw e at (c .if1 .left))))
+    let w = c .before in
+    let s = w .before .before .before .before .before in
+    let a = s .args in
+    let unset = rw (s .pre .1) at (sym (w .switched .ensures) ∙ c .if1 .left) in
+    rw (w .before .before .before .before .room-of .ensures) (sym (plain-offset (a .h) (a .u) (a .i) unset))
 
 pub offset-spec : {M : Type 1} → statement M
-offset-spec =
-    tie.close
-    (tie.spec room-of-requires emitters-requires shr-if1 pushed-requires returns returns-2)
+offset-spec = tie.close (tie.spec room-of-requires switched-requires pushed-requires returns returns-2)

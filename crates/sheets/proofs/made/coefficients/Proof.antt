@@ -12,16 +12,22 @@ use Rattle.sheets.proofs.made.coefficients.Statement.{statement}
 use Rattle.sheets.proofs.made.coefficients.Tie as tie
 
 abbrev Inv-loop : tie.InvT-loop
-Inv-loop h count coef₀ first₀ p₀ coef first p = EntriesUpTo h count p coef first
+Inv-loop h count sums bits coef₀ first₀ p₀ coef first p = EntriesUpTo h count p coef first
 
 abbrev μ-loop : tie.MeasureT-loop
-μ-loop h count coef₀ first₀ p₀ coef first p = count - p
+μ-loop h count sums bits coef₀ first₀ p₀ coef first p = count - p
+
+loss-sums-requires : tie.Need-loss-sums-requires Inv-loop μ-loop
+loss-sums-requires c κs = let s = c .pre .0 in (s .some, s .few)
+
+bits-requires : tie.Need-bits-requires Inv-loop μ-loop
+bits-requires c κs = c .before .pre .0 .few
 
 loop-holds : tie.Need-loop-holds Inv-loop μ-loop
-loop-holds c = entries-none (c .args .h) (c .args .count)
+loop-holds c = let a = c .before .before .args in entries-none (a .h) (a .count)
 
 entry-requires : tie.Need-entry-requires Inv-loop μ-loop
-entry-requires c κs = c .before .before .pre .0
+entry-requires c κs = let l = c .before .before in (l .before .before .pre .0, (l .before .loss-sums .ensures, l .bits .ensures))
 
 value-requires : tie.Need-value-requires Inv-loop μ-loop
 value-requires c κs = tt
@@ -49,10 +55,10 @@ loop-again c =
     let v = c .before .value in
     let stored = toZ-ofZ (ok64 (v .result) (v .ok)) ∙ v .ensures ∙ ap nearValue w in
     let out = c .joined-one .ensures ∙ ap (λ (w : Whole). joined (l .loop .first) p (near w)) w in
-    rw (stored, out) (entries-more (l .loop .inv) (omega arith) (l .before .pre .1))
+    rw (stored, out) (entries-more (l .loop .inv) (omega arith) (l .before .before .before .pre .1))
 
 returns : tie.Need-returns Inv-loop μ-loop
-returns c = let l = c .before in entries-all (l .loop .inv) (omega arith) (l .before .pre .1)
+returns c = let l = c .before in entries-all (l .loop .inv) (omega arith) (l .before .before .before .pre .1)
 
 pub coefficients-spec : {M : Type 1} → statement M
 coefficients-spec =
@@ -60,6 +66,8 @@ coefficients-spec =
     (tie.spec
     Inv-loop
     μ-loop
+    loss-sums-requires
+    bits-requires
     loop-holds
     entry-requires
     value-requires

@@ -1,12 +1,9 @@
 -- `made::entry` goes by the column: an entry of A, or b. Assumes nothing.
-use Prim.Native.Nat.{_*_}
-use mathlib.Core.Path.{ap, _∙_}
+use mathlib.Core.Path.{_∙_}
 use native.Mathlib.Omega.{arith}
-use native.Mathlib.Nat.{mod-lt, lt-of-lt-of-le}
 use borrow.Author.Needs.{needs}
-use Rattle.meaning.specs.Plants.{entryLimit, offsetLimit}
-use Rattle.meaning.specs.Sheets.{wholeOf}
-use Rattle.sheets.proofs.made.Laws.{entry-is, offset-is, scaled}
+use Rattle.sheets.proofs.equations.Laws.{sum-read, bit-read}
+use Rattle.sheets.proofs.made.Laws.{entry-is, offset-is, row-below, row-small, scaled}
 use Rattle.sheets.proofs.made.entry.Statement.{statement}
 use Rattle.sheets.proofs.made.entry.Tie as tie
 
@@ -25,8 +22,28 @@ div-row c = search needs
 rem-i : tie.Need-rem-i
 rem-i c = search needs
 
+div-u : tie.Need-div-u
+div-u c = search needs
+
+mul-bit : tie.Need-mul-bit
+mul-bit c = let t = c .before .before .before .before in omega (arith, row-small (t .args .h) (t .args .p) (t .pre .0))
+
+array-read-bit : tie.Need-array-read-bit
+array-read-bit c = let t = c .before .before .before .before in row-small (t .args .h) (t .args .p) (t .pre .0)
+
+mul-coefficient : tie.Need-mul-coefficient
+mul-coefficient c = let t = c .before .before .before .before .before .before in omega (arith, row-small (t .args .h) (t .args .p) (t .pre .0))
+
+array-read-coefficient : tie.Need-array-read-coefficient
+array-read-coefficient c = let t = c .before .before .before .before .before .before in row-small (t .args .h) (t .args .p) (t .pre .0)
+
 coefficient-requires : tie.Need-coefficient-requires
-coefficient-requires c κs = let s = c .before .before .before .before .before in (s .pre .few, (mod-lt _ (s .pre .some), c .if1 .taken))
+coefficient-requires c κs =
+    let t = c .before .before .before .before .before .before in
+    let h = t .args .h in
+    let few = t .pre .0 .few in
+    let inside = row-below h (t .args .p) (t .pre .0) in
+    (few, (inside, (c .if1 .taken, (sum-read h few _ inside _ (t .pre .1 .0) _, bit-read h few _ inside _ (t .pre .1 .1) _))))
 
 whole-requires : tie.Need-whole-requires
 whole-requires c κs = search needs
@@ -34,29 +51,30 @@ whole-requires c κs = search needs
 returns : tie.Need-returns
 returns c =
     let t = c .before .before in
-    let a = t .before .before .before .before .before .args in
-    c .whole .ensures ∙ ap (wholeOf entryLimit (a .h .q)) (c .before .coefficient .ensures) ∙ entry-is (a .h) (a .p) (t .if1 .taken)
+    let a = t .before .before .before .before .before .before .args in
+    c .whole .ensures ∙ entry-is (a .h) (a .p) (t .if1 .taken) _ (c .before .coefficient .ensures)
 
 mul-whole : tie.Need-mul-whole
-mul-whole c = let s = c .before .before .before .before .before .before in omega (arith, scaled (s .args .h) (s .pre))
-
-div-offset : tie.Need-div-offset
-div-offset c = search needs
+mul-whole c = let t = c .before .before .before .before .before .before .before in omega (arith, scaled (t .args .h) (t .pre .0))
 
 offset-requires : tie.Need-offset-requires
-offset-requires c κs = let s = c .before .before .before .before .before .before .before in lt-of-lt-of-le (mod-lt _ (s .pre .some)) (s .pre .few)
+offset-requires c κs =
+    let t = c .before .before .before .before .before .before .before in
+    let h = t .args .h in
+    let p = t .args .p in
+    (row-small h p (t .pre .0), bit-read h (t .pre .0 .few) _ (row-below h p (t .pre .0)) _ (t .pre .1 .1) _)
 
 whole-requires-2 : tie.Need-whole-requires-2
 whole-requires-2 c κs =
-    let s = c .before .before .before .before .before .before .before .before in
-    let k = scaled (s .args .h) (s .pre) in
+    let t = c .before .before .before .before .before .before .before .before in
+    let k = scaled (t .args .h) (t .pre .0) in
     (k .0, (k .1, omega arith))
 
 returns-2 : tie.Need-returns-2
 returns-2 c =
-    let t = c .before .before .before .before in
-    let a = t .before .before .before .before .before .args in
-    c .whole2 .ensures ∙ ap (wholeOf offsetLimit (a .h .q * a .h .r)) (c .before .offset .ensures) ∙ offset-is (a .h) (a .p) (t .if1 .left)
+    let t = c .before .before .before in
+    let a = t .before .before .before .before .before .before .args in
+    c .whole2 .ensures ∙ offset-is (a .h) (a .p) (t .if1 .left) _ (c .before .offset .ensures)
 
 pub entry-spec : {M : Type 1} → statement M
 entry-spec =
@@ -67,11 +85,15 @@ entry-spec =
     add-row
     div-row
     rem-i
+    div-u
+    mul-bit
+    array-read-bit
+    mul-coefficient
+    array-read-coefficient
     coefficient-requires
     whole-requires
     returns
     mul-whole
-    div-offset
     offset-requires
     whole-requires-2
     returns-2)
