@@ -1,8 +1,9 @@
 //! The independent second program of document 01 ("What the build includes
 //! and its rules"): plants, sheets, the table maker, the table checker, the
-//! controller and the listing, and of document 02's request 2026-03, start
-//! files for cold rooms. Written from those papers and from the readings of
-//! their open words alone. One module per subject, named in the papers' words.
+//! controller and the listing, and of document 02's requests 2026-02, heaters
+//! that fade as the room warms, and 2026-03, start files for cold rooms. Written
+//! from those papers and from the readings of their open words alone. One module
+//! per subject, named in the papers' words.
 
 #![forbid(unsafe_code)]
 

@@ -4,7 +4,9 @@
 //! time*(p*water); with a steady one on, c + time*rate. Mode bit t ...
 //! switches the t-th room that has an emitter ... Each dimension's band is
 //! widened by the ceiling of (n*M + 1)/2 at each end, M the largest absolute
-//! edge of S." 14: "which number of the plant file, its form being 0".
+//! edge of S." 14: "which number of the plant file, its form being 0". And
+//! request 2026-02: "For a heater that is on, s gains p after the exchanges, so
+//! A depends on the mode. Steady emitters stay."
 
 use crate::edges::{Edges, BAND_LIMIT};
 use crate::nearest::nearest;
@@ -63,7 +65,7 @@ fn fill_row(sheet: &Sheet, mode: usize, i: usize, plant: &mut Plant) -> Result<(
     let q = sheet.q as u32;
     for j in 0..=n {
         let whole = if j < n {
-            within(nearest(q, step_entry(sheet, i, j)), A_LIMIT)
+            within(nearest(q, step_entry(sheet, mode, i, j)), A_LIMIT)
         } else {
             within(nearest(q * sheet.r as u32, step_offset(sheet, mode, i)), B_LIMIT)
         };
@@ -79,8 +81,14 @@ fn within(whole: Option<i128>, limit: i64) -> Option<i64> {
     (-limit..=limit).contains(&whole).then_some(whole)
 }
 
-/// The float a_ij: the diagonal 1 - time*s, off it time*g_ij.
-fn step_entry(sheet: &Sheet, i: usize, j: usize) -> f64 {
+/// The emitter of room i where the mode switches it on, else none.
+fn emitter_on(sheet: &Sheet, mode: usize, i: usize) -> Emitter {
+    let bit = sheet.rooms[..i].iter().filter(|room| has_emitter(room)).count();
+    if mode >> bit & 1 == 1 { sheet.rooms[i].emitter } else { Emitter::None }
+}
+
+/// The float a_ij in a mode: the diagonal 1 - time*s, off it time*g_ij.
+fn step_entry(sheet: &Sheet, mode: usize, i: usize, j: usize) -> f64 {
     let room = &sheet.rooms[i];
     if j != i {
         let packed = if j < i { j } else { j - 1 };
@@ -90,18 +98,16 @@ fn step_entry(sheet: &Sheet, i: usize, j: usize) -> f64 {
     for exchange in &room.exchange[..sheet.room_count() - 1] {
         s += exchange;
     }
+    if let Emitter::Heater { p, .. } = emitter_on(sheet, mode, i) {
+        s += p;
+    }
     1.0 - sheet.time * s
 }
 
 /// The float c_i in a mode.
 fn step_offset(sheet: &Sheet, mode: usize, i: usize) -> f64 {
-    let room = &sheet.rooms[i];
-    let c = sheet.time * (room.loss * sheet.outside);
-    let bit = sheet.rooms[..i].iter().filter(|room| has_emitter(room)).count();
-    if mode >> bit & 1 == 0 {
-        return c;
-    }
-    match room.emitter {
+    let c = sheet.time * (sheet.rooms[i].loss * sheet.outside);
+    match emitter_on(sheet, mode, i) {
         Emitter::None => c,
         Emitter::Heater { p, water } => c + sheet.time * (p * water),
         Emitter::Steady { rate } => c + sheet.time * rate,

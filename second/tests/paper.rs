@@ -153,7 +153,7 @@ fn line_13_of_the_paper() {
     let sheet = read_sheet(&bytes).expect("a sheet");
     assert_eq!(sheet, sheet_values(&line_13(), 1));
     let mut expected = vec![U(1), U(1), U(2), U(8), U(2), U(1)];
-    expected.extend([195, 225, 190, 230, -120, 119, 7, 80, 7, 480].map(S));
+    expected.extend([195, 225, 190, 230, -120, 119, 7, 80, 6, 480].map(S));
     assert_eq!(plant_of_sheet(&sheet), Ok(plant_values(&expected, 1)));
     let expected = file(&expected);
     let mut buffer = marked(expected.len());

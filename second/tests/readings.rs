@@ -146,13 +146,13 @@ fn reading_9_the_maker_searches_on() {
 #[test]
 fn readings_10_and_11_each_room_has_its_own_record() {
     // time 0.5, q 8, r 10. Room 0: loss 0.25, exchange 0.125, s 0.375: diagonal
-    // 8 - 4*0.375 = 6.5 -> 7, beside it 0.5 -> 1; c 0.5*2 = 1 -> 80; heater on
-    // 1 + 0.5*20 = 11 -> 880. Room 1: loss 0.125, exchange 0.25, s 0.375: beside
+    // 8 - 4*0.375 = 6.5 -> 7, beside it 0.5 -> 1; c 0.5*2 = 1 -> 80; heater on s
+    // 0.875: 4.5 -> 5, and 1 + 0.5*20 = 11 -> 880. Room 1: loss 0.125, exchange 0.25, s 0.375: beside
     // it 1, diagonal 7; c 0.5 -> 40; steady on 0.5 + 1.5 = 2 -> 160.
     let plant = plant_of_sheet(&sheet_values(&two_room_sheet(), 2)).expect("a plant");
-    let rows = [[7, 1, 80], [1, 7, 40], [7, 1, 880], [1, 7, 40]].concat();
+    let rows = [[7, 1, 80], [1, 7, 40], [5, 1, 880], [1, 7, 40]].concat();
     assert_eq!(plant.coefficients[..12], rows);
-    let rows = [[7, 1, 80], [1, 7, 160], [7, 1, 880], [1, 7, 160]].concat();
+    let rows = [[7, 1, 80], [1, 7, 160], [5, 1, 880], [1, 7, 160]].concat();
     assert_eq!(plant.coefficients[12..24], rows);
     assert_eq!((plant.modes, plant.n, plant.q, plant.k, plant.d), (4, 2, 8, 2, 1));
     // Exchanges 1 (of room 0) and 3 (of room 1) stay in their own rows.
@@ -185,15 +185,16 @@ fn mode_bits_count_rooms_with_emitters() {
     let fields = three_rooms([vec![U(0)], heater, steady]);
     let plant = plant_of_sheet(&read_sheet(&file(&fields)).expect("a sheet")).expect("a plant");
     assert_eq!(plant.modes, 4);
-    // Row 0: g 1, 2, diagonal 1 - 4; row 1: g 10, 12, 1 - 23; row 2: g 20, 21, 1 - 42.
-    let rows = |b1, b2| [-3, 1, 2, 1, 10, -22, 12, b1, 20, 21, -41, b2];
-    let expected = [rows(1, 1), rows(101, 1), rows(1, 1001), rows(101, 1001)].concat();
+    // Row 0: g 1, 2, diagonal 1 - 4; row 1: g 10, 12, 1 - 23, with its heater on 1 - 33;
+    // row 2: g 20, 21, 1 - 42.
+    let rows = |a1, b1, b2| [-3, 1, 2, 1, 10, a1, 12, b1, 20, 21, -41, b2];
+    let expected = [rows(-22, 1, 1), rows(-32, 101, 1), rows(-22, 1, 1001), rows(-32, 101, 1001)].concat();
     assert_eq!(plant.coefficients[..48], expected);
     // No emitter: one mode.
     let fields = three_rooms([vec![U(0)], vec![U(0)], vec![U(0)]]);
     let plant = plant_of_sheet(&read_sheet(&file(&fields)).expect("a sheet")).expect("a plant");
     assert_eq!(plant.modes, 1);
-    assert_eq!(plant.coefficients[..12], rows(1, 1));
+    assert_eq!(plant.coefficients[..12], rows(-22, 1, 1));
     assert!(plant.coefficients[12..].iter().all(|number| *number == 0));
 }
 
@@ -472,8 +473,8 @@ fn fact_largest_sheet() {
     assert_eq!(plant.edges.w_lo, [-902_000_001; 4]);
     assert_eq!(plant.modes, 16);
     assert_eq!(plant.coefficients[..5], [5_000, 1_250, 1_250, 1_250, 10_000_000]);
-    // Mode 15, room 3: c 1 + 0.25 * 20 = 6.
-    assert_eq!(plant.coefficients[315..], [1_250, 1_250, 1_250, 5_000, 60_000_000]);
+    // Mode 15, room 3: diagonal 1 - 0.25 * 2.5 = 0.375, c 1 + 0.25 * 20 = 6.
+    assert_eq!(plant.coefficients[315..], [1_250, 1_250, 1_250, 3_750, 60_000_000]);
 }
 
 #[test]

@@ -420,25 +420,26 @@ fn float_row(sheet: &Sheet, mode: usize, i: usize) -> (Vec<f64>, f64) {
     let n = sheet.n as usize;
     let room = sheet.rooms[i];
     let g = &room.exchange[..n - 1];
-    let s = g.iter().fold(room.loss, |s, g| s + g);
+    let mut s = g.iter().fold(room.loss, |s, g| s + g);
     let mut entries: Vec<f64> = g.iter().map(|g| sheet.time * g).collect();
-    let part = sheet.time * s;
-    entries.insert(i, 1.0 - part);
     // The t-th room with an emitter is switched by bit t.
     let with_one: Vec<usize> =
         (0..n).filter(|i| sheet.rooms[*i].emitter != Emitter::None).collect();
     let on = with_one.iter().enumerate().any(|(t, room)| *room == i && mode & (1 << t) != 0);
     let flow = room.loss * sheet.outside;
-    let c = sheet.time * flow;
-    let added = match room.emitter {
-        Emitter::Heater { p, water } => {
+    let mut c = sheet.time * flow;
+    match room.emitter {
+        Emitter::Heater { p, water } if on => {
             let heat = p * water;
-            sheet.time * heat
+            c += sheet.time * heat;
+            s += p;
         }
-        Emitter::Steady { rate } => sheet.time * rate,
-        Emitter::None => 0.0,
-    };
-    (entries, if on { c + added } else { c })
+        Emitter::Steady { rate } if on => c += sheet.time * rate,
+        _ => {}
+    }
+    let part = sheet.time * s;
+    entries.insert(i, 1.0 - part);
+    (entries, c)
 }
 
 /// Every number of the plant's file with the limit it must keep; None where it
@@ -522,15 +523,19 @@ fn what_the_floats_allow_the_plant_allows() {
     for _ in 0..400 {
         let n = random.within(1, 3) as usize;
         let q = random.within(1, 60);
+        let heaters = random.within(0, 7);
         let mut fields = vec![U(1), U(n as u64), U(10), U(q as u64), U(1), U(0)];
         (0..n).for_each(|_| fields.extend([100, 300, -1_500, 2_000].map(S)));
         (0..n).for_each(|_| fields.extend([-q, q].map(S)));
         // Nothing below 2^-10, so no product's last bit is below 2^-80.
         let mut part = || F(random.within(1, 1_000) as f64 / 1_001.0 + 0.001);
         fields.extend([part(), part()]);
-        for _ in 0..n {
+        for i in 0..n {
             (0..n).for_each(|_| fields.push(part()));
-            fields.extend([U(2), part()]);
+            match heaters >> i & 1 {
+                1 => fields.extend([U(1), part(), part()]),
+                _ => fields.extend([U(2), part()]),
+            }
         }
         let sheet = sheet_values(&fields, n);
         let plant = plant_of_sheet(&sheet).expect("a plant");

@@ -106,6 +106,15 @@ fn amount(random: &mut Random, q: i64, time: f64) -> f64 {
     }
 }
 
+/// A heater's p: any amount, or one that makes the diagonal of its mode, 1 − time·(s + p), a near half.
+fn heater(random: &mut Random, q: i64, time: f64, s: f64) -> f64 {
+    if random.chance(3) {
+        let sign = random.one(&[1.0, -1.0]);
+        return finite((1.0 + sign * near_half(random, q, A)) / time - s).max(0.0);
+    }
+    amount(random, q, time)
+}
+
 /// A temperature or a rate: usual ones, those that make offset + scale·degrees a near half, and strange ones.
 fn degrees(random: &mut Random, factor: i64, offset: f64, scale: f64) -> f64 {
     let sign = random.one(&[1.0, -1.0]);
@@ -153,11 +162,12 @@ pub fn sheet_fields(random: &mut Random) -> Vec<Field> {
     fields.extend([F(time), F(outside)]);
     for amounts in rooms {
         let offset = time * (amounts[0] * outside);
+        let s = amounts.iter().sum();
         fields.extend(amounts.into_iter().map(F));
         match random.within(0, 2) {
             0 => fields.push(U(0)),
             1 => {
-                let p = amount(random, q, time);
+                let p = heater(random, q, time, s);
                 fields.extend([U(1), F(p), F(degrees(random, q * r, offset, time * p))]);
             }
             _ => fields.extend([U(2), F(degrees(random, q * r, offset, time))]),

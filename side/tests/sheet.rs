@@ -61,7 +61,15 @@ fn at_rest(n: usize) -> Vec<Field> {
     fields
 }
 
-/// q·a and q·r·c a few ulps around every kind of half, on the diagonal, off it, and in the offset; the largest float below one half is among them.
+/// The same with a heater of this p and water temperature in the room whose record is at `room`.
+fn heated(fields: &[Field], n: usize, room: usize, p: f64, water: f64) -> Vec<Field> {
+    let mut other = with(&with(fields, room + n, U(1)), room + n + 1, F(p));
+    other.insert(room + n + 2, F(water));
+    other
+}
+
+/// q·a and q·r·c a few ulps around every kind of half, on the diagonal, with a heater off and on, off it, and in the offset; the largest float below one
+/// half is among them.
 #[test]
 fn near_halves() {
     let mut seen = Seen::default();
@@ -74,6 +82,9 @@ fn near_halves() {
                 (fields[2], fields[3]) = (U(r), U(q));
                 for (at, float) in [(21, a), (20, 1.0 + a), (20, (1.0 - a).abs()), (23, c), (23, -c)] {
                     seen.sheet(&file(&with(&fields, at, F(float))), 100);
+                }
+                for p in [1.0 + a, (1.0 - a).abs()] {
+                    seen.sheet(&file(&heated(&fields, 2, 20, p, 0.0)), 100);
                 }
                 // c as the outside temperature of a room that loses 1
                 seen.sheet(&file(&with(&with(&fields, 19, F(-c)), 24, F(1.0))), 100);
@@ -91,7 +102,7 @@ fn near_halves() {
 }
 
 /// 14 with its place, at every number of the plant where it can stand first: each end of a band, each entry of A and each b of mode 0, and the
-/// b of the first mode that switches a room on. Results beyond the range and results that are not finite.
+/// diagonal and b of the first mode that switches a room on. Results beyond the range and results that are not finite.
 #[test]
 fn out_of_the_plants_range_at_every_place() {
     let mut seen = Seen::default();
@@ -117,6 +128,11 @@ fn out_of_the_plants_range_at_every_place() {
             for rate in [1e6 + 1.0, -1e6 - 1.0, f64::MAX] {
                 told_at(row + n + mode, &with(&sound, room + n + 1, F(rate)));
             }
+            // a p of 3.5: the same with the heater on alone, before its b
+            for (p, water) in [(3.5, 0.0), (3.5, 1e300), (f64::MAX, 0.0), (f64::MAX, f64::MAX)] {
+                told_at(row + i + mode, &heated(&sound, n, room, p, water));
+            }
+            told_at(row + n + mode, &heated(&sound, n, room, 1.0, 1e300));
             // not finite: time·loss, time·exchange, time·rate of infinity, and infinity less infinity
             let long = with(&sound, rows, F(4.0));
             told_at(row + i, &with(&long, room, F(f64::MAX)));
