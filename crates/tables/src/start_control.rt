@@ -90,7 +90,7 @@ fn choose_table(
     if is_idle(state) {
         return idle_choice(n, root, edges, m, i, x);
     }
-    Choice::Table(i)
+    Choice::Table(st.index)
 }
 
 // The state of a table as that of the file: behind the last mode the index goes too.
