@@ -13,6 +13,8 @@ use second::listing::listing;
 use second::maker::make;
 use second::plant::{read_plant, Plant};
 use second::sheet::{sheet_to_plant, write_sheet, Sheet};
+use second::start::{start_check, start_control, start_make, StartState};
+use second::start_listing::start_listing;
 use slow::*;
 
 fn sample(name: &str) -> Vec<u8> {
@@ -161,4 +163,106 @@ fn sixteen_tiles_of_up_to_three_steps() {
     holds(&plant, &table.concat());
     // by the step at 100 counts a degree one pattern is a sample longer
     assert_eq!(header(&plant_of(&of_002_example_2(100))), "table 4 16 4");
+}
+
+/// 001 example 1 from -35 degrees on: plant, chain and start file.
+fn cold_start() -> (Vec<u8>, Vec<u8>, Vec<u8>) {
+    let plant = plant_of_sample("001-example-1.sheet", &of_001_example_1());
+    assert_eq!(sample("001-example-1.plant"), plant);
+    (plant, sample("001-example-1.chain"), sample("001-example-1.start"))
+}
+
+/// The headers of a start file's boxes: lowest edge, tiles, longest pattern.
+fn boxes_of(plant: &[u8], start: &[u8]) -> Vec<(i64, usize, usize)> {
+    let lines = start_listing(plant, start);
+    let headers = lines.lines().filter(|line| line.starts_with("box"));
+    let number = |line: &str, at: usize| line.split(' ').nth(at).expect("a word").parse().expect("a number");
+    headers.map(|line| (number(line, 2), number(line, 7) as usize, number(line, 8) as usize)).collect()
+}
+
+/// 001 example 1: "any element of S can be driven to R within 15 control
+/// patterns of length (at most) 4"; here within 6 patterns, 32 samples in all.
+#[test]
+fn a_chain_from_35_degrees_of_frost() {
+    let (plant, chain, start) = cold_start();
+    let boxes = CHAIN_001.map(|lo| [(lo, 2_200); 2]);
+    assert_eq!(chain, file(&chain_fields(&boxes)));
+    assert_eq!(start_make(&plant, &chain), Ok(start.clone()));
+    assert_eq!(start_check(&plant, &start), Ok(()));
+    assert_eq!(start.len(), 179);
+    let wanted = [1_850, 1_490, 950, 130, -630, -1_630, -3_500];
+    let sizes = [(1, 2), (4, 6), (4, 6), (4, 6), (4, 4), (4, 4), (4, 6)];
+    let wanted: Vec<_> = wanted.into_iter().zip(sizes).map(|(lo, (tiles, k))| (lo, tiles, k)).collect();
+    assert_eq!(boxes_of(&plant, &start), wanted);
+    assert_eq!(sizes[1..].iter().map(|(_, longest)| longest).sum::<usize>(), 32);
+}
+
+/// Both heaters always on, from -35 degrees in both rooms: 32 samples by the
+/// step and 33 by the integrated equation. No mode heats more, so no chain can
+/// promise less than 32.
+#[test]
+fn heaters_always_on_need_32_samples() {
+    let read = read_plant(&cold_start().0).expect("a plant");
+    assert_eq!(always_on(&read), 32);
+    assert_eq!(always_on(&integrated(&of_001_example_1())), 33);
+}
+
+/// Samples until the nearest counts lie in R, mode 3 throughout.
+fn always_on(plant: &Plant) -> usize {
+    let (mut x, mut samples) = (vec![-3_500; 2], 0);
+    while x[0] < 1_850 || x[1] < 1_850 {
+        let values = [0, 1].map(|i| row_value(plant, 3, i, &x));
+        x = values.map(|value| (value + 5_000).div_euclid(10_000)).to_vec();
+        samples += 1;
+    }
+    samples
+}
+
+/// From the corners of each box and from any of its readings: home in as many
+/// samples as the tables up to that box promise, and then a thousand more.
+#[test]
+fn cold_rooms_come_home() {
+    let (plant, _, start) = cold_start();
+    let read = read_plant(&plant).expect("a plant");
+    let (mut promised, mut latest) = (0, 0);
+    for (index, (lo, _, longest)) in boxes_of(&plant, &start).into_iter().enumerate() {
+        promised += if index == 0 { 0 } else { longest };
+        for next in [lowest, highest, next_reading] {
+            for seed in 0..10 {
+                let mut random = Random(seed);
+                let mut x = reading_in(&[lo; 4], &[2_200; 4], 2, &mut random);
+                if seed == 0 {
+                    x = [lo; 4];
+                }
+                let samples = arrival(&plant, &read, &start, next, x, &mut random);
+                assert!(samples <= promised, "{samples} from {x:?}, {promised} promised");
+                latest = latest.max(samples);
+            }
+        }
+    }
+    assert_eq!((promised, latest), (32, 32));
+}
+
+/// Samples until an idle call meets a reading in R; a thousand more are driven.
+fn arrival(
+    bytes: &[u8],
+    plant: &Plant,
+    start: &[u8],
+    next: Next,
+    mut x: [i64; 4],
+    random: &mut Random,
+) -> usize {
+    let (mut state, mut home) = (StartState::IDLE, None);
+    for sample in 0..1_000 {
+        let here = wide(&x, &x, 2);
+        assert!(inside(&here, &s_of(plant)), "{x:?} outside S");
+        if state == StartState::IDLE && inside(&here, &r_of(plant)) {
+            home = home.or(Some(sample));
+        }
+        assert!(home.is_none() || state.index == 0, "away again at {x:?}");
+        let mode;
+        (mode, state) = start_control(bytes, start, state, x).expect("an answer");
+        x = next(plant, mode, &x, random);
+    }
+    home.expect("an arrival")
 }
