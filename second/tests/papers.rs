@@ -165,36 +165,77 @@ fn sixteen_tiles_of_up_to_three_steps() {
     assert_eq!(header(&plant_of(&of_002_example_2(100))), "table 4 16 4");
 }
 
-/// 001 example 1 from -35 degrees on: plant, chain and start file.
-fn cold_start() -> (Vec<u8>, Vec<u8>, Vec<u8>) {
-    let plant = plant_of_sample("001-example-1.sheet", &of_001_example_1());
-    assert_eq!(sample("001-example-1.plant"), plant);
-    (plant, sample("001-example-1.chain"), sample("001-example-1.start"))
+/// A plant, a start file for it, and the samples it promises from Rm.
+struct Cold {
+    bytes: Vec<u8>,
+    plant: Plant,
+    start: Vec<u8>,
+    promised: usize,
 }
 
-/// The headers of a start file's boxes: lowest edge, tiles, longest pattern.
-fn boxes_of(plant: &[u8], start: &[u8]) -> Vec<(i64, usize, usize)> {
+/// The samples of that name: the chain has these low edges, the start file is
+/// made of it and accepted.
+fn cold(name: &str, bytes: Vec<u8>, lows: &[i64], promised: usize) -> Cold {
+    assert_eq!(sample(&format!("{name}.plant")), bytes);
+    let chain = sample(&format!("{name}.chain"));
+    assert_eq!(chain, chain_of(lows));
+    let start = sample(&format!("{name}.start"));
+    assert_eq!(start_make(&bytes, &chain), Ok(start.clone()));
+    assert_eq!(start_check(&bytes, &start), Ok(()));
+    Cold { plant: read_plant(&bytes).expect("a plant"), bytes, start, promised }
+}
+
+/// 001 example 1 by the step and by the integrated equation.
+fn cold_cases() -> [Cold; 2] {
+    let sheet = of_001_example_1();
+    let step = plant_of_sample("001-example-1.sheet", &sheet);
+    let exact = plant_bytes(&integrated(&sheet));
+    [
+        cold("001-example-1", step, &CHAIN_001, 32),
+        cold("001-example-1-integrated", exact, &CHAIN_001_INTEGRATED, 33),
+    ]
+}
+
+/// Square boxes with R's high edge.
+fn chain_of(lows: &[i64]) -> Vec<u8> {
+    let boxes: Vec<_> = lows.iter().map(|lo| [(*lo, 2_200); 2]).collect();
+    file(&chain_fields(&boxes))
+}
+
+/// Of each box of a start file the low edge, the tiles, the longest pattern.
+fn boxes_of(plant: &[u8], start: &[u8]) -> Vec<[i64; 3]> {
     let lines = start_listing(plant, start);
     let headers = lines.lines().filter(|line| line.starts_with("box"));
-    let number = |line: &str, at: usize| line.split(' ').nth(at).expect("a word").parse().expect("a number");
-    headers.map(|line| (number(line, 2), number(line, 7) as usize, number(line, 8) as usize)).collect()
+    let numbers = |line: &str| -> Vec<i64> {
+        line.split(' ').filter_map(|word| word.parse().ok()).collect()
+    };
+    headers.map(numbers).map(|of| [of[1], of[5], of[6]]).collect()
 }
 
-/// 001 example 1: "any element of S can be driven to R within 15 control
-/// patterns of length (at most) 4"; here within 6 patterns, 32 samples in all.
+/// 001 example 1: "any element of S can thus be driven to R within 15 control
+/// patterns of length (at most) 4", 60 samples; here within 6 patterns.
 #[test]
 fn a_chain_from_35_degrees_of_frost() {
-    let (plant, chain, start) = cold_start();
-    let boxes = CHAIN_001.map(|lo| [(lo, 2_200); 2]);
-    assert_eq!(chain, file(&chain_fields(&boxes)));
-    assert_eq!(start_make(&plant, &chain), Ok(start.clone()));
-    assert_eq!(start_check(&plant, &start), Ok(()));
-    assert_eq!(start.len(), 179);
-    let wanted = [1_850, 1_490, 950, 130, -630, -1_630, -3_500];
-    let sizes = [(1, 2), (4, 6), (4, 6), (4, 6), (4, 4), (4, 4), (4, 6)];
-    let wanted: Vec<_> = wanted.into_iter().zip(sizes).map(|(lo, (tiles, k))| (lo, tiles, k)).collect();
-    assert_eq!(boxes_of(&plant, &start), wanted);
-    assert_eq!(sizes[1..].iter().map(|(_, longest)| longest).sum::<usize>(), 32);
+    let [step, exact] = cold_cases();
+    let wanted =
+        [[1850, 1, 2], [1490, 4, 6], [950, 4, 6], [130, 4, 6], [-630, 4, 4], [-1630, 4, 4], [-3500, 4, 6]];
+    assert_eq!(boxes_of(&step.bytes, &step.start), wanted);
+    assert_eq!(step.start.len(), 179);
+    assert_eq!(sum_of_longest(&step.bytes, &step.start), 32);
+    assert_eq!(sum_of_longest(&exact.bytes, &exact.start), 33);
+}
+
+/// Of the tables 1..m.
+fn sum_of_longest(plant: &[u8], start: &[u8]) -> i64 {
+    boxes_of(plant, start)[1..].iter().map(|[_, _, longest]| longest).sum()
+}
+
+/// The paper's own K 4 will do, with eight boxes.
+#[test]
+fn patterns_of_the_papers_length() {
+    let plant = plant_of(&Sheet { k: 4, ..of_001_example_1() });
+    let start = start_make(&plant, &chain_of(&CHAIN_001_K_4)).expect("a start file");
+    assert_eq!(sum_of_longest(&plant, &start), 32);
 }
 
 /// Both heaters always on, from -35 degrees in both rooms: 32 samples by the
@@ -202,9 +243,7 @@ fn a_chain_from_35_degrees_of_frost() {
 /// promise less than 32.
 #[test]
 fn heaters_always_on_need_32_samples() {
-    let read = read_plant(&cold_start().0).expect("a plant");
-    assert_eq!(always_on(&read), 32);
-    assert_eq!(always_on(&integrated(&of_001_example_1())), 33);
+    assert_eq!(cold_cases().map(|cold| always_on(&cold.plant)), [32, 33]);
 }
 
 /// Samples until the nearest counts lie in R, mode 3 throughout.
@@ -218,51 +257,51 @@ fn always_on(plant: &Plant) -> usize {
     samples
 }
 
-/// From the corners of each box and from any of its readings: home in as many
-/// samples as the tables up to that box promise, and then a thousand more.
+/// From the low corner and other readings of each box: home in as many samples
+/// as the tables up to that box promise, then driven on. Some run takes all.
 #[test]
 fn cold_rooms_come_home() {
-    let (plant, _, start) = cold_start();
-    let read = read_plant(&plant).expect("a plant");
-    let (mut promised, mut latest) = (0, 0);
-    for (index, (lo, _, longest)) in boxes_of(&plant, &start).into_iter().enumerate() {
-        promised += if index == 0 { 0 } else { longest };
-        for next in [lowest, highest, next_reading] {
-            for seed in 0..10 {
-                let mut random = Random(seed);
-                let mut x = reading_in(&[lo; 4], &[2_200; 4], 2, &mut random);
-                if seed == 0 {
-                    x = [lo; 4];
-                }
-                let samples = arrival(&plant, &read, &start, next, x, &mut random);
-                assert!(samples <= promised, "{samples} from {x:?}, {promised} promised");
-                latest = latest.max(samples);
-            }
+    for cold in cold_cases() {
+        let (mut promised, mut latest) = (0, 0);
+        for (index, [lo, _, longest]) in boxes_of(&cold.bytes, &cold.start).into_iter().enumerate() {
+            promised += if index == 0 { 0 } else { longest as usize };
+            let samples = latest_of_box(&cold, lo);
+            assert!(samples <= promised, "{samples} from box {index}, {promised} promised");
+            latest = latest.max(samples);
         }
+        assert_eq!((promised, latest), (cold.promised, cold.promised));
     }
-    assert_eq!((promised, latest), (32, 32));
 }
 
-/// Samples until an idle call meets a reading in R; a thousand more are driven.
-fn arrival(
-    bytes: &[u8],
-    plant: &Plant,
-    start: &[u8],
-    next: Next,
-    mut x: [i64; 4],
-    random: &mut Random,
-) -> usize {
+/// The latest arrival of some runs from a box.
+fn latest_of_box(cold: &Cold, lo: i64) -> usize {
+    let mut latest = 0;
+    for next in [lowest, highest, next_reading] {
+        for seed in 0..10 {
+            let mut random = Random(seed);
+            let any = reading_in(&[lo; 4], &[2_200; 4], 2, &mut random);
+            let first = if seed == 0 { [lo; 4] } else { any };
+            latest = latest.max(arrival(cold, next, first, &mut random));
+        }
+    }
+    latest
+}
+
+/// Samples until an idle call meets a reading in R, of a thousand that are
+/// driven: none refused, every reading in S, R0's table alone from then on.
+fn arrival(cold: &Cold, next: Next, mut x: [i64; 4], random: &mut Random) -> usize {
     let (mut state, mut home) = (StartState::IDLE, None);
     for sample in 0..1_000 {
         let here = wide(&x, &x, 2);
-        assert!(inside(&here, &s_of(plant)), "{x:?} outside S");
-        if state == StartState::IDLE && inside(&here, &r_of(plant)) {
+        assert!(inside(&here, &s_of(&cold.plant)), "{x:?} outside S");
+        if state == StartState::IDLE && inside(&here, &r_of(&cold.plant)) {
             home = home.or(Some(sample));
         }
         assert!(home.is_none() || state.index == 0, "away again at {x:?}");
+        assert!(home.is_none() || state != StartState::IDLE || inside(&here, &r_of(&cold.plant)));
         let mode;
-        (mode, state) = start_control(bytes, start, state, x).expect("an answer");
-        x = next(plant, mode, &x, random);
+        (mode, state) = start_control(&cold.bytes, &cold.start, state, x).expect("an answer");
+        x = next(&cold.plant, mode, &x, random);
     }
     home.expect("an arrival")
 }

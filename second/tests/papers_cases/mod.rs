@@ -77,6 +77,10 @@ pub fn of_001_example_1() -> Sheet {
 
 /// The low edges of its boxes R1..R6; the high edge is R's own, 22 degrees.
 pub const CHAIN_001: [i64; 6] = [1_490, 950, 130, -630, -1_630, -3_500];
+/// The same for the integrated equation.
+pub const CHAIN_001_INTEGRATED: [i64; 6] = [1_580, 1_100, 390, -270, -1_650, -3_500];
+/// With the paper's own K 4 it takes all eight boxes.
+pub const CHAIN_001_K_4: [i64; 8] = [1_630, 1_340, 960, 460, -200, -1_070, -2_210, -3_500];
 
 /// A matrix with the offsets as a column behind the rooms.
 type Affine = [[f64; 5]; 5];
