@@ -305,3 +305,47 @@ fn arrival(cold: &Cold, next: Next, mut x: [i64; 4], random: &mut Random) -> usi
     }
     home.expect("an arrival")
 }
+
+/// Hundredths of a degree, to the nearest, that a mode leads to in a room.
+fn leads_to(plant: &Plant, mode: usize, room: usize, from: [i128; 2]) -> i128 {
+    (row_value(plant, mode, room, &from) + 5_000).div_euclid(10_000)
+}
+
+/// The temperatures that docs/PAPERS.md names to say why example 1 differs.
+#[test]
+fn temperatures_that_tell_the_equations_apart() {
+    let step = read_plant(&plant_of(&of_002_example_1(100, 1))).expect("a plant");
+    let exact = integrated(&of_002_example_1(100, 1));
+    assert_eq!(leads_to(&step, 3, 1, [2_100; 2]), 2_202);
+    assert_eq!(leads_to(&exact, 3, 1, [2_100; 2]), 2_198);
+    let printed = integrated(&of_002_example_1_printed(100, 1));
+    assert_eq!(leads_to(&printed, 0, 0, [2_000; 2]), 1_976);
+    assert_eq!(leads_to(&printed, 2, 0, [2_000; 2]), 1_998);
+    assert_eq!(leads_to(&printed, 1, 0, [2_100; 2]), 2_257);
+}
+
+/// The most that the step and the integrated equation differ over a box, in
+/// hundredths of a degree, room by room; both are affine, so at a corner.
+fn departures(sheet: &Sheet, of: impl Fn(&Plant) -> Wide) -> Vec<i128> {
+    let (step, exact) = (read_plant(&plant_of(sheet)).expect("a plant"), integrated(sheet));
+    let (lo, hi) = of(&step);
+    let mut most = vec![0; lo.len()];
+    for corner in 0..1 << lo.len() {
+        let x: Vec<i128> = (0..lo.len()).map(|i| if corner >> i & 1 == 1 { hi[i] } else { lo[i] }).collect();
+        for mode in 0..step.modes as usize {
+            for (i, most) in most.iter_mut().enumerate() {
+                let apart = row_value(&step, mode, i, &x) - row_value(&exact, mode, i, &x);
+                *most = apart.abs().max(*most);
+            }
+        }
+    }
+    most.into_iter().map(|apart| (apart + 5_000) / 10_000).collect()
+}
+
+#[test]
+fn departures_of_the_step() {
+    assert_eq!(departures(&of_002_example_1(100, 1), r_of), [27, 29]);
+    assert_eq!(departures(&of_002_example_2(100), r_of), [481, 21, 480, 20]);
+    assert_eq!(departures(&of_001_example_1(), r_of), [30, 30]);
+    assert_eq!(departures(&of_001_example_1(), s_of), [399, 399]);
+}
