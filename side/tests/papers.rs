@@ -1,0 +1,133 @@
+//! The papers' cases of docs/PAPERS.md by the proved library: the same files in
+//! samples/, which second/tests/papers.rs pins, give the second program's
+//! bytes, are accepted, and drive rooms that do what the plant allows.
+
+use second::plant::{read_plant, Plant};
+use side::common::Random;
+use side::rooms::{following, Next, EVERY_NEXT};
+use side::{check, control, make, sheet, start_check, start_control, start_make, Standing, Told};
+
+const SHEETS: [&str; 5] = [
+    "002-example-1-four-tiles.sheet",
+    "002-example-1-one-tile.sheet",
+    "002-example-1-printed.sheet",
+    "002-example-2.sheet",
+    "001-example-1.sheet",
+];
+
+const INTEGRATED: [&str; 4] = [
+    "002-example-1-four-tiles-integrated.plant",
+    "002-example-1-one-tile-integrated.plant",
+    "002-example-2-integrated.plant",
+    "001-example-1-integrated.plant",
+];
+
+fn sample(name: &str) -> Vec<u8> {
+    let path = format!("{}/../samples/{name}", env!("CARGO_MANIFEST_DIR"));
+    std::fs::read(&path).unwrap_or_else(|error| panic!("{path}: {error}"))
+}
+
+/// What the library writes to a buffer that is long enough.
+fn written(most: usize, by: impl Fn(&mut [u8]) -> Told) -> Vec<u8> {
+    let mut buffer = vec![0; most];
+    let (number, length, _) = by(&mut buffer);
+    assert_eq!(number, 0);
+    buffer.truncate(length as usize);
+    buffer
+}
+
+/// What the second program writes.
+fn second_written<E: std::fmt::Debug>(most: usize, by: impl Fn(&mut [u8]) -> Result<usize, E>) -> Vec<u8> {
+    let mut buffer = vec![0; most];
+    let length = by(&mut buffer).expect("a file");
+    buffer.truncate(length);
+    buffer
+}
+
+/// A thousand samples from the low corner of R, idle in R only.
+fn drive(bytes: &[u8], plant: &Plant, table: &[u8], next: Next, random: &mut Random) {
+    let (mut x, mut place, mut left) = (plant.edges.r_lo, 0, 0);
+    for sample in 0..1_000 {
+        let zone = if (place, left) == (0, 0) { plant.r() } else { plant.s() };
+        assert!(zone.contains(&x), "{x:?} outside {zone:?}");
+        let (mode, out) = control(bytes, table, place, left, x);
+        assert!(mode != 255 && out[..2] == [0, 0], "refused {out:?} at {x:?}");
+        (place, left) = (out[2], out[3]);
+        x = following(random, next, sample, plant, mode, &x);
+    }
+}
+
+/// The library's table is the second program's, is accepted, and drives.
+fn holds(plant: &[u8]) {
+    let most = second::LARGEST_TABLE;
+    let table = written(most, |buffer| make(plant, buffer));
+    assert_eq!(table, second_written(most, |buffer| second::maker::make(plant, buffer)));
+    assert_eq!(check(plant, &table), (0, 0, 0));
+    let read = read_plant(plant).expect("a plant");
+    for next in EVERY_NEXT {
+        drive(plant, &read, &table, next, &mut Random(1));
+    }
+}
+
+#[test]
+fn the_papers_sheets() {
+    for name in SHEETS {
+        let bytes = sample(name);
+        let most = second::LARGEST_PLANT;
+        let plant = written(most, |buffer| sheet(&bytes, buffer));
+        let wanted = second_written(most, |buffer| second::sheet::sheet_to_plant(&bytes, buffer));
+        assert_eq!(plant, wanted, "{name}");
+        holds(&plant);
+    }
+}
+
+#[test]
+fn the_papers_integrated_plants() {
+    for name in INTEGRATED {
+        holds(&sample(name));
+    }
+}
+
+/// The start files of 001 and the samples that they promise from Rm.
+const COLD: [(&str, usize); 2] = [("001-example-1", 32), ("001-example-1-integrated", 33)];
+
+#[test]
+fn the_start_files_of_001() {
+    for (name, _) in COLD {
+        let [plant, chain, start] = ["plant", "chain", "start"].map(|kind| sample(&format!("{name}.{kind}")));
+        let made = written(second::LARGEST_START, |buffer| start_make(&plant, &chain, buffer));
+        assert_eq!(made, start, "{name}");
+        assert_eq!(start_check(&plant, &start), (0, 0, 0), "{name}");
+    }
+}
+
+/// From -35 degrees in both rooms: home within the samples that the start file
+/// promises, whatever readings follow.
+#[test]
+fn home_from_35_degrees_of_frost() {
+    for (name, promised) in COLD {
+        let [bytes, start] = ["plant", "start"].map(|kind| sample(&format!("{name}.{kind}")));
+        for next in EVERY_NEXT {
+            let samples = arrival(&bytes, &start, next);
+            assert!(samples <= promised, "{samples} samples, {promised} promised");
+        }
+    }
+}
+
+/// Samples until an idle call meets a reading in R, of a thousand that are driven.
+fn arrival(bytes: &[u8], start: &[u8], next: Next) -> usize {
+    let (plant, mut random) = (read_plant(bytes).expect("a plant"), Random(2));
+    let (mut x, mut standing): ([i64; 4], Standing) = ([-3_500; 4], [0; 3]);
+    let mut home = None;
+    for sample in 0..1_000 {
+        if standing == [0; 3] && plant.r().contains(&x) {
+            home = home.or(Some(sample));
+        }
+        assert!(plant.s().contains(&x) && (home.is_none() || standing[0] == 0), "{x:?}");
+        let (mode, out) = start_control(bytes, start, standing, x);
+        assert!(mode != 255 && out[..3] == [0; 3], "refused {out:?} at {x:?}");
+        standing = [out[3], out[4], out[5]];
+        x = following(&mut random, next, sample, &plant, mode, &x);
+    }
+    home.expect("an arrival")
+}
