@@ -1,3 +1,4 @@
 pub mod Answers
+pub mod Banded
 pub mod Cold
 pub mod Worked

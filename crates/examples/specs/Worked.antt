@@ -42,7 +42,7 @@ unfolding computing
 line-10 = (refl, refl, refl, refl)
 
 -- line 12
-line-12 : (plantRead [] .verdict ≡ Verdict.Refused (broken 0)) × (plantRead (fileOf plantForm (plantP 3)) .verdict ≡ Verdict.Refused (narrow 0))
+line-12 : (plantRead [] .verdict ≡ Verdict.Refused (broken 0)) × (plantRead (fileOf plantForm (plantP 3)) .verdict ≡ Verdict.Refused (narrow 0 0))
 unfolding computing
 line-12 = (refl, refl)
 

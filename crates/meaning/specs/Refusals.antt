@@ -24,7 +24,7 @@ refusal n p i = record { number = n; place = p; step = i }
 abbrev pub broken : ℕ → Refusal
 broken at = refusal 1 at 0
 
--- 2: form is not 1
+-- 2: form is not known
 abbrev pub wrongForm : Refusal
 wrongForm = refusal 2 0 0
 
@@ -36,9 +36,9 @@ unfit at = refusal 3 at 0
 abbrev pub notInSafe : ℕ → Refusal
 notInSafe i = refusal 4 i 0
 
--- 5: band too narrow; first dimension, from 0
-abbrev pub narrow : ℕ → Refusal
-narrow i = refusal 5 i 0
+-- 5: band too narrow; first mode, step the first dimension, from 0
+abbrev pub narrow : ℕ → ℕ → Refusal
+narrow u i = refusal 5 u i
 
 -- 6: table: n differs, node over K, mode not below N, a split too deep or not possible, bytes left over; that byte
 abbrev pub badTable : ℕ → Refusal

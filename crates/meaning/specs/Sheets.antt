@@ -70,7 +70,7 @@ roomForm n rest = floating notBelow (times (n - 1) (floating notBelow) (counted 
 
 -- form 1, n, r, q, K, D; R, S and w; sample time, outside temperature; the rooms
 unfoldable pub sheetForm : Form
-sheetForm = headed 1_000 λ n r. edgesAndBands n (floating above (floating anyFloat (times n (roomForm n) end)))
+sheetForm = headed 1 1_000 λ form n r. edgesAndBands n (floating above (floating anyFloat (times n (roomForm n) end)))
 
 -- ---- a sheet and the values of its file
 
@@ -314,7 +314,7 @@ abbrev pub sheetRelated : Read (List ℤ) → Judged Sheet
 sheetRelated (refused r) = bad r
 sheetRelated (read vs next) =
     let h = sheetOf vs in
-    related (h .q) (rootSheet h) (safeSheet h) (bandsSheet h) λ _.
+    related (h .q) (rootSheet h) (safeSheet h) (bandsSheet h ∷ []) λ _.
     fitting h λ _. good h
 
 unfoldable pub sheetJudged : List ℕ → Judged Sheet

@@ -33,12 +33,16 @@ pub enum Written {
     Refused(Refusal),
 }
 
-// The mode coefficients of the largest plant.
+// The mode coefficients of the largest plant, and the ends of its modes' bands.
 pub const COEFFICIENTS: usize = 320;
 
-// A plant. Of each array of edges and of the band the first n entries count. The coefficients stand in file order:
-// row i of mode u begins at (u·n + i)·(n + 1) with its n entries of A, and b_i ends it.
+pub const BANDS: usize = 128;
+
+// A plant. Of each array of edges the first n entries count. Bands and coefficients stand mode by mode: the band of mode u in dimension i begins at
+// 2·(u·n + i) with w lo, and w hi ends it; row i of mode u begins at (u·n + i)·(n + 1) with its n entries of A, and b_i ends it. A file of form 1 has one
+// band for all modes, which stands here once for each.
 pub struct Plant {
+    pub form: usize,
     pub n: usize,
     pub modes: usize,
     pub q: usize,
@@ -48,8 +52,7 @@ pub struct Plant {
     pub rhi: [i64; 4],
     pub slo: [i64; 4],
     pub shi: [i64; 4],
-    pub wlo: [i64; 4],
-    pub whi: [i64; 4],
+    pub bands: [i64; BANDS],
     pub coef: [i64; COEFFICIENTS],
 }
 
