@@ -83,16 +83,19 @@ edgesAndBands n rest = edges n (bands n rest)
 unfoldable pub row : ℕ → Form → Form
 row n rest = times n (limited entryLimit) (limited offsetLimit rest)
 
--- a form in 1..forms, n, a number in 1..most (a plant's N, a sheet's r), q, K, D
-unfoldable pub headed : ℕ → ℕ → (ℕ → ℕ → ℕ → Form) → Form
-headed forms most rest =
-    formed forms λ form.
+-- n, a number in 1..most (a plant's N, a sheet's r), q, K, D
+abbrev pub sized : ℕ → (ℕ → ℕ → Form) → Form
+sized most rest =
     counted (from 1 4) λ n.
     counted (from 1 most) λ m.
     counted (from 1 10_000) λ q.
     counted (from 1 6) λ k.
     counted (depth n) λ d.
-    rest form n m
+    rest n m
+
+-- a form in 1..forms, and these
+unfoldable pub headed : ℕ → ℕ → (ℕ → ℕ → ℕ → Form) → Form
+headed forms most rest = formed forms λ form. sized most (rest form)
 
 -- plants have forms 1 and 2; in form 2 each mode has its own bands
 abbrev pub plantForms : ℕ

@@ -13,7 +13,7 @@ use Rattle.laws.specs.Lists as L
 use Rattle.laws.specs.Lists.{tabs}
 use Rattle.meaning.specs.Files.{Form, end}
 use Rattle.meaning.specs.Plants as P
-use Rattle.meaning.specs.Plants.{edgeLimit, bandLimit, entryLimit, offsetLimit, limited, span, times, edgesAndBands, row}
+use Rattle.meaning.specs.Plants.{edgeLimit, bandLimit, entryLimit, offsetLimit, limited, span, times, edges, bands, edgesAndBands, row}
 use Rattle.promises.specs.files.Files.{Shaped}
 
 -- ---- whatever X is asked of the values of a form
@@ -87,11 +87,16 @@ pub row-takes : (n : ℕ) → Takes (row n) (n + 1)
 unfolding row
 row-takes n = let e : n + 1 ≡ n * 1 + 1 = omega arith in rw e (then-takes (times-takes (limited-takes entryLimit) n) (limited-takes offsetLimit))
 
-pub edges-takes : (n : ℕ) → Takes (edgesAndBands n) (6 * n)
-unfolding edgesAndBands
-edges-takes n =
-    let e : 6 * n ≡ n * 4 + n * 2 = omega arith in
-    rw e (then-takes (times-takes (then-takes (span-takes edgeLimit) (span-takes edgeLimit)) n) (times-takes (span-takes bandLimit) n))
+pub edges-takes : (n : ℕ) → Takes (edges n) (4 * n)
+unfolding edges
+edges-takes n = let e : 4 * n ≡ n * 4 = omega arith in rw e (times-takes (then-takes (span-takes edgeLimit) (span-takes edgeLimit)) n)
+
+pub bands-takes : (n : ℕ) → Takes (bands n) (2 * n)
+unfolding bands
+bands-takes n = let e : 2 * n ≡ n * 2 = omega arith in rw e (times-takes (span-takes bandLimit) n)
+
+pub both-take : (n : ℕ) → Takes (edgesAndBands n) (6 * n)
+both-take n = let e : 6 * n ≡ 4 * n + 2 * n = omega arith in rw e (then-takes (edges-takes n) (bands-takes n))
 
 -- a part with nothing behind it
 pub takes-all : {part : Form → Form} {c : ℕ} → Takes part c → (vs : List ℤ) → Shaped (part end) vs ↔ (length vs ≡ c)

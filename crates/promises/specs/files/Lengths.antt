@@ -10,11 +10,12 @@ use lib.ListN.{length}
 use lib.Pow.{pow-add}
 use lib.IntN.{ℤ, pos, negsuc, natAbs, negℤ}
 use lib.Signed.{leZ, _≤ℤ_}
-use borrow.Author.Tests.{lt-ltb, le-ltb, leb-true, eqb-true}
+use borrow.Author.Tests.{lt-ltb, le-ltb, leb-true}
 use Rattle.laws.specs.Integers.{zarith, leZ-true, within}
+use Rattle.laws.specs.Lists.{at}
 use Rattle.meaning.specs.Numbers.{groupsOf, stored}
 use Rattle.meaning.specs.Files.{Field, Form, end, field, bytesAs, read, valuesAt}
-use Rattle.meaning.specs.Plants.{edgeLimit, bandLimit, counted, ranged, limited, span, times, edgesAndBands, from, depth, headed}
+use Rattle.meaning.specs.Plants.{edgeLimit, bandLimit, counted, ranged, limited, span, times, edges, bands, from, depth, sized, headed}
 use Rattle.promises.specs.files.Files.{field-read}
 use Rattle.promises.specs.files.Headers.{most-of}
 
@@ -106,21 +107,33 @@ times-adds p zero = record { adds = λ l. longer l (omega arith) }
 times-adds {part} {c} p (suc m) = let e : suc m * c ≡ c + m * c = omega arith in rw e (then-adds p (times-adds p m))
 
 -- edges take 3 bytes and ends of bands 5
-pub edges-adds : (n : ℕ) → Adds (edgesAndBands n) (n * 12 + n * 10)
-unfolding edgesAndBands
-edges-adds n =
-    let edges = span-adds edgeLimit 2 (omega arith) in
-    then-adds (times-adds (then-adds edges edges) n) (times-adds (span-adds bandLimit 4 (omega arith)) n)
+pub edges-adds : (n : ℕ) → Adds (edges n) (n * 12)
+unfolding edges
+edges-adds n = let side = span-adds edgeLimit 2 (omega arith) in times-adds (then-adds side side) n
 
--- the header, its third number being at most `most`
-pub headed-longest : (most c : ℕ) (rest : ℕ → ℕ → Form) {m : ℕ} → most < 2 ^ (7 * suc c)
-    → ((n k : ℕ) → n ≤ 4 → k ≤ most → Longest (rest n k) m) → Longest (headed most rest) (7 + c + m)
-unfolding headed
-headed-longest most c rest h more =
-    longer (field-longest _ _ {c = 1} (λ v e. short 0 9 (natAbs v) (omega (arith, eqb-true (natAbs v) 1 e))) (λ v e.
-    counted-longest (from 1 4) _ 0 4 (λ v e. most-of 1 4 v e) (omega arith) (λ n a.
+pub bands-adds : (n : ℕ) → Adds (bands n) (n * 10)
+unfolding bands
+bands-adds n = times-adds (span-adds bandLimit 4 (omega arith)) n
+
+-- the header, its third number being at most `most`: behind its form, and with it
+pub sized-longest : (most c : ℕ) (rest : ℕ → ℕ → Form) {m : ℕ} → most < 2 ^ (7 * suc c)
+    → ((n k : ℕ) → n ≤ 4 → k ≤ most → Longest (rest n k) m) → Longest (sized most rest) (6 + c + m)
+sized-longest most c rest h more =
+    longer (counted-longest (from 1 4) _ 0 4 (λ v e. most-of 1 4 v e) (omega arith) (λ n a.
     counted-longest (from 1 most) _ c most (λ v e. most-of 1 most v e) h (λ k b.
     counted-longest (from 1 10_000) _ 1 10_000 (λ v e. most-of 1 10_000 v e) (omega arith) (λ q _.
     counted-longest (from 1 6) _ 0 6 (λ v e. most-of 1 6 v e) (omega arith) (λ k₂ _.
     counted-longest (depth n) _ 0 6 (λ v e. leb-true v 6 (and-eq-true-iff (leb v 6) (leb (n * v) 12) .0 e .0)) (omega arith) (λ d _.
-    more n k a b))))))) (omega arith)
+    more n k a b)))))) (omega arith)
+
+-- a form takes one byte; what stands behind it may hang on it
+pub headed-longest : (forms most c : ℕ) (rest : ℕ → ℕ → ℕ → Form) (m : ℕ → ℕ) → forms ≤ 9 → most < 2 ^ (7 * suc c)
+    → ((form n k : ℕ) → n ≤ 4 → k ≤ most → Longest (rest form n k) (m form))
+    → (s : List ℕ) {vs : List ℤ} {next : ℕ} → valuesAt (headed forms most rest) s 0 ≡ read vs next → next ≤ 7 + c + m (natAbs (at vs 0))
+unfolding headed
+headed-longest forms most c rest m f h more s {vs} {next} e =
+    let w = field-read _ _ s 0 e in
+    let form = natAbs (w .value) in
+    let one = short 0 9 form (omega (arith, most-of 1 forms form (w .right))) in
+    let l = sized-longest most c (rest form) h (more form) .most s (w .mid) (w .behind) in
+    rw (w .values) (omega (arith, one, w .stands .end))

@@ -93,13 +93,13 @@ times-times part (suc m) n rest =
 
 -- ---- the header
 
-pub headed-passes : (most : ℕ) (rest : ℕ → ℕ → Form) (n m q k d : ℕ) (vs : List ℤ) → most < 2 ^ 35 → 1 ≤ n → n ≤ 4 → 1 ≤ m → m ≤ most → 1 ≤ q → q ≤ 10_000
-    → 1 ≤ k → k ≤ 6 → d ≤ 6 → n * d ≤ 12 → Passes (rest n m) vs → Passes (headed most rest) (pos 1 ∷ pos n ∷ pos m ∷ pos q ∷ pos k ∷ pos d ∷ vs)
+pub headed-passes : (forms most : ℕ) (rest : ℕ → ℕ → ℕ → Form) (form n m q k d : ℕ) (vs : List ℤ) → forms < 2 ^ 35 → most < 2 ^ 35 → 1 ≤ form → form ≤ forms → 1 ≤ n → n ≤ 4 → 1 ≤ m → m ≤ most → 1 ≤ q → q ≤ 10_000
+    → 1 ≤ k → k ≤ 6 → d ≤ 6 → n * d ≤ 12 → Passes (rest form n m) vs → Passes (headed forms most rest) (pos form ∷ pos n ∷ pos m ∷ pos q ∷ pos k ∷ pos d ∷ vs)
 unfolding Passes P.headed
-headed-passes most rest n m q k d vs l n₁ n₂ m₁ m₂ q₁ q₂ k₁ k₂ d₁ d₂ p = (
+headed-passes forms most rest form n m q k d vs lf l f₁ f₂ n₁ n₂ m₁ m₂ q₁ q₂ k₁ k₂ d₁ d₂ p = (
   refl,
-  refl,
-  refl,
+  lt-ltb form (2 ^ 35) (omega arith),
+  from-holds 1 forms form f₁ f₂,
   (
     refl,
     lt-ltb n (2 ^ 35) (omega arith),

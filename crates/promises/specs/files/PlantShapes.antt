@@ -1,106 +1,177 @@
--- The shape of a plant's file: the numbers of every plant have it, and numbers that were read by the form are those of the plant that they make.
--- Relies on pages Bodies, Files, FormShapes and Headers. The other half, that a plant is what its numbers say, stands on page Plants.
-use Prim.Native.Nat.{ℕ, _+_, _*_, _≤_}
+-- The shape of a plant's file, of either form: the numbers of every plant have it, and numbers that were read by the form are those of the plant that
+-- they make. Relies on pages Bodies, Files, FormShapes and Headers. The other half, that a plant is what its numbers say, stands on page Plants.
+use Prim.Native.Nat.{ℕ, _+_, _*_, _≤_, _<_}
 use mathlib.Core.Path.{_≡_, refl, sym, ap, _∙_}
+use mathlib.Core.Bool.{Bool, true, false, cond}
 use mathlib.Core.List.{List, [], _∷_, _++_}
 use mathlib.Core.Logic.{_↔_}
 use native.Mathlib.Omega.{arith}
-use native.Mathlib.Nat.{mul-le-mul}
-use lib.ListN.{length, drop, length-append, length-drop}
-use lib.Seq.{getD-append-add, getD-drop}
+use native.Mathlib.Nat.{mul-le-mul, zero-add}
+use lib.ListN.{length, length-append}
+use lib.Seq.{getD-append-add}
 use lib.IntN.{ℤ, pos}
 use Rattle.laws.specs.Lists.{at, tab, tabs, padded}
-use Rattle.laws.specs.Tabs.{length-tab, length-tabs, tab-same, padded-at, Filled}
-use Rattle.laws.specs.Columns.{tab-at, padded-filled}
+use Rattle.laws.specs.Tabs.{length-tab, length-tabs, Filled}
+use Rattle.laws.specs.Tests.{never}
+use Rattle.laws.specs.Columns.{tab-join, tabs-tab, tab-at, tab-moved, padded-filled, parted-tab, parted-filled}
 use Rattle.meaning.specs.declared.Plant.{Plant}
-use Rattle.meaning.specs.Files.{Form, end, read, valuesAt}
-use Rattle.meaning.specs.Plants.{times, edgesAndBands, row, headed, plantForm, edgesOf, bandOf, column, mostCoefs, coefCount, plantOf, numbersOf}
-use Rattle.promises.specs.files.Bodies.{body-back}
+use Rattle.meaning.specs.Files.{Form, read, valuesAt}
+use Rattle.meaning.specs.Plants.{times, edges, row, headed, plantForms, mostModes, ownBands, modesOwn, modesAlike, modesForm, plantForm, edgesOf, column, mostCoefs, coefCount, mostBands, bandCount, modeSize, bandsAt, rowsAt, bandNumbers, rowNumbers, modesNumbers, plantOf, numbersOf}
+use Rattle.promises.specs.files.Bodies.{edges-taken}
 use Rattle.promises.specs.files.Files.{Shaped, writes-back}
-use Rattle.promises.specs.files.FormShapes.{edges-takes, row-takes, times-takes, then-takes, takes-all}
+use Rattle.promises.specs.files.FormShapes.{Takes, edges-takes, bands-takes, row-takes, times-takes, then-takes, takes-all}
 use Rattle.promises.specs.files.Headers.{headed-read}
-use Rattle.promises.specs.files.Plants.{Tidy}
+use Rattle.promises.specs.files.Plants.{Tidy, mode-long}
 
 -- what a plant's file holds behind the header
-abbrev pub plantBody : ℕ → ℕ → Form
-plantBody n modes = edgesAndBands n (times (modes * n) (row n) end)
+abbrev pub plantBody : ℕ → ℕ → ℕ → Form
+plantBody form n modes = edges n (modesForm form n modes)
 
-body-shape : (n modes : ℕ) (vs : List ℤ) → Shaped (plantBody n modes) vs ↔ (length vs ≡ 6 * n + coefCount modes n)
-body-shape n modes = takes-all (then-takes (edges-takes n) (times-takes (row-takes n) (modes * n)))
+-- how many numbers the modes have
+abbrev pub modesCount : Bool → ℕ → ℕ → ℕ
+modesCount own n modes = cond own (modeSize n * modes) (2 * n + n * (n + 1) * modes)
+
+rows-take : (n m : ℕ) → Takes (times m (row n)) (m * (n + 1))
+rows-take n m = times-takes (row-takes n) m
+
+body-shape : (own : Bool) (n modes : ℕ) (vs : List ℤ) → Shaped (edges n (cond own (modesOwn n modes) (modesAlike n modes))) vs ↔ (length vs ≡ 4 * n + modesCount own n modes)
+unfolding modesOwn modesAlike
+body-shape true n modes vs =
+    let e : 4 * n + modeSize n * modes ≡ 4 * n + modes * (2 * n + n * (n + 1)) = omega arith in
+    rw e (takes-all (then-takes (edges-takes n) (times-takes (then-takes (bands-takes n) (rows-take n n)) modes)) vs)
+body-shape false n modes vs =
+    let e : 4 * n + (2 * n + n * (n + 1) * modes) ≡ 4 * n + (2 * n + modes * n * (n + 1)) = omega arith in
+    rw e (takes-all (then-takes (edges-takes n) (then-takes (bands-takes n) (rows-take n (modes * n)))) vs)
+
+-- the numbers of any modes, as many
+modes-long : (own : Bool) (n modes : ℕ) (bands coef : List ℤ)
+    → length (cond own (tabs (λ u. bandNumbers n bands u ++ rowNumbers n coef u) modes 0) (bandNumbers n bands 0 ++ tabs (rowNumbers n coef) modes 0)) ≡ modesCount own n modes
+modes-long true n modes bands coef = length-tabs (λ u. bandNumbers n bands u ++ rowNumbers n coef u) (modeSize n) (mode-long n modes bands coef) modes 0
+modes-long false n modes bands coef =
+    length-append (bandNumbers n bands 0) (tabs (rowNumbers n coef) modes 0)
+    ∙ rw (length-tab (at bands) (2 * n) (2 * n * 0), length-tabs (rowNumbers n coef) (n * (n + 1)) (λ u. length-tab (at coef) (n * (n + 1)) (n * (n + 1) * u)) modes 0) refl
 
 -- the numbers of any plant, of any size
 pub plant-shaped : (p : Plant) → Shaped plantForm (numbersOf p)
 unfolding Shaped plantForm headed numbersOf
-plant-shaped p = (refl, (refl, (refl, (refl, (refl, (refl, body-shape (p .n) (p .modes) (edges ++ (bands ++ coefs)) .1 long))))))
+plant-shaped p = (refl, (refl, (refl, (refl, (refl, (refl, body-shape (ownBands (p .form)) (p .n) (p .modes) (sides ++ modes) .1 long))))))
   where
-    edges : List ℤ
-    edges = tabs (edgesOf (p .rlo) (p .rhi) (p .slo) (p .shi)) (p .n) 0
+    sides : List ℤ
+    sides = tabs (edgesOf (p .rlo) (p .rhi) (p .slo) (p .shi)) (p .n) 0
 
-    bands : List ℤ
-    bands = tabs (bandOf (p .wlo) (p .whi)) (p .n) 0
+    modes : List ℤ
+    modes = modesNumbers (p .form) (p .n) (p .modes) (p .bands) (p .coef)
 
-    coefs : List ℤ
-    coefs = tab (at (p .coef)) (coefCount (p .modes) (p .n)) 0
-
-    long : length (edges ++ (bands ++ coefs)) ≡ 6 * p .n + coefCount (p .modes) (p .n)
+    long : length (sides ++ modes) ≡ 4 * p .n + modesCount (ownBands (p .form)) (p .n) (p .modes)
     long =
         let a = length-tabs (edgesOf (p .rlo) (p .rhi) (p .slo) (p .shi)) 4 (λ k. refl) (p .n) 0 in
-        let b = length-tabs (bandOf (p .wlo) (p .whi)) 2 (λ k. refl) (p .n) 0 in
-        let c = length-tab (at (p .coef)) (coefCount (p .modes) (p .n)) 0 in
-        omega (arith, length-append edges (bands ++ coefs), length-append bands coefs)
+        let b = modes-long (ownBands (p .form)) (p .n) (p .modes) (p .bands) (p .coef) in
+        length-append sides modes ∙ rw (a, b) refl
 
--- a plant has at most 320 coefficients
-pub numbers-few : (modes n : ℕ) → n ≤ 4 → modes ≤ 16 → coefCount modes n ≤ mostCoefs
-numbers-few modes n few many = let a : modes * n ≤ 16 * 4 = mul-le-mul many few in let b : n + 1 ≤ 5 = omega arith in omega (arith, mul-le-mul a b)
+-- a plant has at most 320 coefficients, and 128 ends of bands
+pub numbers-few : (modes n : ℕ) → n ≤ 4 → modes ≤ mostModes → coefCount modes n ≤ mostCoefs
+numbers-few modes n few many = let a : modes * n ≤ mostModes * 4 = mul-le-mul many few in let b : n + 1 ≤ 5 = omega arith in omega (arith, mul-le-mul a b)
+
+pub ends-few : (modes n : ℕ) → n ≤ 4 → modes ≤ mostModes → bandCount modes n ≤ mostBands
+ends-few modes n few many = let a : modes * n ≤ mostModes * 4 = mul-le-mul many few in omega arith
 
 -- ---- numbers that were read, as many as n rooms and N modes call for
 
-module _ (n modes q k d : ℕ) (body : List ℤ) (few : n ≤ 4) (many : modes ≤ 16) (long : length body ≡ 6 * n + coefCount modes n) where
+module _ (form n modes q k d : ℕ) (body : List ℤ) (few : n ≤ 4) (some : 1 ≤ modes) (many : modes ≤ mostModes) (long : length body ≡ 4 * n + modesCount (ownBands form) n modes) where
   front : List ℤ
-  front = pos 1 ∷ pos n ∷ pos modes ∷ pos q ∷ pos k ∷ pos d ∷ []
+  front = pos form ∷ pos n ∷ pos modes ∷ pos q ∷ pos k ∷ pos d ∷ []
 
   numbers : List ℤ
   numbers = front ++ body
 
-  coefs-back : tab (at (padded mostCoefs (pos 0) (tab (λ i. at numbers (6 + 6 * n + i)) (coefCount modes n) 0))) (coefCount modes n) 0 ≡ drop (6 * n) body
+  bands : List ℤ
+  bands = padded mostBands (pos 0) (tabs (λ u. tab (at numbers) (2 * n) (bandsAt form n u)) modes 0)
+
+  coefs : List ℤ
+  coefs = padded mostCoefs (pos 0) (tabs (λ u. tab (at numbers) (n * (n + 1)) (rowsAt form n u)) modes 0)
+
+  -- behind the header
+  here : (m i : ℕ) → tab (at numbers) m (6 + i) ≡ tab (at body) m i
   unfolding front numbers
-  coefs-back =
-      let c = coefCount modes n in
-      let l = drop (6 * n) body in
-      let e : c ≡ length l = omega (arith, length-drop (6 * n) body) in
-      tab-same (at (padded mostCoefs (pos 0) (tab (λ i. at numbers (6 + 6 * n + i)) c 0))) (at l) c 0 (λ i a b. padded-at (λ i. at numbers (6 + 6 * n + i)) mostCoefs c i (omega arith) ∙ here i)
-      ∙ ap (λ (m : ℕ). tab (at l) m 0) e ∙ tab-at l
+  here m i = tab-moved (at numbers) (at body) m (6 + i) i (λ k l. let e : 6 + i + k ≡ 6 + (i + k) = omega arith in ap (at numbers) e ∙ getD-append-add front body (i + k) (pos 0))
+
+  bands-back : (u : ℕ) → u < modes → bandNumbers n bands u ≡ tab (at body) (2 * n) (4 * n + cond (ownBands form) (modeSize n * u) 0)
+  unfolding bands
+  bands-back u h =
+      let c = cond (ownBands form) (modeSize n * u) 0 in
+      let e : 6 + 4 * n + c ≡ 6 + (4 * n + c) = omega arith in
+      parted-tab numbers (2 * n) (bandsAt form n) modes mostBands u h ∙ ap (tab (at numbers) (2 * n)) e ∙ here (2 * n) (4 * n + c)
+
+  rows-back : (u : ℕ) → u < modes → rowNumbers n coefs u ≡ tab (at body) (n * (n + 1)) (6 * n + cond (ownBands form) (modeSize n * u) (n * (n + 1) * u))
+  unfolding coefs
+  rows-back u h =
+      let c = cond (ownBands form) (modeSize n * u) (n * (n + 1) * u) in
+      let e : 6 + 6 * n + c ≡ 6 + (6 * n + c) = omega arith in
+      parted-tab numbers (n * (n + 1)) (rowsAt form n) modes mostCoefs u h ∙ ap (tab (at numbers) (n * (n + 1))) e ∙ here (n * (n + 1)) (6 * n + c)
+
+  modes-back : (own : Bool)
+      → ((u : ℕ) → u < modes → bandNumbers n bands u ≡ tab (at body) (2 * n) (4 * n + cond own (modeSize n * u) 0))
+      → ((u : ℕ) → u < modes → rowNumbers n coefs u ≡ tab (at body) (n * (n + 1)) (6 * n + cond own (modeSize n * u) (n * (n + 1) * u)))
+      → cond own (tabs (λ u. bandNumbers n bands u ++ rowNumbers n coefs u) modes 0) (bandNumbers n bands 0 ++ tabs (rowNumbers n coefs) modes 0)
+      ≡ tab (at body) (modesCount own n modes) (4 * n)
+  modes-back true b r = tabs-tab (at body) (λ u. bandNumbers n bands u ++ rowNumbers n coefs u) (modeSize n) (4 * n) modes each
     where
-      here : (i : ℕ) → at numbers (6 + 6 * n + i) ≡ at (drop (6 * n) body) i
-      here i =
-          let e : 6 + 6 * n + i ≡ 6 + (6 * n + i) = omega arith in
-          ap (at numbers) e ∙ getD-append-add front body (6 * n + i) (pos 0) ∙ sym (getD-drop (6 * n) body i (pos 0))
+      each : (u : ℕ) → u < modes → bandNumbers n bands u ++ rowNumbers n coefs u ≡ tab (at body) (modeSize n) (4 * n + modeSize n * u)
+      each u h =
+          let e : 6 * n + modeSize n * u ≡ 4 * n + modeSize n * u + 2 * n = omega arith in
+          rw (b u h, r u h, e) (tab-join (at body) (2 * n) (n * (n + 1)) (4 * n + modeSize n * u))
+  modes-back false b r =
+      let z : 4 * n + 0 ≡ 4 * n = omega arith in
+      let e : 6 * n ≡ 4 * n + 2 * n = omega arith in
+      let first : bandNumbers n bands 0 ≡ tab (at body) (2 * n) (4 * n) = b 0 (omega arith) ∙ ap (tab (at body) (2 * n)) z in
+      let others : tabs (rowNumbers n coefs) modes 0 ≡ tab (at body) (n * (n + 1) * modes) (4 * n + 2 * n) =
+          tabs-tab (at body) (rowNumbers n coefs) (n * (n + 1)) (6 * n) modes r ∙ ap (tab (at body) (n * (n + 1) * modes)) e in
+      rw (first, others) (tab-join (at body) (2 * n) (n * (n + 1) * modes) (4 * n))
 
   numbers-back : numbersOf (plantOf numbers) ≡ numbers
-  unfolding front numbers plantOf numbersOf
-  numbers-back = ap (λ (t : List ℤ). front ++ t) (rw coefs-back (body-back front refl body n (omega arith)))
+  unfolding front numbers bands coefs plantOf numbersOf
+  numbers-back =
+      let c = modesCount (ownBands form) n modes in
+      let z : 0 + 4 * n ≡ 4 * n = zero-add (4 * n) in
+      ap (λ (t : List ℤ). front ++ t)
+      (rw (edges-taken front refl body n, modes-back (ownBands form) bands-back rows-back)
+      (ap (λ (i : ℕ). tab (at body) (4 * n) 0 ++ tab (at body) c i) (sym z) ∙ tab-join (at body) (4 * n) c 0 ∙ ap (λ (m : ℕ). tab (at body) m 0) (sym long) ∙ tab-at body))
 
   numbers-tidy : Tidy (plantOf numbers)
-  unfolding front numbers plantOf
-  numbers-tidy = record {
-    rooms = few;
-    numbers = numbers-few modes n few many;
-    rlo-filled = columns 6 4;
-    rhi-filled = columns 7 4;
-    slo-filled = columns 8 4;
-    shi-filled = columns 9 4;
-    wlo-filled = columns (6 + 4 * n) 2;
-    whi-filled = columns (7 + 4 * n) 2;
-    coef-filled = padded-filled (λ i. at numbers (6 + 6 * n + i)) mostCoefs (coefCount modes n) (numbers-few modes n few many);
-  }
+  unfolding front numbers bands coefs plantOf
+  numbers-tidy =
+      let b : 2 * n * modes ≡ bandCount modes n = omega arith in
+      let c : n * (n + 1) * modes ≡ coefCount modes n = omega arith in
+      let ends = ends-few modes n few many in
+      let entries = numbers-few modes n few many in
+      record {
+        rooms = few;
+        numbers = entries;
+        ends = ends;
+        rlo-filled = columns 6 4;
+        rhi-filled = columns 7 4;
+        slo-filled = columns 8 4;
+        shi-filled = columns 9 4;
+        bands-filled = rw b at (parted-filled numbers (2 * n) (bandsAt form n) modes mostBands (omega arith));
+        coef-filled = rw c at (parted-filled numbers (n * (n + 1)) (rowsAt form n) modes mostCoefs (omega arith));
+        alike = λ one u h. alike (ownBands form) one u h bands-back;
+      }
     where
       columns : (first by : ℕ) → Filled 4 n (column numbers first by n)
       columns first by = padded-filled (λ i. at numbers (first + by * i)) 4 n few
+
+      alike : (own : Bool) → own ≡ false → (u : ℕ) → u < modes → ((u : ℕ) → u < modes → bandNumbers n bands u ≡ tab (at body) (2 * n) (4 * n + cond own (modeSize n * u) 0))
+          → bandNumbers n bands 0 ≡ bandNumbers n bands u
+      alike true e u h b = never (sym e)
+      alike false e u h b = b 0 (omega arith) ∙ sym (b u h)
 
 -- the plant that numbers of a file make: its arrays are tidy, and those are its numbers
 pub plant-read : (s : List ℕ) {vs : List ℤ} {next : ℕ} → valuesAt plantForm s 0 ≡ read vs next → Tidy (plantOf vs) × (numbersOf (plantOf vs) ≡ vs)
 unfolding plantForm front numbers
 plant-read s {vs} {next} e =
-    let h = headed-read 16 plantBody s 0 e in
-    let long = body-shape (h .n) (h .m) (h .body) .0 (writes-back (plantBody (h .n) (h .m)) s (h .place) (h .behind) .0) in
-    rw (h .values) (numbers-tidy (h .n) (h .m) (h .q) (h .k) (h .d) (h .body) (h .few) (h .many) long, numbers-back (h .n) (h .m) (h .q) (h .k) (h .d) (h .body) (h .few) (h .many) long)
+    let h = headed-read plantForms mostModes plantBody s 0 e in
+    let long = body-shape (ownBands (h .form)) (h .n) (h .m) (h .body) .0 (writes-back (plantBody (h .form) (h .n) (h .m)) s (h .place) (h .behind) .0) in
+    rw (h .values) (
+      numbers-tidy (h .form) (h .n) (h .m) (h .q) (h .k) (h .d) (h .body) (h .few) (h .some) (h .many) long,
+      numbers-back (h .form) (h .n) (h .m) (h .q) (h .k) (h .d) (h .body) (h .few) (h .some) (h .many) long,
+    )

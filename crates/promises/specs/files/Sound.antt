@@ -10,7 +10,7 @@ use lib.Signed.{_≤ℤ_}
 use Rattle.laws.specs.Lists.{at}
 use Rattle.meaning.specs.declared.Plant.{Plant}
 use Rattle.meaning.specs.Boxes.{Side, sideAt, within}
-use Rattle.meaning.specs.Plants.{edgeLimit, bandLimit, entryLimit, offsetLimit, rootOf, safeOf, rowStart, mostCoefs}
+use Rattle.meaning.specs.Plants.{edgeLimit, bandLimit, entryLimit, offsetLimit, plantForms, mostModes, rootOf, safeOf, rowStart, mostCoefs, bandSide, mostBands}
 
 -- a side within ± a limit, and not empty
 pub record Bounded (limit : ℕ) (s : Side) : Type 0 where
@@ -24,8 +24,8 @@ pub record Edges (limit n : ℕ) (lo hi : List ℤ) : Type 0 where
   pub hi-size : length hi ≡ 4
   pub sides : (i : ℕ) → i < n → Bounded limit (sideAt lo hi i)
 
--- header, R, S and w, of a plant and of a sheet; the third number of the header, N or r, is in 1..most
-pub record Ranges (most n m q k d : ℕ) (rlo rhi slo shi wlo whi : List ℤ) : Type 0 where
+-- header, R and S, of a plant and of a sheet; the third number of the header, N or r, is in 1..most
+pub record Ranges (most n m q k d : ℕ) (rlo rhi slo shi : List ℤ) : Type 0 where
   pub n-low : 1 ≤ n
   pub n-high : n ≤ 4
   pub m-low : 1 ≤ m
@@ -38,12 +38,20 @@ pub record Ranges (most n m q k d : ℕ) (rlo rhi slo shi wlo whi : List ℤ) : 
   pub nd-high : n * d ≤ 12
   pub root : Edges edgeLimit n rlo rhi
   pub safe : Edges edgeLimit n slo shi
-  pub band : Edges bandLimit n wlo whi
+
+-- a band of at least q − 1
+abbrev pub Wide : ℕ → Side → Type 0
+Wide q w = (pos q -ℤ pos 1) ≤ℤ (w .hi -ℤ w .lo)
 
 pub record Sound (p : Plant) : Type 0 where
-  pub ranges : Ranges 16 (p .n) (p .modes) (p .q) (p .k) (p .d) (p .rlo) (p .rhi) (p .slo) (p .shi) (p .wlo) (p .whi)
+  pub first : 1 ≤ p .form
+  pub known : p .form ≤ plantForms
+  pub ranges : Ranges mostModes (p .n) (p .modes) (p .q) (p .k) (p .d) (p .rlo) (p .rhi) (p .slo) (p .shi)
   pub root-safe : within (rootOf p) (safeOf p) ≡ true
-  pub wide : (i : ℕ) → i < p .n → (pos (p .q) -ℤ pos 1) ≤ℤ (at (p .whi) i -ℤ at (p .wlo) i)
+  -- the band of mode u in dimension i
+  pub band-size : length (p .bands) ≡ mostBands
+  pub bands : (u i : ℕ) → u < p .modes → i < p .n → Bounded bandLimit (bandSide (p .n) (p .bands) u i)
+  pub wide : (u i : ℕ) → u < p .modes → i < p .n → Wide (p .q) (bandSide (p .n) (p .bands) u i)
   -- row i of mode u, its n entries of A and b_i behind them
   pub coef-size : length (p .coef) ≡ mostCoefs
   pub entries : (u i j : ℕ) → u < p .modes → i < p .n → j < p .n → natAbs (at (p .coef) (rowStart (p .n) u i + j)) ≤ entryLimit
