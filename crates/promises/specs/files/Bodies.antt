@@ -62,13 +62,13 @@ module _ (front : List ℤ) (six : length front ≡ 6) (n : ℕ) (edges bands : 
   bands-long = length-tabs bands 2 two n 0
 
   -- the j-th end of the band of dimension i
-  band-at : (i j : ℕ) → i < n → j < 2 → at filed (6 + 4 * n + (2 * i + j)) ≡ at (bands i) j
+  pub band-at : (i j : ℕ) → i < n → j < 2 → at filed (6 + 4 * n + (2 * i + j)) ≡ at (bands i) j
   band-at i j h l =
       behind-at front six n edges four (tabs bands n 0 ++ rest) (2 * i + j)
       ∙ List·getD-append (tabs bands n 0) rest (pos 0) (2 * i + j) (omega (arith, bands-long))
       ∙ getD-tabs bands 2 two (pos 0) n 0 i j h l ∙ ap (λ (k : ℕ). at (bands k) j) (zero-add i)
 
-  pub band-column : (j : ℕ) → j < 2 → column filed (6 + j + 4 * n) 2 n ≡ padded 4 (pos 0) (tab (λ i. at (bands i) j) n 0)
+  band-column : (j : ℕ) → j < 2 → column filed (6 + j + 4 * n) 2 n ≡ padded 4 (pos 0) (tab (λ i. at (bands i) j) n 0)
   band-column j h = ap (padded 4 (pos 0)) (tab-same (λ i. at filed (6 + j + 4 * n + 2 * i)) (λ i. at (bands i) j) n 0 (λ i a b. here i (omega arith)))
     where
       here : (i : ℕ) → i < n → at filed (6 + j + 4 * n + 2 * i) ≡ at (bands i) j

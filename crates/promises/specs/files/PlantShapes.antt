@@ -125,7 +125,7 @@ module _ (form n modes q k d : ℕ) (body : List ℤ) (few : n ≤ 4) (some : 1 
       let e : 6 * n ≡ 4 * n + 2 * n = omega arith in
       let first : bandNumbers n bands 0 ≡ tab (at body) (2 * n) (4 * n) = b 0 (omega arith) ∙ ap (tab (at body) (2 * n)) z in
       let others : tabs (rowNumbers n coefs) modes 0 ≡ tab (at body) (n * (n + 1) * modes) (4 * n + 2 * n) =
-          tabs-tab (at body) (rowNumbers n coefs) (n * (n + 1)) (6 * n) modes r ∙ ap (tab (at body) (n * (n + 1) * modes)) e in
+      tabs-tab (at body) (rowNumbers n coefs) (n * (n + 1)) (6 * n) modes r ∙ ap (tab (at body) (n * (n + 1) * modes)) e in
       rw (first, others) (tab-join (at body) (2 * n) (n * (n + 1) * modes) (4 * n))
 
   numbers-back : numbersOf (plantOf numbers) ≡ numbers

@@ -102,8 +102,8 @@ module _ (p : Plant) (t : Tidy p) where
   bands-same =
       let e : 2 * n * p .modes ≡ bandCount (p .modes) n = omega arith in
       ap (padded mostBands (pos 0)) (tabs-tab (at (p .bands)) (λ u. tab (at (numbersOf p)) (2 * n) (bandsAt (p .form) n u)) (2 * n) 0 (p .modes)
-          (λ u h. let z : 0 + 2 * n * u ≡ 2 * n * u = zero-add (2 * n * u) in
-              rw z (tab-moved (at (numbersOf p)) (at (p .bands)) (2 * n) (bandsAt (p .form) n u) (2 * n * u) (λ k l. here u k h l))) ∙ ap (λ (c : ℕ). tab (at (p .bands)) c 0) e)
+      (λ u h. let z : 0 + 2 * n * u ≡ 2 * n * u = zero-add (2 * n * u) in
+      rw z (tab-moved (at (numbersOf p)) (at (p .bands)) (2 * n) (bandsAt (p .form) n u) (2 * n * u) (λ k l. here u k h l))) ∙ ap (λ (c : ℕ). tab (at (p .bands)) c 0) e)
       ∙ filled-padded (t .bands-filled) (t .ends)
     where
       here : (u k : ℕ) → u < p .modes → k < 2 * n → at (numbersOf p) (bandsAt (p .form) n u + k) ≡ at (p .bands) (2 * n * u + k)
@@ -118,8 +118,8 @@ module _ (p : Plant) (t : Tidy p) where
   coef-same =
       let e : n * (n + 1) * p .modes ≡ coefCount (p .modes) n = omega arith in
       ap (padded mostCoefs (pos 0)) (tabs-tab (at (p .coef)) (λ u. tab (at (numbersOf p)) (n * (n + 1)) (rowsAt (p .form) n u)) (n * (n + 1)) 0 (p .modes)
-          (λ u h. let z : 0 + n * (n + 1) * u ≡ n * (n + 1) * u = zero-add (n * (n + 1) * u) in
-              rw z (tab-moved (at (numbersOf p)) (at (p .coef)) (n * (n + 1)) (rowsAt (p .form) n u) (n * (n + 1) * u) (λ k l. here u k h l))) ∙ ap (λ (c : ℕ). tab (at (p .coef)) c 0) e)
+      (λ u h. let z : 0 + n * (n + 1) * u ≡ n * (n + 1) * u = zero-add (n * (n + 1) * u) in
+      rw z (tab-moved (at (numbersOf p)) (at (p .coef)) (n * (n + 1)) (rowsAt (p .form) n u) (n * (n + 1) * u) (λ k l. here u k h l))) ∙ ap (λ (c : ℕ). tab (at (p .coef)) c 0) e)
       ∙ filled-padded (t .coef-filled) (t .numbers)
     where
       here : (u k : ℕ) → u < p .modes → k < n * (n + 1) → at (numbersOf p) (rowsAt (p .form) n u + k) ≡ at (p .coef) (n * (n + 1) * u + k)

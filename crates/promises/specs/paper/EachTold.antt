@@ -1,5 +1,5 @@
 -- The numbers that page Told allows are each told of some input, so that no list there has a number too many. The checker computes each line, from document 01's
--- plants P and P' and the sheet of its line 13, with one fault each. Relies on crates/meaning alone for the answers.
+-- plants P and P' and the sheet of its line 13, with one fault each. And where 5 is told: its place is the mode, its step the dimension (request 2026-09). Relies on crates/meaning alone for the answers.
 use Prim.Native.Nat.{ℕ}
 use mathlib.Core.Path.{_≡_, refl}
 use mathlib.Core.List.{List, [], _∷_}
@@ -17,22 +17,35 @@ use Rattle.meaning.specs.Refusals.{verdictShown, writtenShown, answerShown}
 use Rattle.meaning.specs.Sheets.{sheetForm, sheetOf, sheetRead, sheetLeft, madeLeft}
 use Rattle.meaning.specs.Tables.{checked, makerLeft, controlled}
 use Rattle.promises.specs.sheets.Faults.{plantNumbers, sheetNumbers}
+use Rattle.promises.specs.paper.Shows.{shows}
 use Rattle.promises.specs.paper.Told.{sheetMakerNumbers, makerNumbers, plantWriterNumbers, sheetWriterNumbers, checkerNumbers, controllerNumbers}
 
--- P by q, D, S and the upper end of its band
-abbrev plantBy : ℕ → ℕ → ℕ → ℕ → ℕ → List ℤ
-plantBy q d slo shi whi =
-    pos 1 ∷ pos 1 ∷ pos 2 ∷ pos q ∷ pos 2 ∷ pos d ∷ pos 195 ∷ pos 225 ∷ pos slo ∷ pos shi ∷ negℤ (pos 5) ∷ pos whi
+-- P by its form, which is no 2, q, D, S and the upper end of its band
+abbrev plantBy : ℕ → ℕ → ℕ → ℕ → ℕ → ℕ → List ℤ
+plantBy form q d slo shi whi =
+    pos form ∷ pos 1 ∷ pos 2 ∷ pos q ∷ pos 2 ∷ pos d ∷ pos 195 ∷ pos 225 ∷ pos slo ∷ pos shi ∷ negℤ (pos 5) ∷ pos whi
     ∷ pos 9 ∷ pos 100 ∷ pos 9 ∷ pos 300 ∷ []
 
 abbrev plantWith : ℕ → ℕ → ℕ → ℕ → List ℕ
-plantWith d slo shi whi = fileOf plantForm (plantBy 10 d slo shi whi)
+plantWith d slo shi whi = fileOf plantForm (plantBy 1 10 d slo shi whi)
 
 abbrev P : List ℕ
 P = plantWith 1 190 230 4
 
 abbrev P′ : List ℕ
 P′ = plantWith 1 180 240 4
+
+-- P in form 2, by the upper ends of the bands of its two modes
+abbrev ownWith : ℕ → ℕ → List ℕ
+ownWith whi₀ whi₁ =
+    fileOf plantForm (pos 2 ∷ pos 1 ∷ pos 2 ∷ pos 10 ∷ pos 2 ∷ pos 1 ∷ pos 195 ∷ pos 225 ∷ pos 190 ∷ pos 230
+    ∷ negℤ (pos 5) ∷ pos whi₀ ∷ pos 9 ∷ pos 100 ∷ negℤ (pos 5) ∷ pos whi₁ ∷ pos 9 ∷ pos 300 ∷ [])
+
+-- two rooms and one mode, by the upper ends of the two bands
+abbrev roomsWith : ℕ → ℕ → List ℕ
+roomsWith whi₀ whi₁ =
+    fileOf plantForm (pos 1 ∷ pos 2 ∷ pos 1 ∷ pos 10 ∷ pos 2 ∷ pos 1 ∷ pos 195 ∷ pos 225 ∷ pos 190 ∷ pos 230 ∷ pos 195 ∷ pos 225 ∷ pos 190 ∷ pos 230
+    ∷ negℤ (pos 5) ∷ pos whi₀ ∷ negℤ (pos 5) ∷ pos whi₁ ∷ pos 9 ∷ pos 0 ∷ pos 100 ∷ pos 0 ∷ pos 9 ∷ pos 100 ∷ [])
 
 -- line 13's sheet by q, the lower edge of S, the upper end of its band, its sample time and the outside temperature
 abbrev sheetBy : ℕ → ℕ → ℕ → ℕ → ℕ → List ℤ
@@ -68,16 +81,25 @@ pub record EachTold : Type 0 where
   -- of a table, the plants being good
   pub checker : Every (λ n. (p table : List ℕ) × (verdictShown (plantRead p .verdict) .number ≡ 0) × (verdictShown (checked p table) .number ≡ n)) checkerNumbers
   pub controller : Every (λ n. (table : List ℕ) × (st : State) × (x : List ℤ) × (answerShown (controlled P table st x) .number ≡ n)) controllerNumbers
+  -- 5: the first mode of line 12's plant; the second mode of a plant of form 2, and the first before it; the second dimension; a sheet's one band
+  pub narrow-first : verdictShown (plantRead (plantWith 1 190 230 3) .verdict) ≡ shows 5 0 0 []
+  pub narrow-mode : (verdictShown (plantRead (ownWith 4 3) .verdict) ≡ shows 5 1 0 []) × (verdictShown (plantRead (ownWith 3 3) .verdict) ≡ shows 5 0 0 [])
+  pub narrow-dimension : verdictShown (plantRead (roomsWith 4 3) .verdict) ≡ shows 5 0 1 []
+  pub narrow-sheet : verdictShown (sheetRead (sheetWith 190 2 one eight) .verdict) ≡ shows 5 0 0 []
 
 pub each-told : EachTold
 unfolding computing E.Every
 each-told = record {
-  plant = (([], refl), ((2 ∷ [], refl), ((1 ∷ 0 ∷ [], refl), ((plantWith 1 196 230 4, refl), ((plantWith 1 190 230 3, refl), tt)))));
+  plant = (([], refl), ((3 ∷ [], refl), ((1 ∷ 0 ∷ [], refl), ((plantWith 1 196 230 4, refl), ((plantWith 1 190 230 3, refl), tt)))));
   sheet = (([], refl), ((2 ∷ [], refl), ((1 ∷ 0 ∷ [], refl), ((sheetWith 196 3 one eight, refl), ((sheetWith 190 2 one eight, refl), ((sheetWith 190 3 0 eight, refl), ((sheetWith 190 3 one huge, refl), tt)))))));
   sheet-maker = (([], [], refl), ((2 ∷ [], [], refl), ((1 ∷ 0 ∷ [], [], refl), ((sheetWith 196 3 one eight, [], refl), ((sheetWith 190 2 one eight, [], refl), ((sheetWith 190 3 one eight, [], refl), ((sheetWith 190 3 0 eight, [], refl), ((sheetWith 190 3 one huge, [], refl), tt))))))));
-  maker = (([], [], refl), ((2 ∷ [], [], refl), ((1 ∷ 0 ∷ [], [], refl), ((plantWith 1 196 230 4, [], refl), ((plantWith 1 190 230 3, [], refl), ((plantWith 0 190 230 4, [], refl), ((P, [], refl), tt)))))));
-  plant-writer = ((plantOf (plantBy long 1 190 230 4), [], refl), ((plantOf (plantBy 0 1 190 230 4), [], refl), ((plantOf (plantBy 10 1 196 230 4), [], refl), ((plantOf (plantBy 10 1 190 230 3), [], refl), ((plantOf (plantBy 10 1 190 230 4), [], refl), tt)))));
+  maker = (([], [], refl), ((3 ∷ [], [], refl), ((1 ∷ 0 ∷ [], [], refl), ((plantWith 1 196 230 4, [], refl), ((plantWith 1 190 230 3, [], refl), ((plantWith 0 190 230 4, [], refl), ((P, [], refl), tt)))))));
+  plant-writer = ((plantOf (plantBy 1 long 1 190 230 4), [], refl), ((plantOf (plantBy 3 10 1 190 230 4), [], refl), ((plantOf (plantBy 1 0 1 190 230 4), [], refl), ((plantOf (plantBy 1 10 1 196 230 4), [], refl), ((plantOf (plantBy 1 10 1 190 230 3), [], refl), ((plantOf (plantBy 1 10 1 190 230 4), [], refl), tt))))));
   sheet-writer = ((sheetOf (sheetBy long 190 3 one eight), [], refl), ((sheetOf (sheetBy 0 190 3 one eight), [], refl), ((sheetOf (sheetBy 8 196 3 one eight), [], refl), ((sheetOf (sheetBy 8 190 2 one eight), [], refl), ((sheetOf (sheetBy 8 190 3 one eight), [], refl), ((sheetOf (sheetBy 8 190 3 0 eight), [], refl), ((sheetOf (sheetBy 8 190 3 one huge), [], refl), tt)))))));
   checker = ((P, [], refl, refl), ((P, 2 ∷ [], refl, refl), ((P, 1 ∷ 2 ∷ [], refl, refl), ((P, 1 ∷ 1 ∷ 1 ∷ 1 ∷ [], refl, refl), ((P′, 1 ∷ 1 ∷ 1 ∷ 1 ∷ [], refl, refl), tt)))));
   controller = (([], idle, [], refl), ((2 ∷ [], idle, [], refl), ((1 ∷ 2 ∷ [], idle, [], refl), ((1 ∷ 1 ∷ [], idle, pos 194 ∷ [], refl), ((1 ∷ 1 ∷ [], record { place = 1; left = 0 }, pos 200 ∷ [], refl), tt)))));
+  narrow-first = refl;
+  narrow-mode = (refl, refl);
+  narrow-dimension = refl;
+  narrow-sheet = refl;
 }

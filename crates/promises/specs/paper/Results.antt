@@ -22,6 +22,7 @@ use Rattle.meaning.specs.declared.Verdict.{Verdict}
 use Rattle.meaning.specs.Refusals.{wholeShown, verdictShown, notInSafe, narrow, badResult}
 use Rattle.meaning.specs.Boxes.{lies, within}
 use Rattle.meaning.specs.Files.{Read, read, refused, valuesOf, good, bad}
+use Rattle.meaning.specs.Plants as P
 use Rattle.meaning.specs.Plants.{wide}
 use Rattle.meaning.specs.Sheets as S
 use Rattle.meaning.specs.Sheets.{finite, wholeOf, units, unitsOf, sheetForm, sheetOf, madeNumbers, isNear, nearValue, rootSheet, safeSheet, bandsSheet, sheetRelated, sheetRead, sheetReadOf}
@@ -88,7 +89,7 @@ first-out l k = Iff·trans (first-exactly isNear Whole.Out l k) (
 
 -- the sheet's reader
 pub fourteen-shown : (sheet : List ℕ) (k : ℕ) → (verdictShown (sheetRead sheet .verdict) ≡ shows 14 k 0 []) ↔ BadResult sheet k
-unfolding S.sheetJudged
+unfolding S.sheetJudged P.wideModes
 fourteen-shown sheet k =
     Iff·trans (verdict-exactly (sheetRead sheet .verdict) (Verdict.Refused (badResult k)) (sheet-some sheet) (refused-some (badResult k) (λ q. omega arith))) (
       λ e. there (valuesOf sheetForm sheet) refl e,
@@ -110,11 +111,11 @@ fourteen-shown sheet k =
 
         go : (a : Bool) → within (rootSheet h) (safeSheet h) ≡ a → (b : Bool) → all (map (wide (h .q)) (bandsSheet h)) ≡ b → (c : Bool) → all (map isNear (madeNumbers h)) ≡ c
             → sheetReadOf (guard a (bad (notInSafe (firstFalse (lies (rootSheet h) (safeSheet h))))) λ _.
-            guard b (bad (narrow (firstFalse (map (wide (h .q)) (bandsSheet h))))) λ _.
+            guard b (bad (narrow 0 (firstFalse (map (wide (h .q)) (bandsSheet h))))) λ _.
             guard c (bad (badResult (firstFalse (map isNear (madeNumbers h))))) λ _. good h) .verdict ≡ Verdict.Refused (badResult k)
             → BadResult sheet k
         go false p b r c u e = other (notInSafe (firstFalse (lies (rootSheet h) (safeSheet h)))) (λ z. omega arith) e
-        go true p false r c u e = other (narrow (firstFalse (map (wide (h .q)) (bandsSheet h)))) (λ z. omega arith) e
+        go true p false r c u e = other (narrow 0 (firstFalse (map (wide (h .q)) (bandsSheet h)))) (λ z. omega arith) e
         go true p true r true u e = never cc
         go true p true r false u e =
             record { values = vs; next = next; was-read = q; root-safe = p; bands-wide = r; first = first-out (madeNumbers h) k .0 (u, at-place e) }

@@ -1,5 +1,5 @@
 -- Which numbers each entry point can tell, and of which file (document 01, "What each number says" and the order of judgement): a plant 1 to 5, a sheet 13 and 14
--- besides; their writers no 2, and 10; sheet to plant 1 to 5, 10, 13 and 14; the maker 1 to 5, 9 and 10; checker and controller the plant's own refusal, or,
+-- besides; their writers 10 too, and no 2, which a plant's writer tells where the form that it was handed is not known; sheet to plant 1 to 5, 10, 13 and 14; the maker 1 to 5, 9 and 10; checker and controller the plant's own refusal, or,
 -- the plant being good, the table's: the checker 1, 2, 6, 7 and 8, the controller 1, 2, 6, 11 and 12. Places and steps are as page Telling says. And what
 -- is shown is 0 exactly where it is accepted, written, answered. Of all inputs. Relies on pages Faults, WalkTold and Made; that each of these numbers is
 -- told of some input is page EachTold. Which refusal it is the definitions say.
@@ -31,7 +31,7 @@ use Rattle.meaning.specs.Boxes.{Side, side, sideAt, sidesOf, fits}
 use Rattle.meaning.specs.Buffers.{left, refusedWith}
 use Rattle.meaning.specs.Files.{Judged, good, bad, fileJudged}
 use Rattle.meaning.specs.Plants as P
-use Rattle.meaning.specs.Plants.{rootOf, safeOf, plantJudged, plantRead, readOf, plantLeft}
+use Rattle.meaning.specs.Plants.{plantForms, rootOf, safeOf, plantJudged, plantRead, readOf, plantLeft}
 use Rattle.meaning.specs.Rules.{Rules, rule, holds}
 use Rattle.meaning.specs.Sheets as S
 use Rattle.meaning.specs.Sheets.{plantFileMade, sheetJudged, sheetRead, sheetReadOf, madeLeft, sheetLeft}
@@ -48,7 +48,7 @@ use Rattle.promises.specs.tables.Made.{made-told}
 use Rattle.promises.specs.files.PlantFiles.{plantFile}
 use Rattle.promises.specs.sheets.SheetFiles.{sheetFile}
 use Rattle.promises.specs.paper.Shows.{refusing, noMode, Some}
-use Rattle.promises.specs.files.Telling.{oneOf, areOf, Telling, guard-keeps, told-more, not-told}
+use Rattle.promises.specs.files.Telling.{oneOf, areOf, Place, TellingBy, Telling, SheetTelling, guard-keeps, told-more, not-told}
 use Rattle.promises.specs.tables.WalkTold.{number-keeps, FoundTells, WalkTells, walk-keeps, table-told, header-tells, walk-tells, find-tells, rule-tells}
 
 -- ---- the numbers, besides those of a plant and of a sheet (page Faults); those of checker and controller are about the table
@@ -60,7 +60,11 @@ abbrev pub makerNumbers : List ℕ
 makerNumbers = 1 ∷ 2 ∷ 3 ∷ 4 ∷ 5 ∷ 9 ∷ 10 ∷ []
 
 abbrev pub plantWriterNumbers : List ℕ
-plantWriterNumbers = 1 ∷ 3 ∷ 4 ∷ 5 ∷ 10 ∷ []
+plantWriterNumbers = 1 ∷ 2 ∷ 3 ∷ 4 ∷ 5 ∷ 10 ∷ []
+
+-- where the plant's form is known
+abbrev pub formedWriterNumbers : List ℕ
+formedWriterNumbers = 1 ∷ 3 ∷ 4 ∷ 5 ∷ 10 ∷ []
 
 abbrev pub sheetWriterNumbers : List ℕ
 sheetWriterNumbers = 1 ∷ 3 ∷ 4 ∷ 5 ∷ 10 ∷ 13 ∷ 14 ∷ []
@@ -178,44 +182,56 @@ left-refused P (good bytes) h ten buf e a = go (leb (length bytes) (length buf))
     go true a = never cc
     go false a = let z : e ≡ short = cc in rw z (ten bytes refl)
 
-left-told : (numbers more : List ℕ) (size : ℕ) (j : Judged (List ℕ)) → ((e : Refusal) → j ≡ bad e → Telling numbers size e) → areOf more numbers ≡ true
-    → oneOf more 10 ≡ true → (buf : List ℕ) (e : Refusal) → left j buf .answer ≡ Written.Refused e → Telling more size e
-left-told numbers more size j h some ten =
-    left-refused (Telling more size) j (λ e q. told-more (h e q) more some) (λ _ _. record { number = ten; place = refl; step = refl })
+left-told : {column : List Place} (numbers more : List ℕ) (size : ℕ) (j : Judged (List ℕ)) → ((e : Refusal) → j ≡ bad e → TellingBy column numbers size e)
+    → areOf more numbers ≡ true → TellingBy column more size short
+    → (buf : List ℕ) (e : Refusal) → left j buf .answer ≡ Written.Refused e → TellingBy column more size e
+left-told {column} numbers more size j h some ten = left-refused (TellingBy column more size) j (λ e q. told-more (h e q) more some) (λ _ _. ten)
 
 pub maker-told : (plant buf : List ℕ) (e : Refusal) → makerLeft plant buf .answer ≡ Written.Refused e
     → Telling makerNumbers (length plant) e
 unfolding T.makerLeft
-maker-told plant buf = left-told (9 ∷ plantNumbers) makerNumbers (length plant) (made plant) (made-told plant) refl refl buf
+maker-told plant buf = left-told (9 ∷ plantNumbers) makerNumbers (length plant) (made plant) (made-told plant) refl (record { number = refl; place = refl; step = refl }) buf
 
 -- sheet to plant
 pub sheet-maker-told : (sheet buf : List ℕ) (e : Refusal) → madeLeft sheet buf .answer ≡ Written.Refused e
-    → Telling sheetMakerNumbers (length sheet) e
+    → SheetTelling sheetMakerNumbers (length sheet) e
 unfolding S.madeLeft
 sheet-maker-told sheet buf =
-    left-told sheetNumbers sheetMakerNumbers (length sheet) (plantFileMade (sheetJudged sheet)) (λ e q. go (sheetJudged sheet) refl e q) refl refl buf
+    left-told sheetNumbers sheetMakerNumbers (length sheet) (plantFileMade (sheetJudged sheet)) (λ e q. go (sheetJudged sheet) refl e q) refl
+    (record { number = refl; place = refl; step = refl }) buf
   where
-    go : (j : Judged Sheet) → sheetJudged sheet ≡ j → (e : Refusal) → plantFileMade j ≡ bad e → Telling sheetNumbers (length sheet) e
+    go : (j : Judged Sheet) → sheetJudged sheet ≡ j → (e : Refusal) → plantFileMade j ≡ bad e → SheetTelling sheetNumbers (length sheet) e
     go (good h) w e q = never cc
     go (bad f) w e q = let z : f ≡ e = cc in sheet-told sheet e (rw z at w)
 
 -- writers of values
-file-told : {A : Type 0} (numbers : List ℕ) (size : ℕ) (bytes : List ℕ) (j : Judged A) → ((e : Refusal) → j ≡ bad e → Telling numbers size e)
-    → (e : Refusal) → fileJudged bytes j ≡ bad e → Telling numbers size e
-file-told numbers size bytes (good a) h e q = never cc
-file-told numbers size bytes (bad f) h e q = let z : f ≡ e = cc in h e (ap bad z)
+file-told : {A : Type 0} (tells : Refusal → Type 0) (bytes : List ℕ) (j : Judged A) → ((e : Refusal) → j ≡ bad e → tells e)
+    → (e : Refusal) → fileJudged bytes j ≡ bad e → tells e
+file-told tells bytes (good a) h e q = never cc
+file-told tells bytes (bad f) h e q = let z : f ≡ e = cc in h e (ap bad z)
 
 pub plant-writer-told : (p : Plant) (buf : List ℕ) (e : Refusal) → plantLeft p buf .answer ≡ Written.Refused e → Telling plantWriterNumbers (length (plantFile p)) e
 unfolding P.plantLeft
 plant-writer-told p buf =
     let s = plantFile p in
-    left-told plantValueNumbers plantWriterNumbers (length s) (fileJudged s (plantJudged s)) (file-told plantValueNumbers (length s) s (plantJudged s) (plant-file-told p)) refl refl buf
+    left-told plantNumbers plantWriterNumbers (length s) (fileJudged s (plantJudged s)) (file-told (Telling plantNumbers (length s)) s (plantJudged s) (plant-told s)) refl
+    (record { number = refl; place = refl; step = refl }) buf
 
-pub sheet-writer-told : (h : Sheet) (buf : List ℕ) (e : Refusal) → sheetLeft h buf .answer ≡ Written.Refused e → Telling sheetWriterNumbers (length (sheetFile h)) e
+-- by 2 only where its form is not known
+pub formed-writer-told : (p : Plant) → 1 ≤ p .form → p .form ≤ plantForms
+    → (buf : List ℕ) (e : Refusal) → plantLeft p buf .answer ≡ Written.Refused e → Telling formedWriterNumbers (length (plantFile p)) e
+unfolding P.plantLeft
+formed-writer-told p least known buf =
+    let s = plantFile p in
+    left-told plantValueNumbers formedWriterNumbers (length s) (fileJudged s (plantJudged s))
+    (file-told (Telling plantValueNumbers (length s)) s (plantJudged s) (plant-file-told p least known)) refl (record { number = refl; place = refl; step = refl }) buf
+
+pub sheet-writer-told : (h : Sheet) (buf : List ℕ) (e : Refusal) → sheetLeft h buf .answer ≡ Written.Refused e → SheetTelling sheetWriterNumbers (length (sheetFile h)) e
 unfolding S.sheetLeft
 sheet-writer-told h buf =
     let s = sheetFile h in
-    left-told sheetValueNumbers sheetWriterNumbers (length s) (fileJudged s (sheetJudged s)) (file-told sheetValueNumbers (length s) s (sheetJudged s) (sheet-file-told h)) refl refl buf
+    left-told sheetValueNumbers sheetWriterNumbers (length s) (fileJudged s (sheetJudged s))
+    (file-told (SheetTelling sheetValueNumbers (length s)) s (sheetJudged s) (sheet-file-told h)) refl (record { number = refl; place = refl; step = refl }) buf
 
 -- ---- what each entry point shows: 0 exactly where it is done, and else a refusal as above, with these values
 
@@ -243,7 +259,7 @@ module _ (Tells : Refusal → Type 0) (some : (e : Refusal) → Tells e → Some
       record { zero-exactly = (λ z. absurd (some e t z), λ w. let z = w .2 in never cc); or-told = λ _. (e, refl, t) }
 
 -- no refusal is told by 0
-telling-some : (numbers : List ℕ) (size : ℕ) → oneOf numbers 0 ≡ false → (e : Refusal) → Telling numbers size e → Some e
+telling-some : {column : List Place} (numbers : List ℕ) (size : ℕ) → oneOf numbers 0 ≡ false → (e : Refusal) → TellingBy column numbers size e → Some e
 telling-some numbers size h e t = not-told t 0 h
 
 told-some : (plant table numbers : List ℕ) → oneOf numbers 0 ≡ false → (e : Refusal) → Told plant table numbers e → Some e
@@ -264,23 +280,23 @@ plant-shows plant = verdict-shows (Telling plantNumbers (length plant)) (telling
     go (bad f) q e a = let z : f ≡ e = cc in plant-told plant e (rw z at q)
 
 -- a sheet that is refused by its reader is judged so
-sheet-refused : (sheet : List ℕ) (e : Refusal) → sheetRead sheet .verdict ≡ Verdict.Refused e → Telling sheetNumbers (length sheet) e
+sheet-refused : (sheet : List ℕ) (e : Refusal) → sheetRead sheet .verdict ≡ Verdict.Refused e → SheetTelling sheetNumbers (length sheet) e
 sheet-refused sheet e = go (sheetJudged sheet) refl
   where
-    go : (j : Judged Sheet) → sheetJudged sheet ≡ j → sheetReadOf j .verdict ≡ Verdict.Refused e → Telling sheetNumbers (length sheet) e
+    go : (j : Judged Sheet) → sheetJudged sheet ≡ j → sheetReadOf j .verdict ≡ Verdict.Refused e → SheetTelling sheetNumbers (length sheet) e
     go (good h) q a = never cc
     go (bad f) q a = let z : f ≡ e = cc in sheet-told sheet e (rw z at q)
 
 pub sheet-some : (sheet : List ℕ) (e : Refusal) → sheetRead sheet .verdict ≡ Verdict.Refused e → Some e
 sheet-some sheet e q = telling-some sheetNumbers (length sheet) refl e (sheet-refused sheet e q)
 
-pub sheet-shows : (sheet : List ℕ) → Showing (sheetRead sheet .verdict ≡ Verdict.Accepted) (Telling sheetNumbers (length sheet)) [] (verdictShown (sheetRead sheet .verdict))
-sheet-shows sheet = verdict-shows (Telling sheetNumbers (length sheet)) (telling-some sheetNumbers (length sheet) refl) (sheetRead sheet .verdict) (sheet-refused sheet)
+pub sheet-shows : (sheet : List ℕ) → Showing (sheetRead sheet .verdict ≡ Verdict.Accepted) (SheetTelling sheetNumbers (length sheet)) [] (verdictShown (sheetRead sheet .verdict))
+sheet-shows sheet = verdict-shows (SheetTelling sheetNumbers (length sheet)) (telling-some sheetNumbers (length sheet) refl) (sheetRead sheet .verdict) (sheet-refused sheet)
 
 pub sheet-maker-shows : (sheet buf : List ℕ)
-    → Showing ((m : ℕ) × (madeLeft sheet buf .answer ≡ Written.Length m)) (Telling sheetMakerNumbers (length sheet)) [] (writtenShown (madeLeft sheet buf .answer))
+    → Showing ((m : ℕ) × (madeLeft sheet buf .answer ≡ Written.Length m)) (SheetTelling sheetMakerNumbers (length sheet)) [] (writtenShown (madeLeft sheet buf .answer))
 sheet-maker-shows sheet buf =
-    written-shows (Telling sheetMakerNumbers (length sheet)) (telling-some sheetMakerNumbers (length sheet) refl) (madeLeft sheet buf .answer) (sheet-maker-told sheet buf)
+    written-shows (SheetTelling sheetMakerNumbers (length sheet)) (telling-some sheetMakerNumbers (length sheet) refl) (madeLeft sheet buf .answer) (sheet-maker-told sheet buf)
 
 pub maker-shows : (plant buf : List ℕ)
     → Showing ((m : ℕ) × (makerLeft plant buf .answer ≡ Written.Length m)) (Telling makerNumbers (length plant)) [] (writtenShown (makerLeft plant buf .answer))
@@ -305,7 +321,7 @@ plant-writer-shows p buf =
     written-shows (Telling plantWriterNumbers size) (telling-some plantWriterNumbers size refl) (plantLeft p buf .answer) (plant-writer-told p buf)
 
 pub sheet-writer-shows : (h : Sheet) (buf : List ℕ)
-    → Showing ((m : ℕ) × (sheetLeft h buf .answer ≡ Written.Length m)) (Telling sheetWriterNumbers (length (sheetFile h))) [] (writtenShown (sheetLeft h buf .answer))
+    → Showing ((m : ℕ) × (sheetLeft h buf .answer ≡ Written.Length m)) (SheetTelling sheetWriterNumbers (length (sheetFile h))) [] (writtenShown (sheetLeft h buf .answer))
 sheet-writer-shows h buf =
     let size = length (sheetFile h) in
-    written-shows (Telling sheetWriterNumbers size) (telling-some sheetWriterNumbers size refl) (sheetLeft h buf .answer) (sheet-writer-told h buf)
+    written-shows (SheetTelling sheetWriterNumbers size) (telling-some sheetWriterNumbers size refl) (sheetLeft h buf .answer) (sheet-writer-told h buf)

@@ -1,19 +1,23 @@
 -- Which numbers a plant or a sheet is refused by, and where (document 01, "What each number says"): a plant by 1 to 5, so that the maker's 9 and 10 are never
 -- about the plant; a sheet by 1 to 5, 13 and 14; and one that is handed over as values, whose form is right, never by 2. The place of 1, 3 and 13 lies in the
--- file or just behind it, that of 4 and 5 is a dimension, that of 14 which number of the plant file. Any form whose fields tell only such refusals; then
+-- file or just behind it, that of 4 is a dimension, that of 5 a mode, for a sheet 0, and its step a dimension, that of 14 which number of the plant file. Any form
+-- whose fields tell only such refusals; then
 -- the forms of plants and sheets, and the tests behind them. Relies on pages Files and Framed. Which refusal it is the definitions `plantJudged` and
 -- `sheetJudged` say.
 use Prim.Native.Nat.{ℕ, zero, suc, _+_, _-_, _*_, _≤_, _<_}
-use mathlib.Core.Path.{_≡_, refl}
-use mathlib.Core.Bool.{Bool, true, false}
+use mathlib.Core.Path.{_≡_, refl, sym, ap}
+use mathlib.Core.Bool.{Bool, true, false, cond}
 use mathlib.Core.List.{List, [], _∷_, _++_, map}
 use native.Mathlib.Nat.{mul-le-mul}
 use native.Mathlib.Omega.{arith}
 use lib.Dec.{eqb}
 use lib.ListN.{length, length-append, length-map}
 use lib.Pow.{pow-mono}
+use lib.Seq.{drop-append-seam}
 use lib.IntN.{ℤ, pos, natAbs}
 use lib.Ieee.{Float}
+use Rattle.laws.specs.Every as E
+use Rattle.laws.specs.Every.{Every, every-tab}
 use Rattle.laws.specs.Guards.{guard}
 use Rattle.laws.specs.Lists.{at, tab, tabs, all, firstFalse}
 use Rattle.laws.specs.Standing.{Stands, stand-within}
@@ -28,11 +32,10 @@ use Rattle.meaning.specs.Boxes as B
 use Rattle.meaning.specs.Boxes.{Side, sideAt, lies}
 use Rattle.meaning.specs.Files as F
 use Rattle.meaning.specs.Files.{Kind, plain, signed, float, Form, end, field, Taken, taken, none, takenAs, bytesAs, Read, read, refused, before, onTaken, valuesAt, ended, valuesOf, Judged, good, bad}
-use Rattle.meaning.specs.Numbers as N
 use Rattle.meaning.specs.Numbers.{numberAt, bytesOf, stored}
 use Rattle.meaning.specs.Plants as P
-use Rattle.meaning.specs.Plants.{edgeLimit, bandLimit, entryLimit, offsetLimit, edgesOf, depth, counted, from, limited, span, times, edgesAndBands, row, headed, plantForm, plantOf, rootOf, safeOf, bandsOf, wide, related, plantRelated, plantJudged}
-use Rattle.meaning.specs.Refusals.{unfit}
+use Rattle.meaning.specs.Plants.{edgeLimit, bandLimit, entryLimit, offsetLimit, edgesOf, counted, from, limited, span, times, edges, bands, row, sized, headed, plantForms, mostModes, ownBands, modeForm, modesOwn, modesAlike, modesForm, plantForm, plantOf, rootOf, safeOf, bandSide, bandsOf, wide, wideModes, related, plantRelated, plantJudged}
+use Rattle.meaning.specs.Refusals.{unfit, notInSafe, narrow}
 use Rattle.meaning.specs.Sheets as S
 use Rattle.meaning.specs.Sheets.{floating, notBelow, anyFloat, above, emitterForm, roomForm, sheetForm, sheetOf, sheetEdges, madeModes, madeBand, madeRow, madeNumbers, isNear, fitting, rootSheet, safeSheet, bandsSheet, sheetRelated, sheetJudged}
 use Rattle.promises.specs.files.Bytes.{bytes-some}
@@ -41,6 +44,7 @@ use Rattle.promises.specs.files.Firsts.{false-inside}
 use Rattle.promises.specs.files.Floats.{low-length}
 use Rattle.promises.specs.files.Forms.{values-right}
 use Rattle.promises.specs.files.Framed.{framed}
+use Rattle.promises.specs.files.Headers.{from-holds}
 use Rattle.promises.specs.files.Numbers.{reads}
 use Rattle.promises.specs.files.PlantFiles.{plantFile}
 use Rattle.promises.specs.files.PlantShapes.{plantBody}
@@ -48,7 +52,7 @@ use Rattle.promises.specs.sheets.SheetNumbers.{entryAt, offsetAt}
 use Rattle.promises.specs.sheets.SheetPlants.{emitters-few}
 use Rattle.promises.specs.sheets.SheetFiles.{sheetFile}
 use Rattle.promises.specs.sheets.SheetShapes.{floatsForm, sheetBody}
-use Rattle.promises.specs.files.Telling.{oneOf, Telling, guard-keeps, told-more}
+use Rattle.promises.specs.files.Telling.{oneOf, sheetPlaces, Telling, SheetTelling, guard-keeps, told-more, told-by}
 
 -- ---- any form
 
@@ -67,22 +71,28 @@ module _ (numbers : List ℕ) (size : ℕ) where
   Tells end = Unit {0}
   Tells (field f rest) = ((at : ℕ) → at ≤ size → Telling numbers size (f .wrong at)) × ((v : ℤ) → Tells (rest v))
 
-  -- what was read, to a place in the file, or is refused so; what was judged good, or is refused so
+  -- what was read, to a place in the file, or is refused so
   abbrev pub ReadTells : {A : Type 0} → Read A → Type 0
   ReadTells (read a next) = next ≤ size
   ReadTells (refused e) = Telling numbers size e
 
-  abbrev JudgedTells : {A : Type 0} → Judged A → Type 0
-  JudgedTells (good a) = Unit {0}
-  JudgedTells (bad e) = Telling numbers size e
-
-  judged-told : {A : Type 0} (j : Judged A) → JudgedTells j → (e : Refusal) → j ≡ bad e → Telling numbers size e
-  judged-told (good a) t e q = never cc
-  judged-told (bad f) t e q = let z : f ≡ e = cc in rw z at t
-
   pub before-tells : {A : Type 0} (v : A) (t : Read (List A)) → ReadTells t → ReadTells (before v t)
   before-tells v (read vs next) h = h
   before-tells v (refused e) h = h
+
+pub read-told : (numbers : List ℕ) (size : ℕ) (t : Read (List ℤ)) → ReadTells numbers size t → (e : Refusal) → t ≡ refused e → Telling numbers size e
+read-told numbers size (read vs next) h e q = never cc
+read-told numbers size (refused f) h e q = let z : f ≡ e = cc in rw z at h
+
+-- what was judged good, or is refused so
+module _ (tells : Refusal → Type 0) where
+  abbrev JudgedTells : {A : Type 0} → Judged A → Type 0
+  JudgedTells (good a) = Unit {0}
+  JudgedTells (bad e) = tells e
+
+  judged-told : {A : Type 0} (j : Judged A) → JudgedTells j → (e : Refusal) → j ≡ bad e → tells e
+  judged-told (good a) t e q = never cc
+  judged-told (bad f) t e q = let z : f ≡ e = cc in rw z at t
 
 -- what is read by a form is refused by 1, or as a field tells; then by 3, where bytes are left over
 module _ (numbers s : List ℕ) (one : oneOf numbers 1 ≡ true) (three : oneOf numbers 3 ≡ true) where
@@ -107,10 +117,6 @@ module _ (numbers s : List ℕ) (one : oneOf numbers 1 ≡ true) (three : oneOf 
   file-tells form h = ended-tells (valuesAt form s 0) (values-tell form h 0 (omega arith))
 
 -- ---- the parts of the two forms
-
--- the header behind its form
-abbrev formed : ℕ → (ℕ → ℕ → Form) → Form
-formed most rest = counted (from 1 4) λ n. counted (from 1 most) λ m. counted (from 1 10_000) λ q. counted (from 1 6) λ k. counted (depth n) λ d. rest n m
 
 module _ (numbers : List ℕ) (size : ℕ) (three : oneOf numbers 3 ≡ true) where
   abbrev T : Form → Type 0
@@ -140,24 +146,35 @@ module _ (numbers : List ℕ) (size : ℕ) (three : oneOf numbers 3 ≡ true) wh
   unfolding Tells
   span-tells limit rest t = (unfit-told, λ lo. (unfit-told, λ hi. t))
 
-  edges-tell : (n : ℕ) (rest : Form) → T rest → T (edgesAndBands n rest)
-  unfolding P.edgesAndBands
-  edges-tell n rest t =
-      times-tell n (λ more. span edgeLimit (span edgeLimit more)) (λ more h. span-tells edgeLimit (span edgeLimit more) (span-tells edgeLimit more h))
-      (times n (span bandLimit) rest) (times-tell n (span bandLimit) (span-tells bandLimit) rest t)
+  edges-tell : (n : ℕ) (rest : Form) → T rest → T (edges n rest)
+  unfolding P.edges
+  edges-tell n = times-tell n (λ more. span edgeLimit (span edgeLimit more)) (λ more h. span-tells edgeLimit (span edgeLimit more) (span-tells edgeLimit more h))
+
+  bands-tell : (n : ℕ) (rest : Form) → T rest → T (bands n rest)
+  unfolding P.bands
+  bands-tell n = times-tell n (span bandLimit) (span-tells bandLimit)
 
   row-tells : (n : ℕ) (rest : Form) → T rest → T (row n rest)
   unfolding P.row
   row-tells n rest t = times-tell n (limited entryLimit) (limited-tells entryLimit) (limited offsetLimit rest) (limited-tells offsetLimit rest t)
 
+  rows-tell : (n m : ℕ) (rest : Form) → T rest → T (times m (row n) rest)
+  rows-tell n m = times-tell m (row n) (row-tells n)
+
+  -- the modes of either plant form
+  modes-tell : (own : Bool) (n modes : ℕ) → T (cond own (modesOwn n modes) (modesAlike n modes))
+  unfolding P.modesOwn P.modesAlike
+  modes-tell true n modes = times-tell modes (modeForm n) (λ rest t. bands-tell n (times n (row n) rest) (rows-tell n n rest t)) end end-tells
+  modes-tell false n modes = bands-tell n (times (modes * n) (row n) end) (rows-tell n (modes * n) end end-tells)
+
   -- the header: 2 at its form, 3 at the rest
-  rest-tells : (most : ℕ) (rest : ℕ → ℕ → Form) → ((n m : ℕ) → T (rest n m)) → T (formed most rest)
+  rest-tells : (most : ℕ) (rest : ℕ → ℕ → Form) → ((n m : ℕ) → T (rest n m)) → T (sized most rest)
   unfolding Tells
   rest-tells most rest t = (unfit-told, λ n. (unfit-told, λ m. (unfit-told, λ q. (unfit-told, λ k. (unfit-told, λ d. t (natAbs n) (natAbs m))))))
 
-  headed-tells : oneOf numbers 2 ≡ true → (most : ℕ) (rest : ℕ → ℕ → Form) → ((n m : ℕ) → T (rest n m)) → T (headed most rest)
+  headed-tells : oneOf numbers 2 ≡ true → (forms most : ℕ) (rest : ℕ → ℕ → ℕ → Form) → ((form n m : ℕ) → T (rest form n m)) → T (headed forms most rest)
   unfolding Tells P.headed
-  headed-tells two most rest t = (λ at l. record { number = two; place = refl; step = refl }, λ form. rest-tells most rest t)
+  headed-tells two forms most rest t = (λ at l. record { number = two; place = refl; step = refl }, λ form. rest-tells most (rest (natAbs form)) (t (natAbs form)))
 
   -- a float: 13
   module _ (thirteen : oneOf numbers 13 ≡ true) where
@@ -179,15 +196,21 @@ module _ (numbers : List ℕ) (size : ℕ) (three : oneOf numbers 3 ≡ true) wh
     floats-tell : (n : ℕ) → T (floatsForm n)
     floats-tell n = floating-tells above _ (floating-tells anyFloat _ (times-tell n (roomForm n) (room-tells n) end end-tells))
 
--- where the form is 1, as in a file that was written, 2 is not told
-written-tells : (numbers s : List ℕ) (one : oneOf numbers 1 ≡ true) (three : oneOf numbers 3 ≡ true) (most : ℕ) (rest : ℕ → ℕ → Form)
-    → ((n m : ℕ) → Tells numbers (length s) (rest n m)) → (next : ℕ) → Stands s 0 (bytesOf 1) next → ReadTells numbers (length s) (valuesOf (headed most rest) s)
+-- where the form is known, as in a file that was written, 2 is not told
+written-tells : (numbers s : List ℕ) (one : oneOf numbers 1 ≡ true) (three : oneOf numbers 3 ≡ true) (forms most : ℕ) (rest : ℕ → ℕ → ℕ → Form)
+    → ((form n m : ℕ) → Tells numbers (length s) (rest form n m)) → (form : ℕ) → 1 ≤ form → form ≤ forms → forms ≤ 9
+    → (next : ℕ) → Stands s 0 (bytesOf form) next → ReadTells numbers (length s) (valuesOf (headed forms most rest) s)
 unfolding F.valuesAt P.headed
-written-tells numbers s one three most rest t next w =
-    let first : numberAt s 0 ≡ Number.Value 1 next = reads 1 0 next s (omega arith) w in
-    ended-tells numbers s one three (valuesAt (headed most rest) s 0)
-    (rw first (before-tells numbers (length s) (pos 1) (valuesAt (formed most rest) s next)
-    (values-tell numbers s one three (formed most rest) (rest-tells numbers (length s) three most rest t) next (stand-within s (bytesOf 1) 0 next w (bytes-some 1)))))
+written-tells numbers s one three forms most rest t form least known few next w =
+    let first : numberAt s 0 ≡ Number.Value form next = reads form 0 next s (omega arith) w in
+    let behind = sized most (rest form) in
+    ended-tells numbers s one three (valuesAt (headed forms most rest) s 0)
+    (rw (first, from-holds 1 forms form least known) (before-tells numbers (length s) (pos form) (valuesAt behind s next)
+    (values-tell numbers s one three behind (rest-tells numbers (length s) three most (rest form) (t form)) next (stand-within s (bytesOf form) 0 next w (bytes-some form)))))
+
+-- the first number of a file that was written stands in front
+form-stands : (form : ℕ) (bytes : List ℕ) → Stands (bytesOf form ++ bytes) 0 (bytesOf form) (length (bytesOf form))
+form-stands form bytes = record { end = omega arith; bytes = ap (λ (t : List ℕ). bytesOf form ++ t) (sym (drop-append-seam (bytesOf form) bytes)) }
 
 -- ---- the tests behind the forms: the first that fails is one of them
 
@@ -204,14 +227,22 @@ lies-size (suc m) (s ∷ a) (t ∷ b) h k = omega (arith, lies-size m a b (omega
 pub dimension-in : (ts : List Bool) → length ts ≤ 4 → all ts ≡ false → firstFalse ts < 4
 dimension-in ts l e = omega (arith, false-inside ts e)
 
-module _ (numbers : List ℕ) (size : ℕ) (four : oneOf numbers 4 ≡ true) (five : oneOf numbers 5 ≡ true) where
-  related-tells : {A : Type 0} (q : ℕ) (root safe bands : List Side) (rest : Unit {0} → Judged A) → length root ≤ 4 → length safe ≤ 4 → length bands ≤ 4
-      → JudgedTells numbers size (rest tt) → JudgedTells numbers size (related q root safe bands rest)
-  related-tells q root safe bands rest r s b h =
-      guard-keeps (JudgedTells numbers size) (all (lies root safe)) _
-      (λ e. record { number = four; place = dimension-in (lies root safe) (lies-size 4 root safe r s) e; step = refl })
-      (λ _. guard-keeps (JudgedTells numbers size) (all (map (wide q) bands)) rest
-      (λ e. record { number = five; place = dimension-in (map (wide q) bands) (omega (arith, length-map bands (wide q))) e; step = refl }) (λ _. h))
+module _ {A : Type 0} (tells : Refusal → Type 0) (q : ℕ) (rest : Unit {0} → Judged A) (h : JudgedTells tells (rest tt)) where
+  -- the bands of some modes, from mode u on
+  narrow-tells : (u : ℕ) (modes : List (List Side)) → Every (λ bands. length bands ≤ 4) modes → ((v i : ℕ) → v < u + length modes → i < 4 → tells (narrow v i))
+      → JudgedTells tells (wideModes q u modes rest)
+  unfolding P.wideModes E.Every
+  narrow-tells u [] few five = h
+  narrow-tells u (bands ∷ modes) few five =
+      guard-keeps (JudgedTells tells) (all (map (wide q) bands)) _
+      (λ e. five u _ (omega arith) (dimension-in (map (wide q) bands) (omega (arith, length-map bands (wide q), few .0)) e))
+      (λ _. narrow-tells (u + 1) modes (few .1) (λ v i l. five v i (omega arith)))
+
+  related-tells : (root safe : List Side) (modes : List (List Side)) → length root ≤ 4 → length safe ≤ 4 → Every (λ bands. length bands ≤ 4) modes
+      → ((i : ℕ) → i < 4 → tells (notInSafe i)) → ((v i : ℕ) → v < length modes → i < 4 → tells (narrow v i)) → JudgedTells tells (related q root safe modes rest)
+  related-tells root safe modes r s few four five =
+      guard-keeps (JudgedTells tells) (all (lies root safe)) _
+      (λ e. four _ (dimension-in (lies root safe) (lies-size 4 root safe r s) e)) (λ _. narrow-tells 0 modes few (λ v i l. five v i (omega arith)))
 
 -- ---- plants
 
@@ -219,48 +250,50 @@ abbrev pub plantNumbers : List ℕ
 plantNumbers = 1 ∷ 2 ∷ 3 ∷ 4 ∷ 5 ∷ []
 
 -- what stands behind the header
-plant-body-tells : (numbers : List ℕ) (size : ℕ) → oneOf numbers 3 ≡ true → (n modes : ℕ) → Tells numbers size (plantBody n modes)
-plant-body-tells numbers size three n modes =
-    edges-tell numbers size three n (times (modes * n) (row n) end) (times-tell numbers size three (modes * n) (row n) (row-tells numbers size three n) end (end-tells numbers size three))
+plant-body-tells : (numbers : List ℕ) (size : ℕ) → oneOf numbers 3 ≡ true → (form n modes : ℕ) → Tells numbers size (plantBody form n modes)
+plant-body-tells numbers size three form n modes = edges-tell numbers size three n (modesForm form n modes) (modes-tell numbers size three (ownBands form) n modes)
 
 module _ (numbers plant : List ℕ) (four : oneOf numbers 4 ≡ true) (five : oneOf numbers 5 ≡ true) where
-  plant-tells : ReadTells numbers (length plant) (valuesOf plantForm plant) → JudgedTells numbers (length plant) (plantJudged plant)
+  abbrev tells : Refusal → Type 0
+  tells = Telling numbers (length plant)
+
+  plant-tells : ReadTells numbers (length plant) (valuesOf plantForm plant) → JudgedTells tells (plantJudged plant)
   unfolding P.plantJudged P.plantForm P.plantOf
   plant-tells = go (valuesOf plantForm plant) refl
     where
-      few : (vs : List ℤ) (next : ℕ) → valuesOf plantForm plant ≡ read vs next → plantOf vs .n ≤ 4
-      few vs next e = framed 16 (λ n modes. times (modes * n) (row n) end) vs (values-right plantForm plant 0 vs next (file-writes plantForm plant e .0)) .0 .n-high
+      few : (vs : List ℤ) (next : ℕ) → valuesOf plantForm plant ≡ read vs next → (plantOf vs .n ≤ 4) × (plantOf vs .modes ≤ mostModes)
+      few vs next e =
+          let r = framed plantForms mostModes modesForm vs (values-right plantForm plant 0 vs next (file-writes plantForm plant e .0)) .ranges in
+          (r .n-high, r .m-high)
 
-      go : (t : Read (List ℤ)) → valuesOf plantForm plant ≡ t → ReadTells numbers (length plant) t → JudgedTells numbers (length plant) (plantRelated t)
+      go : (t : Read (List ℤ)) → valuesOf plantForm plant ≡ t → ReadTells numbers (length plant) t → JudgedTells tells (plantRelated t)
       go (refused e) q h = h
       go (read vs next) q h =
           let p = plantOf vs in
           let l = few vs next q in
-          related-tells numbers (length plant) four five (p .q) (rootOf p) (safeOf p) (bandsOf p) (λ _. good p)
+          related-tells tells (p .q) (λ _. good p) tt (rootOf p) (safeOf p) (tab (bandsOf p) (p .modes) 0)
           (omega (arith, length-tab (sideAt (p .rlo) (p .rhi)) (p .n) 0)) (omega (arith, length-tab (sideAt (p .slo) (p .shi)) (p .n) 0))
-          (omega (arith, length-tab (sideAt (p .wlo) (p .whi)) (p .n) 0)) tt
+          (every-tab (λ bands. length bands ≤ 4) (bandsOf p) (p .modes) 0 (λ u a b. omega (arith, length-tab (bandSide (p .n) (p .bands) u) (p .n) 0)))
+          (λ i a. record { number = four; place = a; step = refl })
+          (λ u i a b. record { number = five; place = omega (arith, length-tab (bandsOf p) (p .modes) 0); step = b })
 
 pub plant-told : (plant : List ℕ) (e : Refusal) → plantJudged plant ≡ bad e → Telling plantNumbers (length plant) e
 unfolding P.plantForm
 plant-told plant =
-    judged-told plantNumbers (length plant) (plantJudged plant) (plant-tells plantNumbers plant refl refl
-    (file-tells plantNumbers plant refl refl plantForm (headed-tells plantNumbers (length plant) refl refl 16 plantBody (plant-body-tells plantNumbers (length plant) refl))))
+    judged-told (Telling plantNumbers (length plant)) (plantJudged plant) (plant-tells plantNumbers plant refl refl
+    (file-tells plantNumbers plant refl refl plantForm (headed-tells plantNumbers (length plant) refl refl plantForms mostModes plantBody (plant-body-tells plantNumbers (length plant) refl))))
 
 -- a plant handed over as values, whose form is right
 abbrev pub plantValueNumbers : List ℕ
 plantValueNumbers = 1 ∷ 3 ∷ 4 ∷ 5 ∷ []
 
--- the first number of a file that was written stands in front
-form-stands : (bytes : List ℕ) → Stands (bytesOf 1 ++ bytes) 0 (bytesOf 1) 1
-unfolding N.groupsOf
-form-stands bytes = record { end = refl; bytes = refl }
-
-pub plant-file-told : (p : Plant) (e : Refusal) → plantJudged (plantFile p) ≡ bad e → Telling plantValueNumbers (length (plantFile p)) e
+pub plant-file-told : (p : Plant) → 1 ≤ p .form → p .form ≤ plantForms → (e : Refusal) → plantJudged (plantFile p) ≡ bad e → Telling plantValueNumbers (length (plantFile p)) e
 unfolding P.plantForm P.numbersOf F.fileOf P.headed
-plant-file-told p =
+plant-file-told p least known =
     let s = plantFile p in
-    judged-told plantValueNumbers (length s) (plantJudged s) (plant-tells plantValueNumbers s refl refl
-    (written-tells plantValueNumbers s refl refl 16 plantBody (plant-body-tells plantValueNumbers (length s) refl) 1 (form-stands _)))
+    judged-told (Telling plantValueNumbers (length s)) (plantJudged s) (plant-tells plantValueNumbers s refl refl
+    (written-tells plantValueNumbers s refl refl plantForms mostModes plantBody (plant-body-tells plantValueNumbers (length s) refl) (p .form) least known (omega arith) _
+    (form-stands (p .form) _)))
 
 -- ---- sheets
 
@@ -271,18 +304,15 @@ sheetNumbers = 1 ∷ 2 ∷ 3 ∷ 4 ∷ 5 ∷ 13 ∷ 14 ∷ []
 abbrev pub sheetFormNumbers : List ℕ
 sheetFormNumbers = 1 ∷ 2 ∷ 3 ∷ 13 ∷ []
 
-sheet-body-tells : (numbers : List ℕ) (size : ℕ) → oneOf numbers 3 ≡ true → oneOf numbers 13 ≡ true → (n r : ℕ) → Tells numbers size (sheetBody n r)
-sheet-body-tells numbers size three thirteen n r = edges-tell numbers size three n (floatsForm n) (floats-tell numbers size three thirteen n)
-
-pub read-told : (numbers : List ℕ) (size : ℕ) (t : Read (List ℤ)) → ReadTells numbers size t → (e : Refusal) → t ≡ refused e → Telling numbers size e
-read-told numbers size (read vs next) h e q = never cc
-read-told numbers size (refused f) h e q = let z : f ≡ e = cc in rw z at h
+sheet-body-tells : (numbers : List ℕ) (size : ℕ) → oneOf numbers 3 ≡ true → oneOf numbers 13 ≡ true → (form n r : ℕ) → Tells numbers size (sheetBody form n r)
+sheet-body-tells numbers size three thirteen form n r =
+    edges-tell numbers size three n (bands n (floatsForm n)) (bands-tell numbers size three n (floatsForm n) (floats-tell numbers size three thirteen n))
 
 pub sheet-values-told : (sheet : List ℕ) (e : Refusal) → valuesOf sheetForm sheet ≡ refused e → Telling sheetFormNumbers (length sheet) e
 unfolding S.sheetForm
 sheet-values-told sheet =
     read-told sheetFormNumbers (length sheet) (valuesOf sheetForm sheet) (file-tells sheetFormNumbers sheet refl refl sheetForm
-    (headed-tells sheetFormNumbers (length sheet) refl refl 1_000 sheetBody (sheet-body-tells sheetFormNumbers (length sheet) refl refl)))
+    (headed-tells sheetFormNumbers (length sheet) refl refl 1 1_000 sheetBody (sheet-body-tells sheetFormNumbers (length sheet) refl refl)))
 
 -- the numbers of the plant file that a sheet makes: 6, 4 and 2 a dimension, and at most 320 coefficients
 numbers-many : (h : Sheet) → h .n ≤ 4 → length (madeNumbers h) ≤ 350
@@ -310,38 +340,50 @@ numbers-many h few =
     )
 
 module _ (numbers sheet : List ℕ) (four : oneOf numbers 4 ≡ true) (five : oneOf numbers 5 ≡ true) (fourteen : oneOf numbers 14 ≡ true) where
-  sheet-tells : ReadTells numbers (length sheet) (valuesOf sheetForm sheet) → JudgedTells numbers (length sheet) (sheetJudged sheet)
-  unfolding S.sheetJudged S.sheetForm S.sheetOf
-  sheet-tells = go (valuesOf sheetForm sheet) refl
+  abbrev told : Refusal → Type 0
+  told = SheetTelling numbers (length sheet)
+
+  sheet-tells : ((e : Refusal) → valuesOf sheetForm sheet ≡ refused e → told e) → JudgedTells told (sheetJudged sheet)
+  unfolding S.sheetJudged S.sheetForm S.sheetOf E.Every
+  sheet-tells values = go (valuesOf sheetForm sheet) refl
     where
       few : (vs : List ℤ) (next : ℕ) → valuesOf sheetForm sheet ≡ read vs next → sheetOf vs .n ≤ 4
-      few vs next e = framed 1_000 (λ n r. floatsForm n) vs (values-right sheetForm sheet 0 vs next (file-writes sheetForm sheet e .0)) .0 .n-high
+      few vs next e = framed 1 1_000 (λ form n r. bands n (floatsForm n)) vs (values-right sheetForm sheet 0 vs next (file-writes sheetForm sheet e .0)) .ranges .n-high
 
-      go : (t : Read (List ℤ)) → valuesOf sheetForm sheet ≡ t → ReadTells numbers (length sheet) t → JudgedTells numbers (length sheet) (sheetRelated t)
-      go (refused e) q k = k
-      go (read vs next) q k =
+      go : (t : Read (List ℤ)) → valuesOf sheetForm sheet ≡ t → JudgedTells told (sheetRelated t)
+      go (refused e) q = values e q
+      go (read vs next) q =
           let h = sheetOf vs in
           let l = few vs next q in
           let fit = map isNear (madeNumbers h) in
-          related-tells numbers (length sheet) four five (h .q) (rootSheet h) (safeSheet h) (bandsSheet h) (λ _. fitting h λ _. good h)
-          (omega (arith, length-tab (sideAt (h .rlo) (h .rhi)) (h .n) 0)) (omega (arith, length-tab (sideAt (h .slo) (h .shi)) (h .n) 0))
-          (omega (arith, length-tab (sideAt (h .wlo) (h .whi)) (h .n) 0))
-          (guard-keeps (JudgedTells numbers (length sheet)) (all fit) (λ _. good h)
+          related-tells told (h .q) (λ _. fitting h λ _. good h)
+          (guard-keeps (JudgedTells told) (all fit) (λ _. good h)
           (λ e. record { number = fourteen; place = omega (arith, false-inside fit e, length-map (madeNumbers h) isNear, numbers-many h l); step = refl }) (λ _. tt))
+          (rootSheet h) (safeSheet h) (bandsSheet h ∷ [])
+          (omega (arith, length-tab (sideAt (h .rlo) (h .rhi)) (h .n) 0)) (omega (arith, length-tab (sideAt (h .slo) (h .shi)) (h .n) 0))
+          (omega (arith, length-tab (sideAt (h .wlo) (h .whi)) (h .n) 0), tt)
+          (λ i a. record { number = four; place = a; step = refl }) (λ u i a b. record { number = five; place = omega arith; step = b })
 
-pub sheet-told : (sheet : List ℕ) (e : Refusal) → sheetJudged sheet ≡ bad e → Telling sheetNumbers (length sheet) e
-unfolding S.sheetForm
+pub sheet-told : (sheet : List ℕ) (e : Refusal) → sheetJudged sheet ≡ bad e → SheetTelling sheetNumbers (length sheet) e
+unfolding E.Every
 sheet-told sheet =
-    judged-told sheetNumbers (length sheet) (sheetJudged sheet) (sheet-tells sheetNumbers sheet refl refl refl
-    (file-tells sheetNumbers sheet refl refl sheetForm (headed-tells sheetNumbers (length sheet) refl refl 1_000 sheetBody (sheet-body-tells sheetNumbers (length sheet) refl refl))))
+    judged-told (SheetTelling sheetNumbers (length sheet)) (sheetJudged sheet) (sheet-tells sheetNumbers sheet refl refl refl
+    (λ e q. told-more (told-by (sheet-values-told sheet e q) sheetPlaces (length sheet) ((λ p k. k), ((λ p k. k), ((λ p k. k), ((λ p k. k), tt))))) sheetNumbers refl))
 
 -- a sheet handed over as values, whose form is right
 abbrev pub sheetValueNumbers : List ℕ
 sheetValueNumbers = 1 ∷ 3 ∷ 4 ∷ 5 ∷ 13 ∷ 14 ∷ []
 
-pub sheet-file-told : (h : Sheet) (e : Refusal) → sheetJudged (sheetFile h) ≡ bad e → Telling sheetValueNumbers (length (sheetFile h)) e
+sheet-file-values : (h : Sheet) (e : Refusal) → valuesOf sheetForm (sheetFile h) ≡ refused e → Telling (1 ∷ 3 ∷ 13 ∷ []) (length (sheetFile h)) e
 unfolding S.sheetForm S.sheetValues F.fileOf P.headed
+sheet-file-values h =
+    let s = sheetFile h in
+    read-told (1 ∷ 3 ∷ 13 ∷ []) (length s) (valuesOf sheetForm s)
+    (written-tells (1 ∷ 3 ∷ 13 ∷ []) s refl refl 1 1_000 sheetBody (sheet-body-tells (1 ∷ 3 ∷ 13 ∷ []) (length s) refl refl) 1 (omega arith) (omega arith) (omega arith) _ (form-stands 1 _))
+
+pub sheet-file-told : (h : Sheet) (e : Refusal) → sheetJudged (sheetFile h) ≡ bad e → SheetTelling sheetValueNumbers (length (sheetFile h)) e
+unfolding E.Every
 sheet-file-told h =
     let s = sheetFile h in
-    judged-told sheetValueNumbers (length s) (sheetJudged s) (sheet-tells sheetValueNumbers s refl refl refl
-    (written-tells sheetValueNumbers s refl refl 1_000 sheetBody (sheet-body-tells sheetValueNumbers (length s) refl refl) 1 (form-stands _)))
+    judged-told (SheetTelling sheetValueNumbers (length s)) (sheetJudged s) (sheet-tells sheetValueNumbers s refl refl refl
+    (λ e q. told-more (told-by (sheet-file-values h e q) sheetPlaces (length s) ((λ p k. k), ((λ p k. k), ((λ p k. k), tt)))) sheetValueNumbers refl))

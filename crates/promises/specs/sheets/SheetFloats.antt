@@ -19,13 +19,13 @@ use Rattle.meaning.specs.declared.Room.{Room}
 use Rattle.meaning.specs.declared.Sheet.{Sheet}
 use Rattle.meaning.specs.Files.{Form, end, valuesOf, good}
 use Rattle.meaning.specs.Plants as P
-use Rattle.meaning.specs.Plants.{counted, from, times}
+use Rattle.meaning.specs.Plants.{counted, from, times, bands}
 use Rattle.meaning.specs.Sheets as S
 use Rattle.meaning.specs.Sheets.{finite, zeroF, floatOf, floating, anyFloat, notBelow, above, emitterForm, roomForm, sheetForm, noRoom, emitterOf, emitterSize, roomOf, roomsOf, sheetOf, roomAt, exchangeAt, sheetJudged}
 use Rattle.promises.specs.files.Files.{file-writes}
 use Rattle.promises.specs.files.Forms as F
 use Rattle.promises.specs.files.Forms.{Right, values-right, times-right}
-use Rattle.promises.specs.files.Framed.{framed}
+use Rattle.promises.specs.files.Framed.{bands-right, framed}
 use Rattle.promises.specs.files.Related.{good-sheet}
 use Rattle.promises.specs.sheets.SheetShapes.{floatsForm, rooms-padded}
 
@@ -158,9 +158,10 @@ right-physical : (vs : List ℤ) → Right sheetForm vs 0 → Physical (sheetOf 
 unfolding S.sheetForm S.sheetOf
 right-physical vs h =
     let n = natAbs (at vs 1) in
-    let w = framed 1_000 (λ n r. floatsForm n) vs h in
+    let w = framed 1 1_000 (λ form n r. bands n (floatsForm n)) vs h in
+    let behind = bands-right vs n (floatsForm n) (6 + 4 * n) (w .behind) .1 in
     let e : 6 + 4 * n + 2 * n ≡ 6 + 6 * n = omega arith in
-    let t = floating-right vs above (floating anyFloat (times n (roomForm n) end)) (6 + 6 * n) (rw e at (w .1)) in
+    let t = floating-right vs above (floating anyFloat (times n (roomForm n) end)) (6 + 6 * n) (rw e at behind) in
     let o = floating-right vs anyFloat (times n (roomForm n) end) (6 + 6 * n + 1) (t .1) in
     let d : 7 + 6 * n ≡ 6 + 6 * n + 1 = omega arith in
     let f : 8 + 6 * n ≡ 6 + 6 * n + 1 + 1 = omega arith in
@@ -170,7 +171,7 @@ right-physical vs h =
       outside-finite = rw d (o .0 .is-finite);
       rooms = λ i l.
           subst (PhysicalRoom n) (sym (rooms-padded n (drop (8 + 6 * n) vs) i l))
-          (rw f (rooms-right vs n (w .0 .n-low) n (6 + 6 * n + 1 + 1) (o .1) i l));
+          (rw f (rooms-right vs n (w .ranges .n-low) n (6 + 6 * n + 1 + 1) (o .1) i l));
     }
 
 -- row 13: of every sheet that was judged good

@@ -18,7 +18,7 @@ use Rattle.meaning.specs.Sheets.{floating, notBelow, anyFloat, emitterForm, roo
 use Rattle.promises.specs.files.Files.{file-writes}
 use Rattle.promises.specs.files.Floats.{low-length}
 use Rattle.promises.specs.files.Headers.{most-of}
-use Rattle.promises.specs.files.Lengths.{Longest, longer, Adds, end-longest, field-longest, counted-longest, then-adds, times-adds, edges-adds, headed-longest}
+use Rattle.promises.specs.files.Lengths.{Longest, longer, Adds, end-longest, field-longest, counted-longest, then-adds, times-adds, edges-adds, bands-adds, headed-longest}
 use Rattle.promises.specs.files.Related.{good-sheet}
 use Rattle.promises.specs.sheets.SheetShapes.{sheetBody}
 
@@ -43,20 +43,16 @@ room-adds : (n : ℕ) → Adds (roomForm n) (8 + ((n - 1) * 8 + 17))
 unfolding S.roomForm
 room-adds n = then-adds (floating-adds notBelow) (then-adds (times-adds (floating-adds notBelow) (n - 1)) emitter-adds)
 
-body-longest : (n r : ℕ) → n ≤ 4 → r ≤ 1_000 → Longest (sheetBody n r) 300
-body-longest n r few many =
+body-longest : (form n r : ℕ) → n ≤ 4 → r ≤ 1_000 → Longest (sheetBody form n r) 300
+body-longest form n r few many =
     let a : 8 + ((n - 1) * 8 + 17) ≤ 49 = omega arith in
-    longer (edges-adds n .adds (floating-adds above .adds (floating-adds anyFloat .adds (times-adds (room-adds n) n .adds end-longest)))) (omega (arith, mul-le-mul few a))
-
-sheet-longest : Longest sheetForm 308
-unfolding S.sheetForm
-sheet-longest = headed-longest 1_000 1 sheetBody (omega arith) body-longest
+    longer (edges-adds n .adds (bands-adds n .adds (floating-adds above .adds (floating-adds anyFloat .adds (times-adds (room-adds n) n .adds end-longest))))) (omega (arith, mul-le-mul few a))
 
 pub at-most : (s : List ℕ) (h : Sheet) → sheetJudged s ≡ good h → length s ≤ 308
-unfolding S.sheetJudged
+unfolding S.sheetJudged S.sheetForm
 at-most s h e =
     let w = file-writes sheetForm s (good-sheet (valuesOf sheetForm s) h e .was) in
-    omega (arith, sheet-longest .most s 0 (w .0), w .1)
+    omega (arith, headed-longest 1 1_000 1 sheetBody (λ _. 300) (omega arith) (omega arith) body-longest s (w .0), w .1)
 
 -- ---- and one that has them
 

@@ -8,16 +8,17 @@ use native.Mathlib.Nat.{mul-le-mul, le-refl, zero-add}
 use lib.ListN.{length, getD, length-map, length-append, List·getD-append, List·getD-map}
 use lib.Seq.{getD-append-add}
 use lib.IntN.{ℤ, pos, _+ℤ_, _-ℤ_}
+use Rattle.laws.specs.Columns.{parted-at}
 use Rattle.laws.specs.Lists.{at, tab, tabs, padded}
-use Rattle.laws.specs.Tabs.{length-tab, length-tabs, getD-tab, getD-tabs, tab-same, tabs-same, padded-at, map-tabs}
+use Rattle.laws.specs.Tabs.{length-tab, length-tabs, getD-tab, getD-tabs, tab-same, tabs-same, map-tabs}
 use Rattle.meaning.specs.declared.Whole.{Whole}
 use Rattle.meaning.specs.declared.Sheet.{Sheet}
 use Rattle.meaning.specs.Images.{Row}
 use Rattle.meaning.specs.Plants as P
-use Rattle.meaning.specs.Plants.{entryLimit, offsetLimit, bandLimit, column, mostCoefs, coefCount, edgesOf, plantOf, rowStart, rowOf}
+use Rattle.meaning.specs.Plants.{entryLimit, offsetLimit, bandLimit, column, mostCoefs, mostBands, bandsAt, rowsAt, edgesOf, plantOf, bandStart, rowStart, rowOf}
 use Rattle.meaning.specs.Sheets as S
 use Rattle.meaning.specs.Sheets.{sheetEdges, coefficient, offset, wholeOf, limitedTo, widening, madeBand, madeRow, madeModes, madeNumbers, nearValue, madeValues, madePlant}
-use Rattle.promises.specs.files.Bodies.{edge-column, band-column, rest-at}
+use Rattle.promises.specs.files.Bodies.{edge-column, band-at, rest-at}
 
 -- numbers that are taken over as they are
 pub map-values : (l : List ℤ) → map nearValue (map Whole.Near l) ≡ l
@@ -68,10 +69,18 @@ module _ (h : Sheet) where
   -- ---- the arrays of edges and bands
 
   pub edge-made : (j : ℕ) → j < 4 → column (madeValues h) (6 + j) 4 (h .n) ≡ padded 4 (pos 0) (tab (λ i. at (edges i) j) (h .n) 0)
-  edge-made j l = rw made-groups (edge-column header refl (h .n) edges ends (λ i. refl) (λ i. refl) rows j l)
+  edge-made j l = rw made-groups (edge-column header refl (h .n) edges (λ i. refl) (tabs ends (h .n) 0 ++ rows) j l)
 
-  band-made : (j : ℕ) → j < 2 → column (madeValues h) (6 + j + 4 * h .n) 2 (h .n) ≡ padded 4 (pos 0) (tab (λ i. at (ends i) j) (h .n) 0)
-  band-made j l = rw made-groups (band-column header refl (h .n) edges ends (λ i. refl) (λ i. refl) rows j l)
+  -- end j of the band of dimension i, the same in each mode
+  pub end-made : (u i j k : ℕ) → u < madeModes h → i < h .n → j < 2 → k ≡ bandStart (h .n) u i + j → at (madePlant h .bands) k ≡ at (ends i) j
+  unfolding P.plantOf S.madeNumbers
+  end-made u i j k a b l e =
+      let n = h .n in
+      let t : k ≡ 2 * n * u + (2 * i + j) = omega arith in
+      let d : 6 + 4 * n + 0 + (2 * i + j) ≡ 6 + 4 * n + (2 * i + j) = omega arith in
+      ap (at (madePlant h .bands)) t
+      ∙ parted-at (madeValues h) (2 * n) (bandsAt 1 n) (madeModes h) mostBands u (2 * i + j) a (omega arith) ∙ ap (at (madeValues h)) d
+      ∙ rw made-groups (band-at header refl n edges ends (λ i. refl) (λ i. refl) rows i j b l)
 
   -- ---- the coefficients
 
@@ -100,9 +109,12 @@ module _ (h : Sheet) where
   unfolding P.plantOf S.madeNumbers
   coef-made u i j a b c =
       let n = h .n in
-      let t : suc (u * n + i) ≤ madeModes h * n = omega (arith, mul-le-mul a (le-refl n)) in
-      let l : rowStart n u i + j < coefCount (madeModes h) n = omega (arith, mul-le-mul t (le-refl (n + 1))) in
-      padded-at (λ k. at (madeValues h) (6 + 6 * n + k)) mostCoefs (coefCount (madeModes h) n) (rowStart n u i + j) l
+      let m = (n + 1) * i + j in
+      let l : m < n * (n + 1) = omega (arith, mul-le-mul b (le-refl (n + 1))) in
+      let e : rowStart n u i + j ≡ n * (n + 1) * u + m = omega arith in
+      let d : 6 + 6 * n + n * (n + 1) * u + m ≡ 6 + 6 * n + (rowStart n u i + j) = omega arith in
+      ap (at (madePlant h .coef)) e
+      ∙ parted-at (madeValues h) (n * (n + 1)) (rowsAt 1 n) (madeModes h) mostCoefs u m a l ∙ ap (at (madeValues h)) d
       ∙ rw made-groups (rest-at header refl n edges ends (λ i. refl) (λ i. refl) rows (rowStart n u i + j)) ∙ row-at u i j a b c
 
   -- ---- a row of the plant
@@ -127,9 +139,6 @@ module _ (h : Sheet) where
       List·getD-map nearValue (es ++ offsetAt u i ∷ []) (h .n) (Whole.Near (pos 0))
       ∙ ap nearValue (ap (λ (k : ℕ). getD (es ++ offsetAt u i ∷ []) k (Whole.Near (pos 0))) e ∙ getD-append-add es (offsetAt u i ∷ []) 0 (Whole.Near (pos 0)))
 
-  pub end-at : (j i : ℕ) → j < 2 → i < h .n → at (column (madeValues h) (6 + j + 4 * h .n) 2 (h .n)) i ≡ at (ends i) j
-  end-at j i l k = rw (band-made j l) (padded-at (λ i. at (ends i) j) 4 (h .n) i k)
-
   pub row-made : (u i : ℕ) → u < madeModes h → i < h .n → rowOf (madePlant h) u i ≡ record {
     entries = tab (λ j. nearValue (entryAt u i j)) (h .n) 0;
     offset = nearValue (offsetAt u i);
@@ -142,7 +151,7 @@ module _ (h : Sheet) where
       let c = madePlant h .coef in
       let e : tab (λ j. at c (rowStart n u i + j)) n 0 ≡ tab (λ j. nearValue (entryAt u i j)) n 0 =
       tab-same (λ j. at c (rowStart n u i + j)) (λ j. nearValue (entryAt u i j)) n 0 (λ j x y. coef-made u i j a b (omega arith) ∙ entry-is u i j (omega arith)) in
-      same e (coef-made u i n a b (le-refl n) ∙ offset-is u i) (end-at 0 i (omega arith) b) (end-at 1 i (omega arith) b)
+      same e (coef-made u i n a b (le-refl n) ∙ offset-is u i) (end-made u i 0 (bandStart n u i) a b (omega arith) (omega arith)) (end-made u i 1 (bandStart n u i + 1) a b (omega arith) refl)
     where
       same : {es es′ : List ℤ} {b b′ l l′ g g′ : ℤ} → es ≡ es′ → b ≡ b′ → l ≡ l′ → g ≡ g′
           → _≡_ {A = Row} (record { entries = es; offset = b; low = l; high = g }) (record { entries = es′; offset = b′; low = l′; high = g′ })

@@ -5,6 +5,7 @@ use mathlib.Core.Path.{_≡_, refl, sym, ap, _∙_}
 use mathlib.Core.Bool.{true}
 use mathlib.Core.List.{List, [], _∷_, _++_, map, append-nil, append-assoc, map-append}
 use native.Mathlib.Omega.{arith}
+use native.Mathlib.Nat.{zero-add}
 use lib.Pow.{pow-pos, pow-mono}
 use lib.IntN.{ℤ, pos, _+ℤ_, _-ℤ_}
 use lib.Signed.{_≤ℤ_}
@@ -20,7 +21,7 @@ use Rattle.meaning.specs.Boxes.{Side, side, sideAt, sidesOf}
 use Rattle.meaning.specs.Buffers.{left, refusedWith}
 use Rattle.meaning.specs.Files.{Form, end, Judged, good, bad, fileOf, fileJudged}
 use Rattle.meaning.specs.Plants as P
-use Rattle.meaning.specs.Plants.{edgeLimit, bandLimit, entryLimit, offsetLimit, limited, span, times, row, column, plantForm, plantOf, numbersOf, rootOf, safeOf, bandsOf, wide, plantRelated, plantJudged, plantLeft}
+use Rattle.meaning.specs.Plants.{edgeLimit, bandLimit, entryLimit, offsetLimit, limited, span, times, row, column, plantForms, mostModes, plantForm, plantOf, numbersOf, rootOf, safeOf, bandStart, bandSide, bandsOf, wide, plantRelated, plantJudged, plantLeft}
 use Rattle.meaning.specs.Sheets as S
 use Rattle.meaning.specs.Sheets.{emitters, hasEmitter, roomAt, widening, limitedTo, madeModes, nearValue, madeValues, madePlant, rootSheet, safeSheet, plantFileMade, sheetJudged, madeLeft}
 use Rattle.promises.specs.files.Files.{file-writes}
@@ -28,9 +29,9 @@ use Rattle.promises.specs.files.FormShapes.{times-each}
 use Rattle.promises.specs.files.Passing as Q
 use Rattle.promises.specs.files.Passing.{Passes, passes-read, limited-passes, span-passes, times-times, headed-passes}
 use Rattle.promises.specs.files.PlantShapes.{plantBody, plant-read}
-use Rattle.promises.specs.files.Related.{related-holds}
+use Rattle.promises.specs.files.Related.{related-holds, modes-pass}
 use Rattle.promises.specs.sheets.SheetNear.{entry-few, offset-few, low-is, high-is, low-few, high-few}
-use Rattle.promises.specs.sheets.SheetNumbers.{edges, ends, numbersRow, modeRows, rows, made-groups, entryAt, offsetAt, edge-made, end-at}
+use Rattle.promises.specs.sheets.SheetNumbers.{edges, ends, numbersRow, modeRows, rows, made-groups, entryAt, offsetAt, edge-made, end-made}
 use Rattle.promises.specs.sheets.SheetSound.{SoundSheet, judged-sound}
 
 -- ---- at most 16 modes
@@ -46,7 +47,7 @@ emitters-few h zero = omega arith
 emitters-few h (suc m) = omega (arith, emitters-few h m, has-one (roomAt h m .emitter))
 
 module _ (h : Sheet) (s : SoundSheet h) where
-  modes-few : madeModes h ≤ 16
+  modes-few : madeModes h ≤ mostModes
   modes-few = pow-mono {j = 4} (omega (arith, emitters-few h (h .n), s .ranges .n-high))
 
   -- ---- the numbers pass, group by group
@@ -62,7 +63,7 @@ module _ (h : Sheet) (s : SoundSheet h) where
   wider : (i : ℕ) → i < h .n → (at (h .wlo) i -ℤ pos (widening h)) ≤ℤ (at (h .whi) i +ℤ pos (widening h))
   wider i l =
       let w = pos (widening h) in
-      let k = s .ranges .band .sides i l .order in
+      let k = s .band .sides i l .order in
       omega (zarith, k, sub (at (h .wlo) i) w, add (at (h .whi) i) w)
 
   ends-pass : (i : ℕ) → i < h .n → (rest : Form) (vs : List ℤ) → Passes rest vs → Passes (span bandLimit rest) (ends h i ++ vs)
@@ -92,12 +93,12 @@ module _ (h : Sheet) (s : SoundSheet h) where
       (λ u a b rest vs p. times-each Passes (row (h .n)) (numbersRow h u) (h .n) 0 rest vs (λ i c d. row-pass u i (omega arith) (omega arith)) p) refl)
 
   made-pass : Passes plantForm (madeValues h)
-  unfolding P.plantForm P.edgesAndBands
+  unfolding P.plantForm P.edges P.bands P.modesAlike
   made-pass =
       let r = s .ranges in
       let few = emitters h (h .n) in
       rw (made-groups h)
-      (headed-passes 16 plantBody (h .n) (madeModes h) (h .q) (h .k) (h .d) _ (omega arith) (r .n-low) (r .n-high) (pow-pos few) modes-few
+      (headed-passes plantForms mostModes plantBody 1 (h .n) (madeModes h) (h .q) (h .k) (h .d) _ (omega arith) (omega arith) (omega arith) (omega arith) (r .n-low) (r .n-high) (pow-pos few) modes-few
       (r .q-low) (r .q-high) (r .k-low) (r .k-high) (r .d-high) (r .nd-high)
       (times-each Passes (λ more. span edgeLimit (span edgeLimit more)) (edges h) (h .n) 0 _ _ (λ i a b. edges-pass i (omega arith))
       (times-each Passes (span bandLimit) (ends h) (h .n) 0 _ (rows h) (λ i a b. ends-pass i (omega arith)) rows-pass)))
@@ -123,11 +124,20 @@ module _ (h : Sheet) (s : SoundSheet h) where
   widely : ℕ → Side
   widely i = side (at (h .wlo) i -ℤ pos (widening h)) (at (h .whi) i +ℤ pos (widening h))
 
-  bands-made : bandsOf (madePlant h) ≡ tab widely (h .n) 0
-  unfolding P.plantOf S.madeNumbers widely
-  bands-made =
-      sides-made (column (madeValues h) (6 + 4 * h .n) 2 (h .n)) (column (madeValues h) (7 + 4 * h .n) 2 (h .n)) (λ i. at (h .wlo) i -ℤ pos (widening h)) (λ i. at (h .whi) i +ℤ pos (widening h))
-      (λ i l. end-at h 0 i (omega arith) l ∙ low-is h (s .fit) i l) (λ i l. end-at h 1 i (omega arith) l ∙ high-is h (s .fit) i l)
+  -- of form 1, and each mode has the sheet's bands, made wider
+  pub form-made : madePlant h .form ≡ 1
+  unfolding P.plantOf S.madeNumbers
+  form-made = refl
+
+  pub bands-made : (u : ℕ) → u < madeModes h → bandsOf (madePlant h) u ≡ tab (λ i. side (at (h .wlo) i -ℤ pos (widening h)) (at (h .whi) i +ℤ pos (widening h))) (h .n) 0
+  unfolding P.plantOf S.madeNumbers
+  bands-made u a = tab-same (bandSide (h .n) (madePlant h .bands) u) _ (h .n) 0 (λ i x y. rw (low i (omega arith), high i (omega arith)) refl)
+    where
+      low : (i : ℕ) → i < h .n → at (madePlant h .bands) (bandStart (h .n) u i) ≡ at (h .wlo) i -ℤ pos (widening h)
+      low i l = end-made h u i 0 (bandStart (h .n) u i) a l (omega arith) (omega arith) ∙ low-is h (s .fit) i l
+
+      high : (i : ℕ) → i < h .n → at (madePlant h .bands) (bandStart (h .n) u i + 1) ≡ at (h .whi) i +ℤ pos (widening h)
+      high i l = end-made h u i 1 (bandStart (h .n) u i + 1) a l (omega arith) refl ∙ high-is h (s .fit) i l
 
   wide-enough : (i : ℕ) → i < h .n → wide (h .q) (widely i) ≡ true
   unfolding widely
@@ -139,8 +149,9 @@ module _ (h : Sheet) (s : SoundSheet h) where
       let g : (pos (h .q) -ℤ pos 1) ≤ℤ (hi +ℤ w -ℤ (lo -ℤ w)) = omega (zarith, k, sub hi lo, sub lo w, add hi w, sub (hi +ℤ w) (lo -ℤ w)) in
       true-leZ g
 
-  bands-wide : all (map (wide (h .q)) (bandsOf (madePlant h))) ≡ true
-  bands-wide = rw (bands-made, map-tab (wide (h .q)) widely (h .n) 0) (tab-holds (λ i. wide (h .q) (widely i)) (h .n) 0 (λ i a b. wide-enough i (omega arith)))
+  bands-wide : (u : ℕ) → u < madeModes h → all (map (wide (h .q)) (bandsOf (madePlant h) u)) ≡ true
+  unfolding widely
+  bands-wide u a = rw (bands-made u a, map-tab (wide (h .q)) widely (h .n) 0) (tab-holds (λ i. wide (h .q) (widely i)) (h .n) 0 (λ i a b. wide-enough i (omega arith)))
 
   -- ---- so the plant's reader takes it, and its numbers are just these
 
@@ -149,7 +160,8 @@ module _ (h : Sheet) (s : SoundSheet h) where
   made-judged =
       let p = madePlant h in
       ap plantRelated (passes-read plantForm (madeValues h) made-pass)
-      ∙ related-holds (h .q) (rootOf p) (safeOf p) (bandsOf p) _ (rw (root-made, safe-made) (s .root-safe)) bands-wide
+      ∙ related-holds (h .q) (rootOf p) (safeOf p) (tab (bandsOf p) (madeModes h) 0) _ (rw (root-made, safe-made) (s .root-safe))
+      ∙ modes-pass (h .q) _ (bandsOf p) (madeModes h) 0 (λ u a. rw zero-add (bands-wide u a))
 
   pub made-numbers : numbersOf (madePlant h) ≡ madeValues h
   made-numbers = let f = fileOf plantForm (madeValues h) in plant-read f (file-writes plantForm f (passes-read plantForm (madeValues h) made-pass) .0) .1

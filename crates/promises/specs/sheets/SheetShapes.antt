@@ -33,8 +33,8 @@ use Rattle.promises.specs.sheets.Sheets.{HeldSheet, TidySheet, roomsValu
 abbrev pub floatsForm : ℕ → Form
 floatsForm n = floating above (floating anyFloat (times n (roomForm n) end))
 
-abbrev pub sheetBody : ℕ → ℕ → Form
-sheetBody n r = edgesAndBands n (floatsForm n)
+abbrev pub sheetBody : ℕ → ℕ → ℕ → Form
+sheetBody form n r = edgesAndBands n (floatsForm n)
 
 -- ---- the values of a sheet
 
@@ -50,7 +50,7 @@ floats-shaped h f = (
 )
 
 pub sheet-shaped : (h : Sheet) → HeldSheet h → Shaped sheetForm (sheetValues h)
-unfolding J.Shaped S.sheetForm P.headed P.edgesAndBands S.sheetValues
+unfolding J.Shaped S.sheetForm P.headed P.edges P.bands S.sheetValues
 sheet-shaped h f = (
   refl,
   (
@@ -118,7 +118,7 @@ span-leaves limit = record { leaves = go }
     go rest (v ∷ w ∷ vs) h = (omega arith, h .3 .3)
 
 edges-leaves : (n : ℕ) → Leaves Passes (edgesAndBands n) (6 * n)
-unfolding P.edgesAndBands
+unfolding P.edges P.bands
 edges-leaves n =
     let e : 6 * n ≡ n * 4 + n * 2 = omega arith in
     rw e (then-leaves Passes (times-leaves Passes (then-leaves Passes (span-leaves edgeLimit) (span-leaves edgeLimit)) n) (times-leaves Passes (span-leaves bandLimit) n))
@@ -144,7 +144,7 @@ floats-taken n (t ∷ o ∷ vs) h =
 
 -- ---- values that were read, as many as n rooms call for
 
-module _ (n r q k d : ℕ) (body : List ℤ) (few : n ≤ 4) (h : Passes (sheetBody n r) body) where
+module _ (n r q k d : ℕ) (body : List ℤ) (few : n ≤ 4) (h : Passes (sheetBody 1 n r) body) where
   front : List ℤ
   front = pos 1 ∷ pos n ∷ pos r ∷ pos q ∷ pos k ∷ pos d ∷ []
 
@@ -208,9 +208,10 @@ module _ (n r q k d : ℕ) (body : List ℤ) (few : n ≤ 4) (h : Passes (sheetB
 pub sheet-read : (s : List ℕ) {vs : List ℤ} {next : ℕ} → valuesAt sheetForm s 0 ≡ read vs next → TidySheet (sheetOf vs) × HeldSheet (sheetOf vs) × (sheetValues (sheetOf vs) ≡ vs)
 unfolding S.sheetForm front numbers
 sheet-read s {vs} {next} e =
-    let w = headed-read 1_000 sheetBody s 0 e in
-    let p = read-passes (sheetBody (w .n) (w .m)) s (w .place) (w .body) next (w .behind) in
-    rw (w .values) (
+    let w = headed-read 1 1_000 sheetBody s 0 e in
+    let one : w .form ≡ 1 = omega (arith, w .first, w .known) in
+    let p = read-passes (sheetBody 1 (w .n) (w .m)) s (w .place) (w .body) next (w .behind) in
+    rw (w .values, one) (
       values-tidy (w .n) (w .m) (w .q) (w .k) (w .d) (w .body) (w .few) p,
       values-held (w .n) (w .m) (w .q) (w .k) (w .d) (w .body) (w .few) p,
       values-back (w .n) (w .m) (w .q) (w .k) (w .d) (w .body) (w .few) p,

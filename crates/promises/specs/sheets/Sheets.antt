@@ -2,7 +2,7 @@
 -- Relies on pages Bodies and SheetRooms; the other way is page SheetShapes.
 use Prim.Native.Nat.{ℕ, zero, suc, _+_, _*_, _≤_, _<_}
 use mathlib.Core.Path.{_≡_, refl, sym, ap, _∙_}
-use mathlib.Core.List.{List, [], _∷_}
+use mathlib.Core.List.{List, [], _∷_, _++_}
 use native.Mathlib.Omega.{arith}
 use lib.ListN.{drop}
 use lib.Seq.{drop-drop}
@@ -77,7 +77,7 @@ module _ (h : Sheet) where
   module _ (t : TidySheet h) (f : HeldSheet h) where
     edges-same : (j : ℕ) → j < 4 → (l : List ℤ) → Filled 4 (h .n) l → ((i : ℕ) → at (edges i) j ≡ at l i) → column (sheetValues h) (6 + j) 4 (h .n) ≡ l
     unfolding S.sheetValues
-    edges-same = edge-same sheetHeader refl (h .n) edges bands (λ i. refl) (λ i. refl) floats (t .few)
+    edges-same = edge-same sheetHeader refl (h .n) edges (λ i. refl) (tabs bands (h .n) 0 ++ floats) (t .few)
 
     bands-same : (j : ℕ) → j < 2 → (l : List ℤ) → Filled 4 (h .n) l → ((i : ℕ) → at (bands i) j ≡ at l i) → column (sheetValues h) (6 + j + 4 * h .n) 2 (h .n) ≡ l
     unfolding S.sheetValues

@@ -20,9 +20,9 @@ use Rattle.meaning.specs.Starts.{chainForm, above, held}
 use Rattle.promises.specs.sheets.Faults as F
 use Rattle.promises.specs.sheets.Faults.{Tells, ReadTells, values-tell, ended-tells, end-tells, times-tell, counted-tells, span-tells, read-told}
 use Rattle.promises.specs.files.Firsts.{false-inside}
-use Rattle.promises.specs.files.Telling.{Telling}
+use Rattle.promises.specs.files.Telling.{Telling, told-by}
 use Rattle.promises.specs.starts.Chains.{chain-few}
-use Rattle.promises.specs.starts.Rows.{StartTelling, front-told}
+use Rattle.promises.specs.starts.Rows.{startPlaces, StartTelling}
 
 -- those of the values, and of bytes left over
 abbrev pub chainNumbers : List ℕ
@@ -47,7 +47,7 @@ module _ (n : ℕ) (s : List ℕ) where
   -- each of these numbers has a byte for its place, 2 the first
   chain-places : (e : Refusal) → Telling chainNumbers (length s) e → StartTelling chainNumbers (length s) e
   unfolding E.Every
-  chain-places e t = front-told (length s) t ((λ p h. h), ((λ p h. omega arith), ((λ p h. h), tt)))
+  chain-places e t = told-by t startPlaces (length s) ((λ p h. h), ((λ p h. omega arith), ((λ p h. h), tt)))
 
   -- a start file's beginning
   pub chain-told : (e : Refusal) → valuesAt (chainForm n) s 0 ≡ refused e → StartTelling chainNumbers (length s) e

@@ -8,7 +8,6 @@ use native.Mathlib.Omega.{arith}
 use native.Mathlib.Nat.{mul-le-mul, le-refl}
 use lib.IntN.{natAbs}
 use lib.ListN.{length, getD, length-append}
-use borrow.Author.Tests.{eqb-true}
 use Rattle.meaning.specs.declared.Verdict.{Verdict}
 use Rattle.meaning.specs.declared.Written.{Written}
 use Rattle.meaning.specs.Files.{good, fileOf}
@@ -33,7 +32,7 @@ use Rattle.promises.specs.starts.Started.{Started}
 chain-longest : (n : ℕ) → Longest (chainForm n) (2 + 48 * n)
 unfolding S.chainForm
 chain-longest n =
-    longer (field-longest _ _ {c = 1} {m = 1 + 48 * n} (λ v e. short 0 9 (natAbs v) (omega (arith, eqb-true (natAbs v) 1 e))) (λ v e.
+    longer (field-longest _ _ {c = 1} {m = 1 + 48 * n} (λ v e. short 0 9 (natAbs v) (omega (arith, most-of 1 1 (natAbs v) e))) (λ v e.
     counted-longest (from 0 8) _ 0 8 (λ m e. most-of 0 8 m e) (omega arith) (λ m few.
     longer (times-adds (span-adds edgeLimit 2 (omega arith)) (m * n) .adds end-longest) (omega (arith, mul-le-mul few (le-refl n)))))) (omega arith)
 

@@ -2,27 +2,23 @@
 -- place is a byte of the file; 9's place is a box's index, and 15's the index of one above R. And what is told of a table, or of the chain alone, is told so of
 -- the file that it stands in. Definitions, and what follows of them alone; which entry point tells which is page Told of this folder.
 use Prim.Native.Nat.{ℕ, _+_}
-use mathlib.Core.Path.{_≡_, refl}
-use mathlib.Core.Bool.{Bool, true, false, _||_, cond}
+use mathlib.Core.Path.{_≡_}
+use mathlib.Core.Bool.{Bool, true, false, cond}
 use mathlib.Core.List.{List, [], _∷_}
-use lib.Dec.{eqb}
 use lib.ListN.{length, getD}
-use borrow.Author.Tests.{eqb-true}
-use Rattle.laws.specs.Every as E
 use Rattle.laws.specs.Every.{Every}
-use Rattle.laws.specs.Tests.{never}
 use Rattle.meaning.specs.declared.Plant.{Plant}
 use Rattle.meaning.specs.declared.Refusal.{Refusal}
 use Rattle.meaning.specs.Files.{good, bad}
 use Rattle.meaning.specs.Plants.{plantJudged}
 use Rattle.meaning.specs.Refusals.{refusal, atByte, moved}
 use Rattle.promises.specs.sheets.Faults.{plantNumbers}
-use Rattle.promises.specs.files.Telling.{oneOf, areOf, Place, none, byte, dimension, figure, box, boxAbove, places, PlaceIs, TellingBy, Telling, told-more, not-told}
+use Rattle.promises.specs.files.Telling.{oneOf, areOf, Place, none, byte, mode, dimension, figure, box, boxAbove, places, PlaceIs, TellingBy, Telling, each-one, told-more, not-told}
 
 -- the column of places, from number 0 on
 abbrev pub startPlaces : List Place
 startPlaces =
-    none ∷ byte ∷ byte ∷ byte ∷ dimension ∷ dimension ∷ byte ∷ byte ∷ byte ∷ box ∷ none ∷ dimension ∷ none ∷ byte ∷ figure ∷ boxAbove ∷ []
+    none ∷ byte ∷ byte ∷ byte ∷ dimension ∷ mode ∷ byte ∷ byte ∷ byte ∷ box ∷ none ∷ dimension ∷ none ∷ byte ∷ figure ∷ boxAbove ∷ []
 
 abbrev pub StartTelling : List ℕ → ℕ → Refusal → Type 0
 StartTelling = TellingBy startPlaces
@@ -41,22 +37,7 @@ module _ {plant file numbers : List ℕ} {e : Refusal} where
   start-not-told n h k (of-plant q t) = not-told t n h
   start-not-told n h k (of-start p q t) = not-told t n k
 
--- what holds of each of some numbers holds of one of them
-each-one : (P : ℕ → Type 0) (l : List ℕ) → Every P l → (n : ℕ) → oneOf l n ≡ true → P n
-unfolding E.Every
-each-one P [] h n e = never e
-each-one P (a ∷ l) h n e = go (eqb n a) refl e (each-one P l (h .1) n)
-  where
-    go : (t : Bool) → eqb n a ≡ t → (t || oneOf l n) ≡ true → (oneOf l n ≡ true → P n) → P n
-    go true q e later = rw (eqb-true n a q) (h .0)
-    go false q e later = later e
-
 module _ {numbers : List ℕ} {size : ℕ} (whole : ℕ) {e : Refusal} (t : Telling numbers size e) where
-  -- told of the front of a file: each number's place is one there
-  pub front-told : Every (λ n. (p : ℕ) → PlaceIs (getD places n none) size p → PlaceIs (getD startPlaces n none) whole p) numbers → StartTelling numbers whole e
-  front-told each =
-      record { number = t .number; place = each-one _ numbers each (e .number) (t .number) (e .place) (t .place); step = t .step }
-
   -- told of a file that stands at `first` in another
   pub moved-told : (first : ℕ) → Every (λ n. (p : ℕ) → PlaceIs (getD places n none) size p → PlaceIs (getD startPlaces n none) whole (cond (atByte n) (first + p) p)) numbers
       → StartTelling numbers whole (moved first e)

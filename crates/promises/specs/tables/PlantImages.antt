@@ -1,5 +1,5 @@
 -- S3 for plants (document 01, "Image", its last sentence): of a plant that was judged good, in every mode, the image of a box of n sides, none of them
--- empty, is such a box again, and each of its edges is a count of a reading that may follow, by the plant's own equation and band, some reading of the box.
+-- empty, is such a box again, and each of its edges is a count of a reading that may follow, by the mode's own equation and band, some reading of the box.
 -- So along a pattern, whether it works or not, each image is reached from the one before. Relies on pages Images, Reached and Judged.
 -- Edges are reached one by one: that a corner of the image is reached from one point is not said, and need not be so.
 use Prim.Native.Nat.{ℕ, zero, suc, _+_, _≤_, _<_}
@@ -25,6 +25,8 @@ use Rattle.meaning.specs.Images.{Row, Step, reached, reachedAll, imageSide}
 use Rattle.meaning.specs.Plants.{plantJudged, rootOf, rowOf, stepOf}
 use Rattle.meaning.specs.Rules.{holds}
 use Rattle.meaning.specs.Tables.{rulesOf}
+use Rattle.meaning.specs.Trees as Y
+use Rattle.meaning.specs.Trees.{below}
 use Rattle.promises.specs.tables.Boxes.{Nonempty, points, points-fit}
 use Rattle.promises.specs.tables.Children.{Child, children-are}
 use Rattle.promises.specs.tables.Images.{image-holds}
@@ -105,7 +107,7 @@ module _ (q : ℕ) (positive : 1 ≤ q) (x : List ℤ) (f : ℕ → Row) where
 
 -- ---- a sound plant
 
-module _ (p : Plant) (s : Sound p) (u : ℕ) (b : List Side) (h : Boxed (p .n) b) where
+module _ (p : Plant) (s : Sound p) (u : ℕ) (m : u < p .modes) (b : List Side) (h : Boxed (p .n) b) where
   abbrev sideBy : ℕ → Side
   sideBy i = imageSide (p .q) b (rowOf p u i)
 
@@ -119,14 +121,14 @@ module _ (p : Plant) (s : Sound p) (u : ℕ) (b : List Side) (h : Boxed (p .n) b
   image-boxed : Boxed (p .n) (rulesOf p .image u b)
   image-boxed = rw image-sides (record {
     sides = length-tab sideBy (p .n) 0;
-    filled = every-tab (λ t. t .lo ≤ℤ t .hi) sideBy (p .n) 0 (λ i a c. side-filled (p .q) b (rowOf p u i) (s .ranges .q-low) (s .wide i (omega arith)) (h .filled));
+    filled = every-tab (λ t. t .lo ≤ℤ t .hi) sideBy (p .n) 0 (λ i a c. side-filled (p .q) b (rowOf p u i) (s .ranges .q-low) (s .wide u i m (omega arith)) (h .filled));
   })
 
   can-follow : (i : ℕ) → i < p .n → (v : ℤ) → Reached (p .q) b (rowOf p u i) v → CanFollow p u b i v
   can-follow i l v r =
       let x = r .point in
       let here : reached (p .q) x (rowOf p u (0 + i)) v ≡ true = rw zero-add (r .reaches) in
-      let w = beside (p .q) (s .ranges .q-low) x (rowOf p u) (p .n) 0 (λ k a c. s .wide k (omega arith)) i l v here in
+      let w = beside (p .q) (s .ranges .q-low) x (rowOf p u) (p .n) 0 (λ k a c. s .wide u k m (omega arith)) i l v here in
       let e = whole (p .n) x (held-size b x (r .held) ∙ h .sides) in
       let f = whole (p .n) (w .0) (reached-size (p .q) x (stepOf p u .rows) (w .0) (w .1) ∙ length-tab (rowOf p u) (p .n) 0) in
       record { point = x; held = rw e (r .held); reading = w .0; follows = rw (e, f) (w .1); count = w .2 }
@@ -139,12 +141,12 @@ module _ (p : Plant) (s : Sound p) (u : ℕ) (b : List Side) (h : Boxed (p .n) b
   }
     where
       edges : (i : ℕ) → i < p .n → Reached (p .q) b (rowOf p u i) (sideBy i .lo) × Reached (p .q) b (rowOf p u i) (sideBy i .hi)
-      edges i l = edges-reached (p .q) b (rowOf p u i) (s .ranges .q-low) (s .wide i l) (h .filled)
+      edges i l = edges-reached (p .q) b (rowOf p u i) (s .ranges .q-low) (s .wide u i m l) (h .filled)
 
-sound-along : (p : Plant) → Sound p → (us : List ℕ) (b : List Side) → Boxed (p .n) b → Along p b us (images (rulesOf p) b us)
-unfolding T.images
-sound-along p s [] b h = done
-sound-along p s (u ∷ us) b h = let k = sound-reached p s u b h in goes k (sound-along p s us (rulesOf p .image u b) (k .boxed))
+sound-along : (p : Plant) → Sound p → (us : List ℕ) → below (p .modes) us → (b : List Side) → Boxed (p .n) b → Along p b us (images (rulesOf p) b us)
+unfolding T.images Y.below
+sound-along p s [] m b h = done
+sound-along p s (u ∷ us) m b h = let k = sound-reached p s u (m .0) b h in goes k (sound-along p s us (m .1) (rulesOf p .image u b) (k .boxed))
 
 -- ---- where such boxes come from: R, and the children of one
 
@@ -161,9 +163,9 @@ module _ (plant : List ℕ) (p : Plant) (e : plantJudged plant ≡ good p) where
       record { sides = length-tab sides (p .n) 0; filled = every-tab (λ t. t .lo ≤ℤ t .hi) sides (p .n) 0 (λ i a c. s .ranges .root .sides i (omega arith) .order) }
 
   -- each edge of an image is reached from the box
-  pub image-reached : (u : ℕ) (b : List Side) → Boxed (p .n) b → ImageReached p u b
+  pub image-reached : (u : ℕ) → u < p .modes → (b : List Side) → Boxed (p .n) b → ImageReached p u b
   image-reached = sound-reached p (judged-sound plant p e)
 
   -- and along every pattern
-  pub images-reached : (us : List ℕ) (b : List Side) → Boxed (p .n) b → Along p b us (images (rulesOf p) b us)
+  pub images-reached : (us : List ℕ) → below (p .modes) us → (b : List Side) → Boxed (p .n) b → Along p b us (images (rulesOf p) b us)
   images-reached = sound-along p (judged-sound plant p e)

@@ -1,7 +1,7 @@
 -- Document 01's rules of a sound plant meet the laws of page Laws; so a pattern that works for a box keeps every run in S and brings it back
 -- to R (S5), and some reading always follows (S12). Relies on pages Images, Splits, Patterns and Reached.
 -- Readings are lists of any length: those beyond n are ignored, and 0 stands where one is missing.
-use Prim.Native.Nat.{ℕ, _≤_}
+use Prim.Native.Nat.{ℕ, _≤_, _<_}
 use mathlib.Core.Path.{_≡_, refl, sym, _∙_}
 use mathlib.Core.Bool.{true}
 use mathlib.Core.List.{List}
@@ -71,10 +71,10 @@ module _ (p : Plant) where
     plant-works = works-arrives (rulesOf p) motion
 
     -- S12: in every mode some reading follows every reading
-    pub plant-follows : (u : ℕ) (x : List ℤ) → (y : List ℤ) × (rulesOf p .follows u x y ≡ true)
-    plant-follows u x =
+    pub plant-follows : (u : ℕ) → u < p .modes → (x : List ℤ) → (y : List ℤ) × (rulesOf p .follows u x y ≡ true)
+    plant-follows u m x =
         let z = readingOf (p .n) x in
-        let wide : Every (Wide (p .q)) (stepOf p u .rows) = every-tab (Wide (p .q)) (rowOf p u) (p .n) 0 (λ i l h. s .wide i (omega arith)) in
+        let wide : Every (Wide (p .q)) (stepOf p u .rows) = every-tab (Wide (p .q)) (rowOf p u) (p .n) 0 (λ i l h. s .wide u i m (omega arith)) in
         let f = some-follows (stepOf p u) z (s .ranges .q-low) wide in
         let e = reached-size (p .q) z (stepOf p u .rows) (f .0) (f .1) ∙ length-tab (rowOf p u) (p .n) 0 in
         (f .0, rw (whole (p .n) (f .0) e) (f .1))

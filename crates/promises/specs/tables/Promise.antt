@@ -6,6 +6,7 @@ use Prim.Native.Nat.{ℕ, _≤_}
 use mathlib.Core.Path.{_≡_, sym, _∙_}
 use mathlib.Core.Bool.{true}
 use mathlib.Core.List.{List}
+use borrow.Author.Tests.{ltb-true}
 use lib.IntN.{ℤ}
 use Rattle.meaning.specs.declared.Plant.{Plant}
 use Rattle.meaning.specs.declared.Verdict.{Verdict}
@@ -39,7 +40,7 @@ pub record Promised (plant table : List ℕ) (most : ℕ) : Type 0 where
   pub returns : {x : List ℤ} → TableRun plant table idle x
       → (m : ℕ) × (1 ≤ m) × (m ≤ most) × ((st : State) (y : List ℤ) → TableSamples plant table m idle x st y → (st ≡ idle) × (startsIn plant y ≡ true))
   -- and no run gets stuck: whatever mode is answered, some reading may follow
-  pub goes-on : (u : ℕ) (x : List ℤ) → (y : List ℤ) × (mayFollow plant u x y ≡ true)
+  pub goes-on : (u : ℕ) → isMode plant u ≡ true → (x : List ℤ) → (y : List ℤ) × (mayFollow plant u x y ≡ true)
 
 -- runs over bytes are runs over the rules of the plant that was judged good
 pub promised : (plant table : List ℕ) (p : Plant) → plantJudged plant ≡ good p → (most : ℕ) → Sound p → Demand (rulesOf p) table most → Promised plant table most
@@ -51,7 +52,7 @@ promised plant table p e most s d =
       in-safe = b .in-safe;
       in-root = b .in-root;
       returns = λ run. let w = b .returns run in (w .0, w .1, w .2, λ st y k. let h = w .3 st y k in (h .again, h .in-root));
-      goes-on = λ u x. rw e (plant-follows p s u x);
+      goes-on = λ u m x. rw e (plant-follows p s u (ltb-true u (p .modes) (rw e at m)) x);
     }
 
 -- S9: of every accepted table, and of the one tree that it is the layout of
