@@ -18,5 +18,6 @@ pub mod PlantShapes
 pub mod Plants
 pub mod Related
 pub mod Sound
+pub mod Taken
 pub mod Telling
 pub mod Writers

@@ -1,5 +1,6 @@
 pub mod AsStated
 pub mod EachTold
+pub mod EitherForm
 pub mod Results
 pub mod Shown
 pub mod Shows

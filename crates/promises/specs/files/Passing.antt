@@ -3,23 +3,28 @@
 use Prim.Native.Nat.{ℕ, zero, suc, _+_, _*_, _^_, _≤_, _<_}
 use mathlib.Core.Path.{_≡_, refl, _∙_}
 use mathlib.Core.Bool.{true}
-use mathlib.Core.List.{List, [], _∷_, _++_}
+use mathlib.Core.List.{List, [], _∷_, _++_, append-assoc}
 use native.Mathlib.Omega.{arith}
 use lib.ListN.{length, length-append}
 use borrow.Author.Tests.{lt-ltb, le-leb}
 use lib.IntN.{ℤ, pos, negℤ, natAbs}
 use lib.Signed.{_≤ℤ_}
+use Rattle.laws.specs.Columns.{tab-tabs}
 use Rattle.laws.specs.Integers.{zarith, neg, abs}
+use Rattle.laws.specs.Lists.{at, tab, tabs}
 use Rattle.laws.specs.Tests.{both, ordered}
 use Rattle.meaning.specs.Numbers.{stored}
+use Rattle.meaning.specs.Boxes.{side}
 use Rattle.meaning.specs.Files as F
 use Rattle.meaning.specs.Files.{signed, Form, end, field, bytesAs, read, valuesAt, valuesOf, fileOf}
 use Rattle.meaning.specs.Plants as P
-use Rattle.meaning.specs.Plants.{limited, span, times, headed}
+use Rattle.meaning.specs.Plants.{edgeLimit, bandLimit, entryLimit, offsetLimit, limited, span, times, edges, bands, row, headed, edgesOf}
 use Rattle.promises.specs.files.Files as J
 use Rattle.promises.specs.files.Files.{Storable, fiveBytes, Shaped, judgedValues, file-reads, field-read}
+use Rattle.promises.specs.files.FormShapes.{times-each}
 use Rattle.promises.specs.files.Headers.{from-holds}
 use Rattle.promises.specs.files.Lengths.{stored-most}
+use Rattle.promises.specs.files.Sound.{Bounded, Edges}
 
 unfoldable pub Passes : Form → List ℤ → Type 0
 Passes end vs = vs ≡ []
@@ -90,6 +95,37 @@ times-times part zero n rest = let e : 0 * n ≡ 0 = omega arith in rw e refl
 times-times part (suc m) n rest =
     let e : suc m * n ≡ n + m * n = omega arith in
     rw e (times-more part n (m * n) rest ∙ rw (times-times part m n rest) refl)
+
+-- ---- edges, bands and rows
+
+pub edges-pass : (n : ℕ) {rlo rhi slo shi : List ℤ} → Edges edgeLimit n rlo rhi → Edges edgeLimit n slo shi
+    → (rest : Form) (vs : List ℤ) → Passes rest vs → Passes (edges n rest) (tabs (edgesOf rlo rhi slo shi) n 0 ++ vs)
+unfolding P.edges
+edges-pass n {rlo} {rhi} {slo} {shi} root safe rest vs p =
+    times-each Passes (λ more. span edgeLimit (span edgeLimit more)) (edgesOf rlo rhi slo shi) n 0 rest vs (λ i a b. one i (omega arith)) p
+  where
+    one : (i : ℕ) → i < n → (rest : Form) (vs : List ℤ) → Passes rest vs → Passes (span edgeLimit (span edgeLimit rest)) (edgesOf rlo rhi slo shi i ++ vs)
+    one i l rest vs p =
+        let r = root .sides i l in
+        let t = safe .sides i l in
+        span-passes edgeLimit (omega arith) (span edgeLimit rest) (at rlo i) (at rhi i) _ (r .low) (r .high) (r .order)
+        (span-passes edgeLimit (omega arith) rest (at slo i) (at shi i) vs (t .low) (t .high) (t .order) p)
+
+pub bands-pass : (n : ℕ) (lo hi : ℕ → ℤ) → ((i : ℕ) → i < n → Bounded bandLimit (side (lo i) (hi i)))
+    → (rest : Form) (vs : List ℤ) → Passes rest vs → Passes (bands n rest) (tabs (λ i. lo i ∷ hi i ∷ []) n 0 ++ vs)
+unfolding P.bands
+bands-pass n lo hi h rest vs p =
+    times-each Passes (span bandLimit) (λ i. lo i ∷ hi i ∷ []) n 0 rest vs
+    (λ i a b rest vs p. let k = h i (omega arith) in span-passes bandLimit (omega arith) rest (lo i) (hi i) vs (k .low) (k .high) (k .order) p) p
+
+pub row-pass : (n : ℕ) (f : ℕ → ℤ) (b : ℤ) → ((j : ℕ) → j < n → natAbs (f j) ≤ entryLimit) → natAbs b ≤ offsetLimit
+    → (rest : Form) (vs : List ℤ) → Passes rest vs → Passes (row n rest) ((tab f n 0 ++ b ∷ []) ++ vs)
+unfolding P.row
+row-pass n f b small least rest vs p =
+    rw (append-assoc (tab f n 0) (b ∷ []) vs, tab-tabs f n 0)
+    (times-each Passes (limited entryLimit) (λ j. f j ∷ []) n 0 (limited offsetLimit rest) (b ∷ vs)
+    (λ j c d rest vs q. limited-passes entryLimit (omega arith) rest (f j) vs (small j (omega arith)) q)
+    (limited-passes offsetLimit (omega arith) rest b vs least p))
 
 -- ---- the header
 

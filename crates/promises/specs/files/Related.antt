@@ -53,10 +53,6 @@ bands-were : {A : Type 0} {a : A} (q : ℕ) (bands : List Side) (rest : Unit {0}
 unfolding P.wideModes
 bands-were q bands rest e = guard-passed (all (map (wide q) bands)) _ bad-good e
 
-pub bands-pass : {A : Type 0} (q : ℕ) (bands : List Side) (rest : Unit {0} → Judged A) → all (map (wide q) bands) ≡ true → wideModes q 0 (bands ∷ []) rest ≡ rest tt
-unfolding P.wideModes
-bands-pass q bands rest h = rw h refl
-
 -- R within S, and then the modes
 pub related-was : {A : Type 0} {a : A} (q : ℕ) (root safe : List Side) (modes : List (List Side)) (rest : Unit {0} → Judged A) → related q root safe modes rest ≡ good a
     → (within root safe ≡ true) × (wideModes q 0 modes rest ≡ good a)

@@ -81,9 +81,9 @@ pub record EachTold : Type 0 where
   -- of a table, the plants being good
   pub checker : Every (λ n. (p table : List ℕ) × (verdictShown (plantRead p .verdict) .number ≡ 0) × (verdictShown (checked p table) .number ≡ n)) checkerNumbers
   pub controller : Every (λ n. (table : List ℕ) × (st : State) × (x : List ℤ) × (answerShown (controlled P table st x) .number ≡ n)) controllerNumbers
-  -- 5: the first mode of line 12's plant; the second mode of a plant of form 2, and the first before it; the second dimension; a sheet's one band
+  -- 5: line 12's plant; the second mode of a plant of form 2; the second dimension; a sheet
   pub narrow-first : verdictShown (plantRead (plantWith 1 190 230 3) .verdict) ≡ shows 5 0 0 []
-  pub narrow-mode : (verdictShown (plantRead (ownWith 4 3) .verdict) ≡ shows 5 1 0 []) × (verdictShown (plantRead (ownWith 3 3) .verdict) ≡ shows 5 0 0 [])
+  pub narrow-mode : verdictShown (plantRead (ownWith 4 3) .verdict) ≡ shows 5 1 0 []
   pub narrow-dimension : verdictShown (plantRead (roomsWith 4 3) .verdict) ≡ shows 5 0 1 []
   pub narrow-sheet : verdictShown (sheetRead (sheetWith 190 2 one eight) .verdict) ≡ shows 5 0 0 []
 
@@ -99,7 +99,7 @@ each-told = record {
   checker = ((P, [], refl, refl), ((P, 2 ∷ [], refl, refl), ((P, 1 ∷ 2 ∷ [], refl, refl), ((P, 1 ∷ 1 ∷ 1 ∷ 1 ∷ [], refl, refl), ((P′, 1 ∷ 1 ∷ 1 ∷ 1 ∷ [], refl, refl), tt)))));
   controller = (([], idle, [], refl), ((2 ∷ [], idle, [], refl), ((1 ∷ 2 ∷ [], idle, [], refl), ((1 ∷ 1 ∷ [], idle, pos 194 ∷ [], refl), ((1 ∷ 1 ∷ [], record { place = 1; left = 0 }, pos 200 ∷ [], refl), tt)))));
   narrow-first = refl;
-  narrow-mode = (refl, refl);
+  narrow-mode = refl;
   narrow-dimension = refl;
   narrow-sheet = refl;
 }

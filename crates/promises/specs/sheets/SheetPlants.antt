@@ -3,15 +3,14 @@
 use Prim.Native.Nat.{ℕ, zero, suc, _+_, _*_, _≤_, _<_}
 use mathlib.Core.Path.{_≡_, refl, sym, ap, _∙_}
 use mathlib.Core.Bool.{true}
-use mathlib.Core.List.{List, [], _∷_, _++_, map, append-nil, append-assoc, map-append}
+use mathlib.Core.List.{List, [], _∷_, _++_, map, append-nil, map-append}
 use native.Mathlib.Omega.{arith}
 use native.Mathlib.Nat.{zero-add}
 use lib.Pow.{pow-pos, pow-mono}
 use lib.IntN.{ℤ, pos, _+ℤ_, _-ℤ_}
 use lib.Signed.{_≤ℤ_}
-use Rattle.laws.specs.Columns.{tab-tabs}
 use Rattle.laws.specs.Integers.{zarith, add, sub}
-use Rattle.laws.specs.Lists.{at, tab, tabs, all}
+use Rattle.laws.specs.Lists.{at, tab, all}
 use Rattle.laws.specs.Tabs.{tab-same, padded-at, map-tab}
 use Rattle.laws.specs.Tests.{true-leZ, tab-holds}
 use Rattle.meaning.specs.declared.Emitter.{Emitter}
@@ -21,18 +20,19 @@ use Rattle.meaning.specs.Boxes.{Side, side, sideAt, sidesOf}
 use Rattle.meaning.specs.Buffers.{left, refusedWith}
 use Rattle.meaning.specs.Files.{Form, end, Judged, good, bad, fileOf, fileJudged}
 use Rattle.meaning.specs.Plants as P
-use Rattle.meaning.specs.Plants.{edgeLimit, bandLimit, entryLimit, offsetLimit, limited, span, times, row, column, plantForms, mostModes, plantForm, plantOf, numbersOf, rootOf, safeOf, bandStart, bandSide, bandsOf, wide, plantRelated, plantJudged, plantLeft}
+use Rattle.meaning.specs.Plants.{bandLimit, times, row, column, plantForms, mostModes, plantForm, plantOf, numbersOf, rootOf, safeOf, bandStart, bandSide, bandsOf, wide, plantRelated, plantJudged, plantLeft}
 use Rattle.meaning.specs.Sheets as S
 use Rattle.meaning.specs.Sheets.{emitters, hasEmitter, roomAt, widening, limitedTo, madeModes, nearValue, madeValues, madePlant, rootSheet, safeSheet, plantFileMade, sheetJudged, madeLeft}
 use Rattle.promises.specs.files.Files.{file-writes}
 use Rattle.promises.specs.files.FormShapes.{times-each}
 use Rattle.promises.specs.files.Passing as Q
-use Rattle.promises.specs.files.Passing.{Passes, passes-read, limited-passes, span-passes, times-times, headed-passes}
+use Rattle.promises.specs.files.Passing.{Passes, passes-read, edges-pass, bands-pass, row-pass, times-times, headed-passes}
 use Rattle.promises.specs.files.PlantShapes.{plantBody, plant-read}
 use Rattle.promises.specs.files.Related.{related-holds, modes-pass}
 use Rattle.promises.specs.sheets.SheetNear.{entry-few, offset-few, low-is, high-is, low-few, high-few}
-use Rattle.promises.specs.sheets.SheetNumbers.{edges, ends, numbersRow, modeRows, rows, made-groups, entryAt, offsetAt, edge-made, end-made}
+use Rattle.promises.specs.sheets.SheetNumbers.{edges, numbersRow, modeRows, rows, made-groups, entryAt, offsetAt, edge-made, end-made}
 use Rattle.promises.specs.sheets.SheetSound.{SoundSheet, judged-sound}
+use Rattle.promises.specs.files.Sound.{Bounded}
 
 -- ---- at most 16 modes
 
@@ -52,13 +52,6 @@ module _ (h : Sheet) (s : SoundSheet h) where
 
   -- ---- the numbers pass, group by group
 
-  edges-pass : (i : ℕ) → i < h .n → (rest : Form) (vs : List ℤ) → Passes rest vs → Passes (span edgeLimit (span edgeLimit rest)) (edges h i ++ vs)
-  edges-pass i l rest vs p =
-      let r = s .ranges .root .sides i l in
-      let t = s .ranges .safe .sides i l in
-      span-passes edgeLimit (omega arith) (span edgeLimit rest) (at (h .rlo) i) (at (h .rhi) i) _ (r .low) (r .high) (r .order)
-      (span-passes edgeLimit (omega arith) rest (at (h .slo) i) (at (h .shi) i) vs (t .low) (t .high) (t .order) p)
-
   -- lo ≤ hi is kept, and so is the width
   wider : (i : ℕ) → i < h .n → (at (h .wlo) i -ℤ pos (widening h)) ≤ℤ (at (h .whi) i +ℤ pos (widening h))
   wider i l =
@@ -66,42 +59,41 @@ module _ (h : Sheet) (s : SoundSheet h) where
       let k = s .band .sides i l .order in
       omega (zarith, k, sub (at (h .wlo) i) w, add (at (h .whi) i) w)
 
-  ends-pass : (i : ℕ) → i < h .n → (rest : Form) (vs : List ℤ) → Passes rest vs → Passes (span bandLimit rest) (ends h i ++ vs)
-  ends-pass i l rest vs p =
-      let lo = nearValue (limitedTo bandLimit (at (h .wlo) i -ℤ pos (widening h))) in
-      let hi = nearValue (limitedTo bandLimit (at (h .whi) i +ℤ pos (widening h))) in
-      let order : lo ≤ℤ hi = rw (low-is h (s .fit) i l, high-is h (s .fit) i l) (wider i l) in
-      span-passes bandLimit (omega arith) rest lo hi vs (low-few h (s .fit) i l) (high-few h (s .fit) i l) order p
+  abbrev low : ℕ → ℤ
+  low i = nearValue (limitedTo bandLimit (at (h .wlo) i -ℤ pos (widening h)))
 
-  row-pass : (u i : ℕ) → u < madeModes h → i < h .n → (rest : Form) (vs : List ℤ) → Passes rest vs → Passes (row (h .n) rest) (numbersRow h u i ++ vs)
-  unfolding P.row
-  row-pass u i a b rest vs p =
+  abbrev high : ℕ → ℤ
+  high i = nearValue (limitedTo bandLimit (at (h .whi) i +ℤ pos (widening h)))
+
+  ends-bounded : (i : ℕ) → i < h .n → Bounded bandLimit (side (low i) (high i))
+  ends-bounded i l =
+      let order : low i ≤ℤ high i = rw (low-is h (s .fit) i l, high-is h (s .fit) i l) (wider i l) in
+      record { low = low-few h (s .fit) i l; high = high-few h (s .fit) i l; order = order }
+
+  one-pass : (u i : ℕ) → u < madeModes h → i < h .n → (rest : Form) (vs : List ℤ) → Passes rest vs → Passes (row (h .n) rest) (numbersRow h u i ++ vs)
+  one-pass u i a b rest vs p =
       let f : ℕ → ℤ = λ j. nearValue (entryAt h u i j) in
       let o = nearValue (offsetAt h u i) in
-      let e : numbersRow h u i ≡ tabs (λ j. f j ∷ []) (h .n) 0 ++ o ∷ [] =
-      map-append nearValue (tab (entryAt h u i) (h .n) 0) (offsetAt h u i ∷ []) ∙ rw (map-tab nearValue (entryAt h u i) (h .n) 0, tab-tabs f (h .n) 0) refl in
-      rw (e, append-assoc (tabs (λ j. f j ∷ []) (h .n) 0) (o ∷ []) vs)
-      (times-each Passes (limited entryLimit) (λ j. f j ∷ []) (h .n) 0 (limited offsetLimit rest) (o ∷ vs)
-      (λ j c d rest vs q. limited-passes entryLimit (omega arith) rest (f j) vs (entry-few h (s .fit) u i j a b (omega arith)) q)
-      (limited-passes offsetLimit (omega arith) rest o vs (offset-few h (s .fit) u i a b) p))
+      let e : numbersRow h u i ≡ tab f (h .n) 0 ++ o ∷ [] =
+      map-append nearValue (tab (entryAt h u i) (h .n) 0) (offsetAt h u i ∷ []) ∙ rw (map-tab nearValue (entryAt h u i) (h .n) 0) refl in
+      rw e (row-pass (h .n) f o (λ j l. entry-few h (s .fit) u i j a b l) (offset-few h (s .fit) u i a b) rest vs p)
 
   rows-pass : Passes (times (madeModes h * h .n) (row (h .n)) end) (rows h)
   unfolding Q.Passes
   rows-pass =
       rw (times-times (row (h .n)) (madeModes h) (h .n) end, ← append-nil (rows h))
       (times-each Passes (times (h .n) (row (h .n))) (modeRows h) (madeModes h) 0 end []
-      (λ u a b rest vs p. times-each Passes (row (h .n)) (numbersRow h u) (h .n) 0 rest vs (λ i c d. row-pass u i (omega arith) (omega arith)) p) refl)
+      (λ u a b rest vs p. times-each Passes (row (h .n)) (numbersRow h u) (h .n) 0 rest vs (λ i c d. one-pass u i (omega arith) (omega arith)) p) refl)
 
   made-pass : Passes plantForm (madeValues h)
-  unfolding P.plantForm P.edges P.bands P.modesAlike
+  unfolding P.plantForm P.modesAlike
   made-pass =
       let r = s .ranges in
       let few = emitters h (h .n) in
       rw (made-groups h)
       (headed-passes plantForms mostModes plantBody 1 (h .n) (madeModes h) (h .q) (h .k) (h .d) _ (omega arith) (omega arith) (omega arith) (omega arith) (r .n-low) (r .n-high) (pow-pos few) modes-few
       (r .q-low) (r .q-high) (r .k-low) (r .k-high) (r .d-high) (r .nd-high)
-      (times-each Passes (λ more. span edgeLimit (span edgeLimit more)) (edges h) (h .n) 0 _ _ (λ i a b. edges-pass i (omega arith))
-      (times-each Passes (span bandLimit) (ends h) (h .n) 0 _ (rows h) (λ i a b. ends-pass i (omega arith)) rows-pass)))
+      (edges-pass (h .n) (r .root) (r .safe) _ _ (bands-pass (h .n) low high ends-bounded _ (rows h) rows-pass)))
 
   -- ---- R within S, and each band wide enough
 
