@@ -39,7 +39,7 @@ sheetPlaces = placesBy none
 abbrev steps : List Place
 steps = none ∷ none ∷ none ∷ none ∷ none ∷ dimension ∷ none ∷ sample ∷ sample ∷ []
 
--- a byte's place is the file's length where a number is missing; a plant file has at most 6 + 6·4 + 320 numbers
+-- a byte's place is the file's length where a number is missing; a sheet's plant file has at most 6 + 6·4 + 320 numbers
 abbrev pub PlaceIs : Place → ℕ → ℕ → Type 0
 PlaceIs none size p = p ≡ 0
 PlaceIs byte size p = p ≤ size

@@ -18,7 +18,7 @@ use Rattle.meaning.specs.Sheets.{sheetForm, sheetOf, sheetRead, sheetLeft, made
 use Rattle.meaning.specs.Tables.{checked, makerLeft, controlled}
 use Rattle.promises.specs.sheets.Faults.{plantNumbers, sheetNumbers}
 use Rattle.promises.specs.paper.Shows.{shows}
-use Rattle.promises.specs.paper.Told.{sheetMakerNumbers, makerNumbers, plantWriterNumbers, sheetWriterNumbers, checkerNumbers, controllerNumbers}
+use Rattle.promises.specs.paper.Told.{sheetMakerNumbers, makerNumbers, plantWriterNumbers, formedWriterNumbers, sheetWriterNumbers, checkerNumbers, controllerNumbers}
 
 -- P by its form, which is no 2, q, D, S and the upper end of its band
 abbrev plantBy : ℕ → ℕ → ℕ → ℕ → ℕ → ℕ → List ℤ
@@ -77,6 +77,7 @@ pub record EachTold : Type 0 where
   pub sheet-maker : Every (λ n. (s buf : List ℕ) × (writtenShown (madeLeft s buf .answer) .number ≡ n)) sheetMakerNumbers
   pub maker : Every (λ n. (s buf : List ℕ) × (writtenShown (makerLeft s buf .answer) .number ≡ n)) makerNumbers
   pub plant-writer : Every (λ n. (p : Plant) × (buf : List ℕ) × (writtenShown (plantLeft p buf .answer) .number ≡ n)) plantWriterNumbers
+  pub formed-writer : Every (λ n. (p : Plant) × (p .form ≡ 1) × (buf : List ℕ) × (writtenShown (plantLeft p buf .answer) .number ≡ n)) formedWriterNumbers
   pub sheet-writer : Every (λ n. (h : Sheet) × (buf : List ℕ) × (writtenShown (sheetLeft h buf .answer) .number ≡ n)) sheetWriterNumbers
   -- of a table, the plants being good
   pub checker : Every (λ n. (p table : List ℕ) × (verdictShown (plantRead p .verdict) .number ≡ 0) × (verdictShown (checked p table) .number ≡ n)) checkerNumbers
@@ -95,6 +96,7 @@ each-told = record {
   sheet-maker = (([], [], refl), ((2 ∷ [], [], refl), ((1 ∷ 0 ∷ [], [], refl), ((sheetWith 196 3 one eight, [], refl), ((sheetWith 190 2 one eight, [], refl), ((sheetWith 190 3 one eight, [], refl), ((sheetWith 190 3 0 eight, [], refl), ((sheetWith 190 3 one huge, [], refl), tt))))))));
   maker = (([], [], refl), ((3 ∷ [], [], refl), ((1 ∷ 0 ∷ [], [], refl), ((plantWith 1 196 230 4, [], refl), ((plantWith 1 190 230 3, [], refl), ((plantWith 0 190 230 4, [], refl), ((P, [], refl), tt)))))));
   plant-writer = ((plantOf (plantBy 1 long 1 190 230 4), [], refl), ((plantOf (plantBy 3 10 1 190 230 4), [], refl), ((plantOf (plantBy 1 0 1 190 230 4), [], refl), ((plantOf (plantBy 1 10 1 196 230 4), [], refl), ((plantOf (plantBy 1 10 1 190 230 3), [], refl), ((plantOf (plantBy 1 10 1 190 230 4), [], refl), tt))))));
+  formed-writer = ((plantOf (plantBy 1 long 1 190 230 4), refl, [], refl), ((plantOf (plantBy 1 0 1 190 230 4), refl, [], refl), ((plantOf (plantBy 1 10 1 196 230 4), refl, [], refl), ((plantOf (plantBy 1 10 1 190 230 3), refl, [], refl), ((plantOf (plantBy 1 10 1 190 230 4), refl, [], refl), tt)))));
   sheet-writer = ((sheetOf (sheetBy long 190 3 one eight), [], refl), ((sheetOf (sheetBy 0 190 3 one eight), [], refl), ((sheetOf (sheetBy 8 196 3 one eight), [], refl), ((sheetOf (sheetBy 8 190 2 one eight), [], refl), ((sheetOf (sheetBy 8 190 3 one eight), [], refl), ((sheetOf (sheetBy 8 190 3 0 eight), [], refl), ((sheetOf (sheetBy 8 190 3 one huge), [], refl), tt)))))));
   checker = ((P, [], refl, refl), ((P, 2 ∷ [], refl, refl), ((P, 1 ∷ 2 ∷ [], refl, refl), ((P, 1 ∷ 1 ∷ 1 ∷ 1 ∷ [], refl, refl), ((P′, 1 ∷ 1 ∷ 1 ∷ 1 ∷ [], refl, refl), tt)))));
   controller = (([], idle, [], refl), ((2 ∷ [], idle, [], refl), ((1 ∷ 2 ∷ [], idle, [], refl), ((1 ∷ 1 ∷ [], idle, pos 194 ∷ [], refl), ((1 ∷ 1 ∷ [], record { place = 1; left = 0 }, pos 200 ∷ [], refl), tt)))));

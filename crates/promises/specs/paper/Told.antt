@@ -1,8 +1,8 @@
 -- Which numbers each entry point can tell, and of which file (document 01, "What each number says" and the order of judgement): a plant 1 to 5, a sheet 13 and 14
--- besides; their writers 10 too, and no 2, which a plant's writer tells where the form that it was handed is not known; sheet to plant 1 to 5, 10, 13 and 14; the maker 1 to 5, 9 and 10; checker and controller the plant's own refusal, or,
--- the plant being good, the table's: the checker 1, 2, 6, 7 and 8, the controller 1, 2, 6, 11 and 12. Places and steps are as page Telling says. And what
--- is shown is 0 exactly where it is accepted, written, answered. Of all inputs. Relies on pages Faults, WalkTold and Made; that each of these numbers is
--- told of some input is page EachTold. Which refusal it is the definitions say.
+-- besides; their writers 10 too, and no 2 but of a plant whose form is not known; sheet to plant 1 to 5, 10, 13 and 14; the maker 1 to 5, 9 and 10; checker and
+-- controller the plant's own refusal, or, the plant being good, the table's: the checker 1, 2, 6, 7 and 8, the controller 1, 2, 6, 11 and 12. Places and steps are
+-- as page Telling says. And what is shown is 0 exactly where it is accepted, written, answered. Of all inputs. Relies on pages Faults, WalkTold and Made; that each
+-- of these numbers is told of some input is page EachTold. Which refusal it is the definitions say.
 use Prim.Native.Nat.{ℕ, zero, suc, _≤_}
 use mathlib.Core.Path.{_≡_, refl, ap}
 use mathlib.Core.Bool.{Bool, true, false}

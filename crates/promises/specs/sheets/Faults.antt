@@ -1,9 +1,8 @@
 -- Which numbers a plant or a sheet is refused by, and where (document 01, "What each number says"): a plant by 1 to 5, so that the maker's 9 and 10 are never
 -- about the plant; a sheet by 1 to 5, 13 and 14; and one that is handed over as values, whose form is right, never by 2. The place of 1, 3 and 13 lies in the
 -- file or just behind it, that of 4 is a dimension, that of 5 a mode, for a sheet 0, and its step a dimension, that of 14 which number of the plant file. Any form
--- whose fields tell only such refusals; then
--- the forms of plants and sheets, and the tests behind them. Relies on pages Files and Framed. Which refusal it is the definitions `plantJudged` and
--- `sheetJudged` say.
+-- whose fields tell only such refusals; then the forms of plants and sheets, and the tests behind them. Relies on pages Files and Framed. Which refusal it is the
+-- definitions `plantJudged` and `sheetJudged` say.
 use Prim.Native.Nat.{ℕ, zero, suc, _+_, _-_, _*_, _≤_, _<_}
 use mathlib.Core.Path.{_≡_, refl, sym, ap}
 use mathlib.Core.Bool.{Bool, true, false, cond}
