@@ -44,7 +44,7 @@ body-shape false n modes vs =
     rw e (takes-all (then-takes (edges-takes n) (then-takes (bands-takes n) (rows-take n (modes * n)))) vs)
 
 -- the numbers of any modes, as many
-modes-long : (own : Bool) (n modes : ℕ) (bands coef : List ℤ)
+pub modes-long : (own : Bool) (n modes : ℕ) (bands coef : List ℤ)
     → length (cond own (tabs (λ u. bandNumbers n bands u ++ rowNumbers n coef u) modes 0) (bandNumbers n bands 0 ++ tabs (rowNumbers n coef) modes 0)) ≡ modesCount own n modes
 modes-long true n modes bands coef = length-tabs (λ u. bandNumbers n bands u ++ rowNumbers n coef u) (modeSize n) (mode-long n modes bands coef) modes 0
 modes-long false n modes bands coef =
