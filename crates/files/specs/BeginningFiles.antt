@@ -13,14 +13,14 @@ use Rattle.laws.specs.Lists.{tabs}
 use Rattle.laws.specs.Tabs.{length-tabs}
 use Rattle.meaning.specs.Numbers.{groupsOf, bytesOf, stored}
 use Rattle.meaning.specs.Files.{Form, refused, valuesAt, fileOf}
-use Rattle.meaning.specs.Plants.{bandLimit, span, times, edgesAndBands, headed, edgesOf, bandOf}
+use Rattle.meaning.specs.Plants.{bandLimit, span, times, edges, bands, edgesAndBands, headed, edgesOf, bandOf}
 use Rattle.files.specs.declared.headers.Header.{Header}
 use Rattle.files.specs.declared.beginnings.Beginning.{Beginning}
 use Rattle.files.specs.Signed.{signedBytes, signed-append}
 use Rattle.files.specs.Headers.{headBytes}
 use Rattle.files.specs.Bounds.{edgesPart}
 use Rattle.files.specs.Refusing.{Refusing}
-use Rattle.files.specs.Beginnings.{beginningForm, headOf, edgesIn, bandsIn, beginningNumbers, beginningBytes}
+use Rattle.files.specs.Beginnings.{headNumbers, headOf, edgesIn, bandsIn, beginningBytes}
 
 -- a part that many times, its bytes being those of its values each time
 pub file-times : (part : Form → Form) (f : ℕ → List ℤ) (bytes : ℕ → List ℕ) → ((k : ℕ) (rest : Form) (vs : List ℤ) → fileOf (part rest) (f k ++ vs) ≡ bytes k ++ fileOf rest vs)
@@ -49,29 +49,30 @@ file-bands wlo whi k rest vs = simp append-assoc
 regroup : (a b c d e f x : List ℕ) → (a ++ (b ++ (c ++ (d ++ (e ++ f))))) ++ x ≡ a ++ (b ++ (c ++ (d ++ (e ++ (f ++ x)))))
 regroup a b c d e f x = simp append-assoc
 
--- a file that begins so
-pub file-beginning : (b : Beginning) (most : ℕ) (rest : ℕ → ℕ → Form) (vs : List ℤ)
-    → fileOf (beginningForm most rest) (beginningNumbers b ++ vs) ≡ headBytes (headOf b) ++ (signedBytes (edgesIn b ++ bandsIn b) ++ fileOf (rest (b .n) (b .m)) vs)
-unfolding headed fileOf beginningNumbers edgesAndBands
-file-beginning b most rest vs =
-    ap (λ (bs : List ℕ). bytesOf 1 ++ (bytesOf (b .n) ++ (bytesOf (b .m) ++ (bytesOf (b .q) ++ (bytesOf (b .k) ++ (bytesOf (b .d) ++ bs)))))) body
-    ∙ sym (regroup (bytesOf 1) (bytesOf (b .n)) (bytesOf (b .m)) (bytesOf (b .q)) (bytesOf (b .k)) (bytesOf (b .d)) (signedBytes (edgesIn b ++ bandsIn b) ++ fileOf (rest (b .n) (b .m)) vs))
+-- the header in front of what stands behind it
+pub file-headed : (h : Header) (forms most : ℕ) (body : ℕ → ℕ → ℕ → Form) (vs : List ℤ)
+    → fileOf (headed forms most body) (headNumbers h ++ vs) ≡ headBytes h ++ fileOf (body (h .form) (h .n) (h .m)) vs
+unfolding headed fileOf
+file-headed h forms most body vs =
+    sym (regroup (bytesOf (h .form)) (bytesOf (h .n)) (bytesOf (h .m)) (bytesOf (h .q)) (bytesOf (h .k)) (bytesOf (h .d)) (fileOf (body (h .form) (h .n) (h .m)) vs))
+
+-- edges and bands in front of the rest
+pub file-bounds : (b : Beginning) (rest : Form) (vs : List ℤ)
+    → fileOf (edgesAndBands (b .n) rest) (edgesIn b ++ (bandsIn b ++ vs)) ≡ signedBytes (edgesIn b ++ bandsIn b) ++ fileOf rest vs
+unfolding edges bands
+file-bounds b rest vs =
+    file-times edgesPart edge (λ k. signedBytes (edge k)) (file-edges (b .rlo) (b .rhi) (b .slo) (b .shi)) (b .n) 0 (times (b .n) (span bandLimit) rest) (bandsIn b ++ vs)
+    ∙ ap (λ (bs : List ℕ). bs ++ fileOf (times (b .n) (span bandLimit) rest) (bandsIn b ++ vs)) (signed-tabs edge (b .n) 0)
+    ∙ ap (λ (bs : List ℕ). signedBytes (edgesIn b) ++ bs)
+    (file-times (span bandLimit) band (λ k. signedBytes (band k)) (file-bands (b .wlo) (b .whi)) (b .n) 0 rest vs ∙ ap (λ (bs : List ℕ). bs ++ fileOf rest vs) (signed-tabs band (b .n) 0))
+    ∙ sym (append-assoc (signedBytes (edgesIn b)) (signedBytes (bandsIn b)) (fileOf rest vs))
+    ∙ ap (λ (bs : List ℕ). bs ++ fileOf rest vs) (sym (signed-append (edgesIn b) (bandsIn b)))
   where
     edge : ℕ → List ℤ
     edge = edgesOf (b .rlo) (b .rhi) (b .slo) (b .shi)
 
     band : ℕ → List ℤ
     band = bandOf (b .wlo) (b .whi)
-
-    body : fileOf (edgesAndBands (b .n) (rest (b .n) (b .m))) ((edgesIn b ++ bandsIn b) ++ vs) ≡ signedBytes (edgesIn b ++ bandsIn b) ++ fileOf (rest (b .n) (b .m)) vs
-    body =
-        ap (fileOf (edgesAndBands (b .n) (rest (b .n) (b .m)))) (append-assoc (edgesIn b) (bandsIn b) vs)
-        ∙ file-times edgesPart edge (λ k. signedBytes (edge k)) (file-edges (b .rlo) (b .rhi) (b .slo) (b .shi)) (b .n) 0 (times (b .n) (span bandLimit) (rest (b .n) (b .m))) (bandsIn b ++ vs)
-        ∙ ap (λ (bs : List ℕ). bs ++ fileOf (times (b .n) (span bandLimit) (rest (b .n) (b .m))) (bandsIn b ++ vs)) (signed-tabs edge (b .n) 0)
-        ∙ ap (λ (bs : List ℕ). signedBytes (edgesIn b) ++ bs)
-        (file-times (span bandLimit) band (λ k. signedBytes (band k)) (file-bands (b .wlo) (b .whi)) (b .n) 0 (rest (b .n) (b .m)) vs ∙ ap (λ (bs : List ℕ). bs ++ fileOf (rest (b .n) (b .m)) vs) (signed-tabs band (b .n) 0))
-        ∙ sym (append-assoc (signedBytes (edgesIn b)) (signedBytes (bandsIn b)) (fileOf (rest (b .n) (b .m)) vs))
-        ∙ ap (λ (bs : List ℕ). bs ++ fileOf (rest (b .n) (b .m)) vs) (sym (signed-append (edgesIn b) (bandsIn b)))
 
 -- ---- as it is drafted
 
@@ -84,24 +85,18 @@ module _ (b : Beginning) where
   unfolding beginningBytes
   all-drafted h = simp (le-ltb _ _ h)
 
--- where n is in range the draft is the file
-pub file-drafted : (b : Beginning) → b .n ≤ 4 → (most : ℕ) (rest : ℕ → ℕ → Form) (vs : List ℤ) → fileOf (beginningForm most rest) (beginningNumbers b ++ vs) ≡ beginningBytes b ++ fileOf (rest (b .n) (b .m)) vs
-file-drafted b few most rest vs =
-    let more = fileOf (rest (b .n) (b .m)) vs in
-    file-beginning b most rest vs ∙ sym (ap (λ (bs : List ℕ). bs ++ more) (all-drafted b few) ∙ append-assoc (headBytes (headOf b)) (signedBytes (edgesIn b ++ bandsIn b)) more)
-
--- where the header is refused, both are
-module _ {most : ℕ} (b : Beginning) (w : Refusing most (headOf b)) (form : ℕ → ℕ → Form) where
-  pub draft-fails : (y : List ℕ) → valuesAt (headed most form) (beginningBytes b ++ y) 0 ≡ refused (w .refusal)
+-- where the header is refused, the draft is, and so is any file that begins with it
+module _ {forms most : ℕ} (b : Beginning) (w : Refusing forms most (headOf b)) (body : ℕ → ℕ → ℕ → Form) where
+  pub draft-fails : (y : List ℕ) → valuesAt (headed forms most body) (beginningBytes b ++ y) 0 ≡ refused (w .refusal)
   unfolding beginningBytes
   draft-fails y =
       let mid = cond (ltb 4 (b .n)) [] (signedBytes (edgesIn b ++ bandsIn b)) in
-      ap (λ (bs : List ℕ). valuesAt (headed most form) bs 0) (append-assoc (headBytes (headOf b)) mid y) ∙ w .fails form (mid ++ y)
+      ap (λ (bs : List ℕ). valuesAt (headed forms most body) bs 0) (append-assoc (headBytes (headOf b)) mid y) ∙ w .fails body (mid ++ y)
 
-  pub file-fails : (rest : ℕ → ℕ → Form) (vs : List ℤ) → valuesAt (headed most form) (fileOf (beginningForm most rest) (beginningNumbers b ++ vs)) 0 ≡ refused (w .refusal)
-  file-fails rest vs =
-      ap (λ (bs : List ℕ). valuesAt (headed most form) bs 0) (file-beginning b most rest vs)
-      ∙ w .fails form (signedBytes (edgesIn b ++ bandsIn b) ++ fileOf (rest (b .n) (b .m)) vs)
+  pub file-fails : (vs : List ℤ) → valuesAt (headed forms most body) (fileOf (headed forms most body) (headNumbers (headOf b) ++ vs)) 0 ≡ refused (w .refusal)
+  file-fails vs =
+      ap (λ (bs : List ℕ). valuesAt (headed forms most body) bs 0) (file-headed (headOf b) forms most body vs)
+      ∙ w .fails body (fileOf (body (b .form) (b .n) (b .m)) vs)
 
 -- ---- how long it can be
 
@@ -131,13 +126,13 @@ head-long h =
     let e = bytesOf (h .d) in
     omega (
       arith,
-      ten 1,
+      ten (h .form),
       ten (h .n),
       ten (h .m),
       ten (h .q),
       ten (h .k),
       ten (h .d),
-      length-append (bytesOf 1) (a ++ (b ++ (c ++ (d ++ e)))),
+      length-append (bytesOf (h .form)) (a ++ (b ++ (c ++ (d ++ e)))),
       length-append a (b ++ (c ++ (d ++ e))),
       length-append b (c ++ (d ++ e)),
       length-append c (d ++ e),

@@ -18,14 +18,14 @@ use Rattle.files.specs.Parts.{behind, behind-append, behind-read}
 use Rattle.files.specs.Beginnings.{headNumbers, headOf, edgesIn, bandsIn, beginningNumbers, beginningOf, relation, beginningFrom, beginningRead, Begun, BegunAs, BeginningTold, BoundsRead}
 
 -- two beginnings of the same fields
-same : (n m q k d : ℕ) {rlo rhi slo shi wlo whi rlo′ rhi′ slo′ shi′ wlo′ whi′ : List ℤ}
+same : (form n m q k d : ℕ) {rlo rhi slo shi wlo whi rlo′ rhi′ slo′ shi′ wlo′ whi′ : List ℤ}
     → rlo ≡ rlo′ → rhi ≡ rhi′ → slo ≡ slo′ → shi ≡ shi′ → wlo ≡ wlo′ → whi ≡ whi′
     → _≡_ {A = Beginning}
-    (record { n = n; m = m; q = q; k = k; d = d; rlo = rlo; rhi = rhi; slo = slo; shi = shi; wlo = wlo; whi = whi })
-    (record { n = n; m = m; q = q; k = k; d = d; rlo = rlo′; rhi = rhi′; slo = slo′; shi = shi′; wlo = wlo′; whi = whi′ })
-same n m q k d e₀ e₁ e₂ e₃ e₄ e₅ = rw (e₀, e₁, e₂, e₃, e₄, e₅) refl
+    (record { form = form; n = n; m = m; q = q; k = k; d = d; rlo = rlo; rhi = rhi; slo = slo; shi = shi; wlo = wlo; whi = whi })
+    (record { form = form; n = n; m = m; q = q; k = k; d = d; rlo = rlo′; rhi = rhi′; slo = slo′; shi = shi′; wlo = wlo′; whi = whi′ })
+same form n m q k d e₀ e₁ e₂ e₃ e₄ e₅ = rw (e₀, e₁, e₂, e₃, e₄, e₅) refl
 
-module _ {most : ℕ} {s : List ℕ} (b : Beginning) {next : ℕ} (t : Begun most s b next) (rest : List ℤ) where
+module _ {forms most : ℕ} {s : List ℕ} (b : Beginning) {next : ℕ} (t : Begun forms most s b next) (rest : List ℤ) where
   abbrev edges : ℕ → List ℤ
   edges = edgesOf (b .rlo) (b .rhi) (b .slo) (b .shi)
 
@@ -36,7 +36,7 @@ module _ {most : ℕ} {s : List ℕ} (b : Beginning) {next : ℕ} (t : Begun mos
   numbers = headNumbers (headOf b) ++ (edgesIn b ++ (bandsIn b ++ rest))
 
   edges-same : (j : ℕ) → j < 4 → (l : List ℤ) → Filled 4 (b .n) l → ((i : ℕ) → at (edges i) j ≡ at l i) → column numbers (6 + j) 4 (b .n) ≡ l
-  edges-same = edge-same (headNumbers (headOf b)) refl (b .n) edges bands (λ i. refl) (λ i. refl) rest (t .n-high)
+  edges-same = edge-same (headNumbers (headOf b)) refl (b .n) edges (λ i. refl) (bandsIn b ++ rest) (t .n-high)
 
   bands-same : (j : ℕ) → j < 2 → (l : List ℤ) → Filled 4 (b .n) l → ((i : ℕ) → at (bands i) j ≡ at l i) → column numbers (6 + j + 4 * b .n) 2 (b .n) ≡ l
   bands-same = band-same (headNumbers (headOf b)) refl (b .n) edges bands (λ i. refl) (λ i. refl) rest (t .n-high)
@@ -45,7 +45,7 @@ module _ {most : ℕ} {s : List ℕ} (b : Beginning) {next : ℕ} (t : Begun mos
   unfolding beginningNumbers
   beginning-back =
       ap (λ (l : List ℤ). beginningOf (headNumbers (headOf b) ++ l)) (append-assoc (edgesIn b) (bandsIn b) rest)
-      ∙ same (b .n) (b .m) (b .q) (b .k) (b .d)
+      ∙ same (b .form) (b .n) (b .m) (b .q) (b .k) (b .d)
       (edges-same 0 (omega arith) (b .rlo) (t .rlo-filled) (λ i. refl))
       (edges-same 1 (omega arith) (b .rhi) (t .rhi-filled) (λ i. refl))
       (edges-same 2 (omega arith) (b .slo) (t .slo-filled) (λ i. refl))
@@ -58,13 +58,13 @@ module _ {most : ℕ} {s : List ℕ} (b : Beginning) {next : ℕ} (t : Begun mos
 parts : (r : BeginningRead) (w : Walk) (v : Verdict) → r .answer ≡ w → r .related ≡ v → _≡_ {A = BeginningRead} (record { answer = w; related = v; beginning = r .beginning }) r
 parts r w v e g = rw (← e, ← g) refl
 
-pub settled : (most : ℕ) (s : List ℕ) (r : BeginningRead) → BeginningTold most s r → r ≡ beginningRead most s
+pub settled : (forms most : ℕ) (s : List ℕ) (r : BeginningRead) → BeginningTold forms most s r → r ≡ beginningRead forms most s
 unfolding beginningRead valuesAt
-settled most s r t = go (r .answer) refl t
+settled forms most s r t = go (r .answer) refl t
   where
-    go : (w : Walk) → r .answer ≡ w → BegunAs most s r w → r ≡ beginningRead most s
-    go (Walk.Refused e) q u = u .0 ∙ sym (ap beginningFrom (u .1 (λ n m. end)))
-    go (Walk.Next next) q u = sym (ap beginningFrom (u .0 .holds (λ n m. end) ∙ ends) ∙ taken)
+    go : (w : Walk) → r .answer ≡ w → BegunAs forms most s r w → r ≡ beginningRead forms most s
+    go (Walk.Refused e) q u = u .0 ∙ sym (ap beginningFrom (u .1 (λ form n m. end)))
+    go (Walk.Next next) q u = sym (ap beginningFrom (u .0 .holds (λ form n m. end) ∙ ends) ∙ taken)
       where
         b : Beginning
         b = r .beginning
@@ -79,9 +79,11 @@ settled most s r t = go (r .answer) refl t
 
 -- ---- a header and what stands behind it
 
-pub begun : (most : ℕ) (s : List ℕ) (b : Beginning) (from next : ℕ) → Headed most s (headOf b) from → BoundsRead s (headOf b) from b next → Begun most s b next
+pub begun : (forms most : ℕ) (s : List ℕ) (b : Beginning) (from next : ℕ) → Headed forms most s (headOf b) from → BoundsRead s (headOf b) from b next → Begun forms most s b next
 unfolding beginningNumbers
-begun most s b from next t u = record {
+begun forms most s b from next t u = record {
+  form-low = t .form-low;
+  form-high = t .form-high;
   n-low = t .n-low;
   n-high = t .n-high;
   m-low = t .m-low;
@@ -97,6 +99,6 @@ begun most s b from next t u = record {
   edge-sizes = u .edge-sizes;
   band-sizes = u .band-sizes;
   holds = λ rest.
-      t .holds (λ n m. edgesAndBands n (rest n m)) ∙ ap (behind (headNumbers (headOf b))) (u .part .holds (rest (b .n) (b .m)))
-      ∙ sym (behind-append (headNumbers (headOf b)) (edgesIn b ++ bandsIn b) (valuesAt (rest (b .n) (b .m)) s next));
+      t .holds (λ form n m. edgesAndBands n (rest form n m)) ∙ ap (behind (headNumbers (headOf b))) (u .part .holds (rest (b .form) (b .n) (b .m)))
+      ∙ sym (behind-append (headNumbers (headOf b)) (edgesIn b ++ bandsIn b) (valuesAt (rest (b .form) (b .n) (b .m)) s next));
 }

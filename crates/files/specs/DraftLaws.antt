@@ -1,8 +1,8 @@
 -- A drafted file: how long it can be, that its array holds it, and that it is judged as the file that the values are, whatever is judged (plants and
 -- sheets). It is the same bytes where n and m are in range, and else refused alike. Relies on pages BeginningFiles and Refusing.
-use Prim.Native.Nat.{ℕ, _+_, _≤_, _<_}
+use Prim.Native.Nat.{ℕ, _+_, _^_, _≤_, _<_}
 use mathlib.Core.Path.{_≡_, refl, sym, ap, _∙_}
-use mathlib.Core.List.{List, [], _++_}
+use mathlib.Core.List.{List, [], _++_, append-assoc}
 use native.Mathlib.Omega.{arith}
 use native.Mathlib.Nat.{zero-add}
 use native.Mathlib.Decide.{decLt}
@@ -15,11 +15,14 @@ use Rattle.meaning.specs.declared.Refusal.{Refusal}
 use Rattle.meaning.specs.declared.Verdict.{Verdict}
 use Rattle.meaning.specs.Buffers.{left}
 use Rattle.meaning.specs.Files.{Form, Read, refused, ended, valuesAt, valuesOf, fileOf, Judged, good, bad, fileJudged}
-use Rattle.meaning.specs.Plants.{edgesAndBands}
+use Rattle.meaning.specs.Plants.{headed}
 use Rattle.files.specs.declared.beginnings.Beginning.{Beginning}
-use Rattle.files.specs.Refusing.{Refusing, n-refusing, m-refusing}
-use Rattle.files.specs.Beginnings.{beginningForm, headOf, beginningNumbers, verdictOf, byVerdict, beginningBytes}
-use Rattle.files.specs.BeginningFiles.{file-drafted, draft-fails, file-fails, beginning-long}
+use Rattle.files.specs.Headers.{headBytes}
+use Rattle.files.specs.Signed.{signedBytes}
+use Rattle.files.specs.Refusing.{Refusing, n-refusing, m-refusing, none-out, many-out}
+use Rattle.files.specs.Beginnings.{headNumbers, headOf, edgesIn, bandsIn, verdictOf, byVerdict, beginningBytes}
+use Rattle.files.specs.BeginningFiles as B
+use Rattle.files.specs.BeginningFiles.{file-headed, draft-fails, file-fails, beginning-long}
 use Rattle.files.specs.Drafts.{draftBytes}
 
 -- ---- the three cases of a draft
@@ -38,34 +41,37 @@ module _ (most : ℕ) (b : Beginning) (rest : List ℕ) where
   whole-draft h l = simp (le-ltb _ _ h, le-ltb _ _ l)
 
 -- either the header is refused, whatever stands behind it, or all is drafted
-data Drafted (most : ℕ) (b : Beginning) (rest : List ℕ) : Type 0 where
-  header-out : draftBytes most b rest ≡ beginningBytes b ++ [] → Refusing most (headOf b) → Drafted most b rest
-  all-drafted : b .n ≤ 4 → b .m ≤ most → draftBytes most b rest ≡ beginningBytes b ++ rest → Drafted most b rest
+data Drafted (forms most : ℕ) (b : Beginning) (rest : List ℕ) : Type 0 where
+  header-out : (y : List ℕ) → draftBytes most b rest ≡ beginningBytes b ++ y → Refusing forms most (headOf b) → Drafted forms most b rest
+  all-drafted : b .n ≤ 4 → 1 ≤ b .m → b .m ≤ most → draftBytes most b rest ≡ beginningBytes b ++ rest → Drafted forms most b rest
 
-module _ (most : ℕ) (some : 1 ≤ most) (b : Beginning) (rest : List ℕ) where
-  drafted : Drafted most b rest
-  drafted = go (decLt 4 (b .n)) (decLt most (b .m))
+module _ (forms most : ℕ) (known : forms < 2 ^ 35) (some : 1 ≤ most) (b : Beginning) (rest : List ℕ) where
+  drafted : Drafted forms most b rest
+  drafted = go (decLt 4 (b .n)) (decLt most (b .m)) (decLt (b .m) 1)
     where
-      go : Dec (4 < b .n) → Dec (most < b .m) → Drafted most b rest
-      go (yes h) l = header-out (wide-draft most b rest h) (n-refusing most (headOf b) h)
-      go (no h) (yes l) = header-out (many-draft most b rest (omega arith) l) (m-refusing most (headOf b) (omega arith) some l)
-      go (no h) (no l) = all-drafted (omega arith) (omega arith) (whole-draft most b rest (omega arith) (omega arith))
+      go : Dec (4 < b .n) → Dec (most < b .m) → Dec (b .m < 1) → Drafted forms most b rest
+      go (yes g) l o = header-out [] (wide-draft most b rest g) (n-refusing forms most (headOf b) known g)
+      go (no g) (yes l) o = header-out [] (many-draft most b rest (omega arith) l) (m-refusing forms most (headOf b) known (omega arith) (λ next. many-out most (b .m) next (omega arith) l))
+      go (no g) (no l) (yes o) = header-out rest (whole-draft most b rest (omega arith) (omega arith)) (m-refusing forms most (headOf b) known (omega arith) (λ next. none-out most (b .m) next o))
+      go (no g) (no l) (no o) = all-drafted (omega arith) (omega arith) (omega arith) (whole-draft most b rest (omega arith) (omega arith))
 
   pub draft-long : (k : ℕ) → (b .n ≤ 4 → b .m ≤ most → length rest ≤ k) → length (draftBytes most b rest) ≤ 300 + k
-  draft-long k long = go drafted
+  draft-long k long = go (decLt 4 (b .n)) (decLt most (b .m))
     where
-      go : Drafted most b rest → length (draftBytes most b rest) ≤ 300 + k
-      go (header-out e w) = rw e (omega (arith, length-append (beginningBytes b) [], beginning-long b))
-      go (all-drafted h l e) = rw e (omega (arith, length-append (beginningBytes b) rest, beginning-long b, long h l))
+      go : Dec (4 < b .n) → Dec (most < b .m) → length (draftBytes most b rest) ≤ 300 + k
+      go (yes g) l = rw (wide-draft most b rest g) (omega (arith, length-append (beginningBytes b) [], beginning-long b))
+      go (no g) (yes l) = rw (many-draft most b rest (omega arith) l) (omega (arith, length-append (beginningBytes b) [], beginning-long b))
+      go (no g) (no l) = rw (whole-draft most b rest (omega arith) (omega arith)) (omega (arith, length-append (beginningBytes b) rest, beginning-long b, long (omega arith) (omega arith)))
 
-  -- ---- judged as the file of the values is, behind the beginning's those that the rest says; and where it is taken it is that file
+  -- ---- judged as the file of the values is, vs standing behind the header; and where it is taken it is that file
 
-  module _ {A : Type 0} (judged : Read (List ℤ) → Judged A) (refuses : (e : Refusal) → judged (refused e) ≡ bad e) (more : ℕ → ℕ → Form) (vs : List ℤ) (says : fileOf (more (b .n) (b .m)) vs ≡ rest) where
+  module _ {A : Type 0} (judged : Read (List ℤ) → Judged A) (refuses : (e : Refusal) → judged (refused e) ≡ bad e) (body : ℕ → ℕ → ℕ → Form) (vs : List ℤ)
+      (says : b .n ≤ 4 → 1 ≤ b .m → b .m ≤ most → fileOf (body (b .form) (b .n) (b .m)) vs ≡ signedBytes (edgesIn b ++ bandsIn b) ++ rest) where
     abbrev form : Form
-    form = beginningForm most more
+    form = headed forms most body
 
     abbrev file : List ℕ
-    file = fileOf form (beginningNumbers b ++ vs)
+    file = fileOf form (headNumbers (headOf b) ++ vs)
 
     abbrev draft : List ℕ
     draft = draftBytes most b rest
@@ -79,11 +85,13 @@ module _ (most : ℕ) (some : 1 ≤ most) (b : Beginning) (rest : List ℕ) wher
         out : (s : List ℕ) (e : Refusal) → valuesAt form s 0 ≡ refused e → judgedFile s ≡ bad e
         out s e q = ap (fileJudged s) (ap (λ (x : Read (List ℤ)). judged (ended s x)) q ∙ refuses e)
 
-        go : Drafted most b rest → judgedFile file ≡ judgedFile draft
-        go (header-out e w) =
-            out file (w .refusal) (file-fails b w (λ n m. edgesAndBands n (more n m)) more vs)
-            ∙ sym (out draft (w .refusal) (ap (λ (s : List ℕ). valuesAt form s 0) e ∙ draft-fails b w (λ n m. edgesAndBands n (more n m)) []))
-        go (all-drafted h l e) = ap judgedFile (file-drafted b h most more vs ∙ ap (λ (bs : List ℕ). beginningBytes b ++ bs) says ∙ sym e)
+        go : Drafted forms most b rest → judgedFile file ≡ judgedFile draft
+        go (header-out y e w) =
+            out file (w .refusal) (file-fails b w body vs)
+            ∙ sym (out draft (w .refusal) (ap (λ (s : List ℕ). valuesAt form s 0) e ∙ draft-fails b w body y))
+        go (all-drafted h o l e) =
+            ap judgedFile (file-headed (headOf b) forms most body vs ∙ ap (λ (bs : List ℕ). headBytes (headOf b) ++ bs) (says h o l)
+            ∙ sym (append-assoc (headBytes (headOf b)) (signedBytes (edgesIn b ++ bandsIn b)) rest) ∙ ap (λ (bs : List ℕ). bs ++ rest) (sym (B.all-drafted b h)) ∙ sym e)
 
     -- so what is left of a lent buffer is told by the draft s and its verdict v
     pub draft-left : (s : List ℕ) (v : Verdict) → s ≡ draft → v ≡ verdictOf (judged (valuesOf form s)) → (buf : List ℕ) → left (byVerdict v λ _. good s) buf ≡ left (judgedFile file) buf

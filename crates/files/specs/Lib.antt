@@ -14,4 +14,5 @@ pub mod BeginningFiles
 pub mod Bodies
 pub mod Drafts
 pub mod DraftLaws
+pub mod Modes
 pub mod Plants

@@ -8,11 +8,12 @@ use native.Mathlib.Nat.{suc-mul, zero-mul, zero-add}
 use lib.Dec.{ltb}
 use lib.IntN.{ℤ}
 use borrow.Author.Tests.{lt-ltb, le-ltb}
-use Rattle.laws.specs.Lists.{at, tab}
+use Rattle.laws.specs.Lists as L
+use Rattle.laws.specs.Lists.{tab}
 use Rattle.laws.specs.Tabs.{Filled}
 use Rattle.meaning.specs.declared.Walk.{Walk}
 use Rattle.meaning.specs.Files.{Form}
-use Rattle.meaning.specs.Plants.{entryLimit, offsetLimit, limited, times, row, mostCoefs, coefCount}
+use Rattle.meaning.specs.Plants.{entryLimit, offsetLimit, limited, times, row, mostCoefs}
 use Rattle.files.specs.Parts.{Holds, Fails}
 
 abbrev pub limitAt : ℕ → ℕ → ℕ
@@ -45,10 +46,12 @@ rows-entries n (suc m) rest =
     let z : suc m * (n + 1) ≡ suc (n + m * (n + 1)) = suc-mul m (n + 1) ∙ omega arith in
     ap (row n) (rows-entries n m rest) ∙ row-entries n n 0 (m * (n + 1)) rest (omega arith) ∙ rw z refl
 
-pub record RowsRead (s : List ℕ) (from n modes : ℕ) (coef : List ℤ) (next : ℕ) : Type 0 where
-  pub part : Holds (times (modes * n) (row n)) s from (tab (at coef) (coefCount modes n) 0) next
-  pub filled : Filled mostCoefs (coefCount modes n) coef
+-- `count` rows stand in the file and from `from` on in the array, which is otherwise as it was, and holds zeros behind them
+pub record RowsRead (s : List ℕ) (at n count from : ℕ) (coef₀ coef : List ℤ) (next : ℕ) : Type 0 where
+  pub part : Holds (times count (row n)) s at (tab (L.at coef) (count * (n + 1)) from) next
+  pub filled : Filled mostCoefs (from + count * (n + 1)) coef
+  pub below : (k : ℕ) → k < from → L.at coef k ≡ L.at coef₀ k
 
-abbrev pub RowsTold : List ℕ → ℕ → ℕ → ℕ → List ℤ → Walk → Type 0
-RowsTold s from n modes coef (Walk.Next next) = RowsRead s from n modes coef next
-RowsTold s from n modes coef (Walk.Refused e) = Fails (times (modes * n) (row n)) s from e
+abbrev pub RowsTold : List ℕ → ℕ → ℕ → ℕ → ℕ → List ℤ → List ℤ → Walk → Type 0
+RowsTold s at n count from coef₀ coef (Walk.Next next) = RowsRead s at n count from coef₀ coef next
+RowsTold s at n count from coef₀ coef (Walk.Refused e) = Fails (times count (row n)) s at e

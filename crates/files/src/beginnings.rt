@@ -16,6 +16,7 @@ ghost use Rattle.files.specs.Beginnings.{noBeginning, relation, BoundsTo
 
 // The header's numbers, m being a plant's N or a sheet's r, and the arrays, of which the first n entries count.
 pub struct Beginning {
+    pub form: usize,
     pub n: usize,
     pub m: usize,
     pub q: usize,
@@ -43,6 +44,7 @@ fn refused(e: Refusal) -> BeginningRead
         answer: Walk::Refused(e),
         related: Verdict::Accepted,
         beginning: Beginning {
+            form: 0,
             n: 0,
             m: 0,
             q: 0,
@@ -76,7 +78,7 @@ fn judge(b: Beginning) -> Verdict
     let whi = b.whi;
     let thin = bounds::first_narrow(n, b.q, wlo, whi);
     if thin < n {
-        return Verdict::Refused(refusals::narrow(thin));
+        return Verdict::Refused(refusals::narrow(0, thin));
     }
     Verdict::Accepted
 }
@@ -104,6 +106,7 @@ fn read_bounds(s: &[u8], h: Header, at: usize) -> BeginningRead
                     let wlo = bands.wlo;
                     let whi = bands.whi;
                     let beginning = Beginning {
+                        form: h.form,
                         n,
                         m: h.m,
                         q: h.q,
@@ -127,11 +130,11 @@ fn read_bounds(s: &[u8], h: Header, at: usize) -> BeginningRead
     }
 }
 
-pub fn read_beginning(s: &[u8], most: usize) -> BeginningRead
-    ensures value { λ r. ⌜ r ≡ beginningRead most (now (s .entry)) ⌝ }
-    ensures told { λ r. ⌜ BeginningTold most (now (s .entry)) r ⌝ }
+pub fn read_beginning(s: &[u8], forms: usize, most: usize) -> BeginningRead
+    ensures value { λ r. ⌜ r ≡ beginningRead forms most (now (s .entry)) ⌝ }
+    ensures told { λ r. ⌜ BeginningTold forms most (now (s .entry)) r ⌝ }
 {
-    match headers::read_header(s, most) {
+    match headers::read_header(s, forms, most) {
         HeaderRead::Refused(e) => refused(e),
         HeaderRead::Header(h, at) => read_bounds(s, h, at),
     }
@@ -143,6 +146,7 @@ pub fn put_beginning(buf: &mut [u8], b: Beginning) -> usize
 {
     let n = b.n;
     let h = Header {
+        form: b.form,
         n,
         m: b.m,
         q: b.q,

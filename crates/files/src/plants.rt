@@ -1,9 +1,10 @@
-// Plant files, read and written. Relies on beginnings and rows for the parts. Leaves out what a plant does: that is crates/tables.
+// Plant files of either form, read and written. Relies on beginnings and modes for the parts. Leaves out what a plant does: that is crates/tables.
 use crate::beginnings;
 use crate::beginnings::Beginning;
 use crate::buffers;
+use crate::modes;
 use crate::refusals;
-use crate::rows;
+use meaning::BANDS;
 use meaning::COEFFICIENTS;
 use meaning::Plant;
 use meaning::PlantRead;
@@ -14,12 +15,12 @@ use meaning::Written;
 ghost use mathlib.Core.Path.{_≡_};
 ghost use Rattle.meaning.specs.Files.{good, bad};
 ghost use Rattle.laws.specs.Writing.{Put};
-ghost use Rattle.meaning.specs.Plants.{readOf, plantRead, plantLeft};
+ghost use Rattle.meaning.specs.Plants.{plantForms, mostModes, readOf, plantRead, plantLeft};
 ghost use Rattle.files.specs.Beginnings.{relation, Begun};
 ghost use Rattle.files.specs.Plants.{bodyRead, plantWith, plantDraft};
 
-// The writer's draft: ten bytes for each of 350 numbers, right or not, the most that four rooms and sixteen modes have.
-const DRAFT: usize = 3_500;
+// The writer's draft: ten bytes for each of 470 numbers, right or not, the most that four rooms and sixteen modes have.
+const DRAFT: usize = 4_700;
 
 // A refused plant is all zeros.
 fn refused(e: Refusal) -> PlantRead
@@ -28,6 +29,7 @@ fn refused(e: Refusal) -> PlantRead
     PlantRead {
         verdict: Verdict::Refused(e),
         plant: Plant {
+            form: 0,
             n: 0,
             modes: 0,
             q: 0,
@@ -37,26 +39,24 @@ fn refused(e: Refusal) -> PlantRead
             rhi: [0i64; 4],
             slo: [0i64; 4],
             shi: [0i64; 4],
-            wlo: [0i64; 4],
-            whi: [0i64; 4],
+            bands: [0i64; BANDS],
             coef: [0i64; COEFFICIENTS],
         },
     }
 }
 
-// A beginning and the coefficients of the modes, put together.
-fn accepted(b: Beginning, coef: [i64; COEFFICIENTS]) -> PlantRead
-    ensures { λ r. ⌜ r ≡ readOf (good (plantWith b coef)) ⌝ }
+// A beginning and the arrays of the modes, put together.
+fn accepted(b: Beginning, bands: [i64; BANDS], coef: [i64; COEFFICIENTS]) -> PlantRead
+    ensures { λ r. ⌜ r ≡ readOf (good (plantWith b bands coef)) ⌝ }
 {
     let rlo = b.rlo;
     let rhi = b.rhi;
     let slo = b.slo;
     let shi = b.shi;
-    let wlo = b.wlo;
-    let whi = b.whi;
     PlantRead {
         verdict: Verdict::Accepted,
         plant: Plant {
+            form: b.form,
             n: b.n,
             modes: b.m,
             q: b.q,
@@ -66,31 +66,31 @@ fn accepted(b: Beginning, coef: [i64; COEFFICIENTS]) -> PlantRead
             rhi,
             slo,
             shi,
-            wlo,
-            whi,
+            bands,
             coef,
         },
     }
 }
 
-// What stands behind a beginning: the rows, then what is asked of the whole.
+// What stands behind a beginning: the modes, then what is asked of the whole.
 fn read_body(s: &[u8], b: Beginning, related: Verdict, at: usize) -> PlantRead
-    requires { ⌜ Begun 16 (now s) b at ⌝ ∗ ⌜ related ≡ relation b ⌝ }
+    requires { ⌜ Begun plantForms mostModes (now s) b at ⌝ ∗ ⌜ related ≡ relation b ⌝ }
     ensures { λ r. ⌜ r ≡ bodyRead (now (s .entry)) b at ⌝ }
 {
-    let n = b.n;
-    let modes = b.m;
+    let mut bands = [0i64; BANDS];
     let mut coef = [0i64; COEFFICIENTS];
-    let past_rows = rows::read_rows(s, at, n, modes, &mut coef);
-    match past_rows {
+    let read = modes::read_modes(s, b, related, at, &mut bands, &mut coef);
+    let past = read.answer;
+    match past {
         Walk::Refused(e) => refused(e),
         Walk::Next(next) => {
             if next != s.len() {
                 return refused(refusals::unfit(next));
             }
-            match related {
+            let told = read.related;
+            match told {
                 Verdict::Refused(e) => refused(e),
-                Verdict::Accepted => accepted(b, coef),
+                Verdict::Accepted => accepted(b, bands, coef),
             }
         }
     }
@@ -100,7 +100,7 @@ fn read_body(s: &[u8], b: Beginning, related: Verdict, at: usize) -> PlantRead
 pub fn read_plant(s: &[u8]) -> PlantRead
     ensures { λ r. ⌜ r ≡ plantRead (now (s .entry)) ⌝ }
 {
-    let read = beginnings::read_beginning(s, 16);
+    let read = beginnings::read_beginning(s, 2, 16);
     let past = read.answer;
     match past {
         Walk::Refused(e) => refused(e),
@@ -122,9 +122,9 @@ fn put_plant(p: Plant, buf: &mut [u8]) -> usize
     let rhi = p.rhi;
     let slo = p.slo;
     let shi = p.shi;
-    let wlo = p.wlo;
-    let whi = p.whi;
+    let bands = p.bands;
     let b = Beginning {
+        form: p.form,
         n,
         m: modes,
         q: p.q,
@@ -134,8 +134,8 @@ fn put_plant(p: Plant, buf: &mut [u8]) -> usize
         rhi,
         slo,
         shi,
-        wlo,
-        whi,
+        wlo: [bands[0], bands[2], bands[4], bands[6]],
+        whi: [bands[1], bands[3], bands[5], bands[7]],
     };
     let past = beginnings::put_beginning(buf, b);
     if 4 < n {
@@ -145,7 +145,7 @@ fn put_plant(p: Plant, buf: &mut [u8]) -> usize
         return past;
     }
     let coef = p.coef;
-    rows::put_rows(buf, past, coef, modes * n * (n + 1))
+    modes::put_modes(buf, past, p.form, n, modes, &bands, &coef)
 }
 
 // A plant as values, judged as the file it would be, then 10. Finished, only the file's bytes are changed; refused, the buffer is all zeros.

@@ -43,13 +43,13 @@ pub fn not_in_safe(i: usize) -> Refusal
     }
 }
 
-pub fn narrow(i: usize) -> Refusal
-    ensures { λ r. ⌜ r ≡ R.narrow i ⌝ }
+pub fn narrow(u: usize, i: usize) -> Refusal
+    ensures { λ r. ⌜ r ≡ R.narrow u i ⌝ }
 {
     Refusal {
         number: 5,
-        place: i,
-        step: 0,
+        place: u,
+        step: i,
     }
 }
 

@@ -1,4 +1,5 @@
-// The rows of a plant's modes: one flat array filled with zeros, then with the rows, number by number in file order. Relies on fields.
+// The rows of a plant's modes: one flat array filled with zeros, then with the rows, number by number in file order; and numbers of an array written.
+// Relies on fields.
 // Leaves out which entry means what: row and column are told by the place alone.
 use crate::fields;
 use crate::numbers;
@@ -6,11 +7,12 @@ use meaning::COEFFICIENTS;
 use meaning::Signed;
 use meaning::Walk;
 ghost use mathlib.Core.Path.{_≡_};
-ghost use Prim.Native.Nat.{_+_, _≤_};
-ghost use lib.ListN.{length, replicate};
+ghost use Prim.Native.Nat.{_+_, _*_, _≤_};
+ghost use lib.ListN.{length};
 ghost use lib.IntN.{pos, negℤ};
 ghost use Rattle.laws.specs.Lists;
 ghost use Rattle.laws.specs.Lists.{tab};
+ghost use Rattle.laws.specs.Tabs.{Filled};
 ghost use Rattle.laws.specs.Writing.{Put};
 ghost use Rattle.meaning.specs.Plants.{mostCoefs};
 ghost use Rattle.files.specs.Fields.{rangedAt};
@@ -34,26 +36,27 @@ fn next_column(n: usize, column: usize) -> usize
     if column < n { column + 1 } else { 0 }
 }
 
-// The coefficients into an array of zeros that is lent, so that no copy of it is handed back; the place behind them.
+// `count` rows into the array from `from` on, behind which it holds zeros; it is lent, so that no copy of it is handed back. The place behind them.
 pub fn read_rows(
     s: &[u8],
     at: usize,
     n: usize,
-    modes: usize,
+    count: usize,
+    from: usize,
     coef: &mut [i64; COEFFICIENTS],
 ) -> Walk
-    requires { ⌜ (n ≤ 4) × (modes ≤ 16) × (now coef ≡ replicate mostCoefs (pos 0)) ⌝ }
-    ensures { λ r. ⌜ RowsTold (now (s .entry)) at n modes (now (coef .exit)) r ⌝ }
+    requires { ⌜ (n ≤ 4) × (from + count * (n + 1) ≤ mostCoefs) × Filled mostCoefs from (now coef) ⌝ }
+    ensures { λ r. ⌜ RowsTold (now (s .entry)) at n count from (now (coef .entry)) (now (coef .exit)) r ⌝ }
 {
-    let count = modes * n * (n + 1);
+    let entries = count * (n + 1);
     let mut p = at;
     let mut column: usize = 0;
     let mut c: usize = 0;
-    while c < count {
+    while c < entries {
         let Signed::Value(v, next) = entry(s, p, n, column) else {
             return Walk::Refused(fields::fault(s, p));
         };
-        coef[c] = v;
+        coef[from + c] = v;
         p = next;
         column = next_column(n, column);
         c += 1;
@@ -61,15 +64,16 @@ pub fn read_rows(
     Walk::Next(p)
 }
 
-// The first `count` coefficients from `at` on, as far as there is room; the place behind them.
-pub fn put_rows(buf: &mut [u8], at: usize, coef: [i64; COEFFICIENTS], count: usize) -> usize
-    requires { ⌜ count ≤ mostCoefs ⌝ ∗ ⌜ at ≤ length (now buf) + 1 ⌝ }
-    ensures { λ r. ⌜ Put (now (buf .entry)) at (signedBytes (tab (Lists.at coef) count 0)) r (now (buf .exit)) ⌝ }
+// `count` numbers of an array, from `from` on, written from `at` on as far as there is room; the place behind them.
+pub fn put_some(buf: &mut [u8], at: usize, values: &[i64], from: usize, count: usize) -> usize
+    requires { ⌜ (from + count ≤ length (now values)) × (length (now values) ≤ mostCoefs) ⌝ ∗ ⌜ at ≤ length (now buf) + 1 ⌝ }
+    ensures { λ r. ⌜ Put (now (buf .entry)) at (signedBytes (tab (Lists.at (now (values .entry))) count from)) r (now (buf .exit)) ⌝ }
 {
     let mut p = at;
     let mut c: usize = 0;
     while c < count {
-        p = numbers::put_signed(buf, p, coef[c]);
+        let v = values[from + c];
+        p = numbers::put_signed(buf, p, v);
         c += 1;
     }
     p

@@ -14,7 +14,7 @@ use Rattle.meaning.specs.declared.Walk.{Walk}
 use Rattle.meaning.specs.Refusals.{notInSafe, narrow}
 use Rattle.meaning.specs.Files.{Form, refused, valuesAt}
 use Rattle.meaning.specs.Boxes.{sidesOf, lies}
-use Rattle.meaning.specs.Plants.{bandLimit, span, times, edgesAndBands, headed, wide}
+use Rattle.meaning.specs.Plants.{bandLimit, span, times, edges, bands, edgesAndBands, headed, wide, wideModes}
 use Rattle.files.specs.declared.headers.Header.{Header}
 use Rattle.files.specs.declared.bounds.EdgeArrays.{EdgeArrays}
 use Rattle.files.specs.declared.bounds.BandArrays.{BandArrays}
@@ -56,14 +56,14 @@ module _ (b : Beginning) where
       unfolding inSafe
       all-in = first-behind inSafe (omega (arith, inSafe-long, i))
 
-      pub thin-told : k < b .n → Verdict.Refused (narrow k) ≡ relation b
-      unfolding allWide
+      pub thin-told : k < b .n → Verdict.Refused (narrow 0 k) ≡ relation b
+      unfolding allWide wideModes
       thin-told h =
           let a : all allWide ≡ false = first-within allWide (omega (arith, allWide-long, j)) in
           simp (all-in, a) (rw j refl)
 
       pub all-told : b .n ≤ k → Verdict.Accepted ≡ relation b
-      unfolding allWide
+      unfolding allWide wideModes
       all-told h =
           let a : all allWide ≡ true = first-behind allWide (omega (arith, allWide-long, j)) in
           simp (all-in, a)
@@ -72,17 +72,17 @@ module _ (b : Beginning) where
 
 module _ (s : List ℕ) (h : Header) (from : ℕ) where
   pub edges-refused : (r : Refusal) → Fails (times (h .n) edgesPart) s from r → Fails (edgesAndBands (h .n)) s from r
-  unfolding edgesAndBands
+  unfolding edges bands
   edges-refused r t = fails-then {g = times (h .n) (span bandLimit)} t
 
   module _ (e : EdgeArrays) (mid : ℕ) (t : EdgesRead s from (h .n) e mid) where
     pub bands-refused : (r : Refusal) → Fails (times (h .n) (span bandLimit)) s mid r → Fails (edgesAndBands (h .n)) s from r
-    unfolding edgesAndBands
+    unfolding edges bands
     bands-refused r u = holds-fails (t .part) u
 
     pub bounds-read : (w : BandArrays) (next : ℕ) → BandsRead s mid (h .n) w next
-        → BoundsRead s h from (record { n = h .n; m = h .m; q = h .q; k = h .k; d = h .d; rlo = e .rlo; rhi = e .rhi; slo = e .slo; shi = e .shi; wlo = w .wlo; whi = w .whi }) next
-    unfolding edgesAndBands
+        → BoundsRead s h from (record { form = h .form; n = h .n; m = h .m; q = h .q; k = h .k; d = h .d; rlo = e .rlo; rhi = e .rhi; slo = e .slo; shi = e .shi; wlo = w .wlo; whi = w .whi }) next
+    unfolding edges bands
     bounds-read w next u = record {
       same = refl;
       part = holds-then (t .part) (u .part);
@@ -98,23 +98,23 @@ module _ (s : List ℕ) (h : Header) (from : ℕ) where
 
 -- ---- the header in front
 
-pub header-cut : (most : ℕ) (s : List ℕ) (e : Refusal) → ((rest : ℕ → ℕ → Form) → valuesAt (headed most rest) s 0 ≡ refused e)
-    → (noBeginning e ≡ beginningRead most s) × BeginningTold most s (noBeginning e)
-header-cut most s e t =
-    let u : BeginningTold most s (noBeginning e) = (refl, λ rest. t (λ n m. edgesAndBands n (rest n m))) in
-    (settled most s (noBeginning e) u, u)
+pub header-cut : (forms most : ℕ) (s : List ℕ) (e : Refusal) → ((rest : ℕ → ℕ → ℕ → Form) → valuesAt (headed forms most rest) s 0 ≡ refused e)
+    → (noBeginning e ≡ beginningRead forms most s) × BeginningTold forms most s (noBeginning e)
+header-cut forms most s e t =
+    let u : BeginningTold forms most s (noBeginning e) = (refl, λ rest. t (λ form n m. edgesAndBands n (rest form n m))) in
+    (settled forms most s (noBeginning e) u, u)
 
-pub header-told : (most : ℕ) (s : List ℕ) (h : Header) (from : ℕ) (r : BeginningRead) → Headed most s h from → BoundsTold s h from r → BeginningTold most s r
-header-told most s h from r t u = go (r .answer) u
+pub header-told : (forms most : ℕ) (s : List ℕ) (h : Header) (from : ℕ) (r : BeginningRead) → Headed forms most s h from → BoundsTold s h from r → BeginningTold forms most s r
+header-told forms most s h from r t u = go (r .answer) u
   where
-    go : (w : Walk) → BoundsAs s h from r w → BegunAs most s r w
+    go : (w : Walk) → BoundsAs s h from r w → BegunAs forms most s r w
     go (Walk.Refused e) v = (
       v .0,
       λ rest.
-          t .holds (λ n m. edgesAndBands n (rest n m))
-          ∙ ap (behind (headNumbers h)) (v .1 .fails (rest (h .n) (h .m))) ∙ behind-refused (headNumbers h) e,
+          t .holds (λ form n m. edgesAndBands n (rest form n m))
+          ∙ ap (behind (headNumbers h)) (v .1 .fails (rest (h .form) (h .n) (h .m))) ∙ behind-refused (headNumbers h) e,
     )
     go (Walk.Next next) v = (
-      subst (λ (x : Header). Headed most s x from → BoundsRead s x from (r .beginning) next → Begun most s (r .beginning) next) (v .0 .same) (begun most s (r .beginning) from next) t (v .0),
+      subst (λ (x : Header). Headed forms most s x from → BoundsRead s x from (r .beginning) next → Begun forms most s (r .beginning) next) (v .0 .same) (begun forms most s (r .beginning) from next) t (v .0),
       v .1,
     )

@@ -24,23 +24,23 @@ read-bounds-requires : tie.Need-read-bounds-requires
 read-bounds-requires c κs =
     let z = c .before .before .before .before .before .args in
     let g = c .before .h .given in
-    let t = subst (HeaderTold (z .most) (now (z .s))) (g .1) (c .before .before .before .read-header .ensures) in
+    let t = subst (HeaderTold (z .forms) (z .most) (now (z .s))) (g .1) (c .before .before .before .read-header .ensures) in
     (t .n-high, t .q-high)
 
 returns : tie.Need-returns
 returns c =
     let z = c .before .before .before .before .before .before .args in
     let g = c .before .before .e .given in
-    let t = subst (HeaderTold (z .most) (now (z .s))) (g .1) (c .before .before .before .before .read-header .ensures) in
-    rw (c .refused .ensures) (header-cut (z .most) (now (z .s)) (g .0 .0) t)
+    let t = subst (HeaderTold (z .forms) (z .most) (now (z .s))) (g .1) (c .before .before .before .before .read-header .ensures) in
+    rw (c .refused .ensures) (header-cut (z .forms) (z .most) (now (z .s)) (g .0 .0) t)
 
 returns-2 : tie.Need-returns-2
 returns-2 c =
     let z = c .before .before .before .before .before .before .args in
     let g = c .before .before .h .given in
-    let t = subst (HeaderTold (z .most) (now (z .s))) (g .1) (c .before .before .before .before .read-header .ensures) in
-    let u = header-told (z .most) (now (z .s)) (g .0 .0) (g .0 .1 .0) (c .read-bounds .result) t (c .read-bounds .ensures) in
-    (settled (z .most) (now (z .s)) (c .read-bounds .result) u, u)
+    let t = subst (HeaderTold (z .forms) (z .most) (now (z .s))) (g .1) (c .before .before .before .before .read-header .ensures) in
+    let u = header-told (z .forms) (z .most) (now (z .s)) (g .0 .0) (g .0 .1 .0) (c .read-bounds .result) t (c .read-bounds .ensures) in
+    (settled (z .forms) (z .most) (now (z .s)) (c .read-bounds .result) u, u)
 
 pub read-beginning-spec : {M : Type 1} → statement M
 read-beginning-spec =

@@ -1,6 +1,7 @@
 -- `plants::read_plant`: a beginning, and what stands behind it. Assumes nothing.
 use mathlib.Core.Path.{sym, _∙_, subst}
 use denote.Ref.{now}
+use Rattle.meaning.specs.Plants.{plantForms, mostModes}
 use Rattle.files.specs.Beginnings.{BegunAs}
 use Rattle.files.proofs.plants.Laws.{beginning-refused, beginning-read}
 use borrow.Author.Needs.{needs}
@@ -23,14 +24,14 @@ read-body-requires : tie.Need-read-body-requires
 read-body-requires c κs =
     let z = c .before .before .before .before .before .before .args in
     let r = c .before .before .before .before .read-beginning in
-    subst (BegunAs 16 (now (z .s)) (r .result)) (c .before .before .past2 .given .1) (r .ensures .1)
+    subst (BegunAs plantForms mostModes (now (z .s)) (r .result)) (c .before .before .past2 .given .1) (r .ensures .1)
 
 returns : tie.Need-returns
 returns c =
     let z = c .before .before .before .before .before .before .args in
     let r = c .before .before .before .before .read-beginning in
     let g = c .before .before .past .given in
-    let t = subst (BegunAs 16 (now (z .s)) (r .result)) (g .1) (r .ensures .1) in
+    let t = subst (BegunAs plantForms mostModes (now (z .s)) (r .result)) (g .1) (r .ensures .1) in
     c .refused .ensures ∙ sym (beginning-refused (now (z .s)) (g .0 .0) (t .1))
 
 returns-2 : tie.Need-returns-2
@@ -38,7 +39,7 @@ returns-2 c =
     let z = c .before .before .before .before .before .before .before .args in
     let r = c .before .before .before .before .before .read-beginning in
     let g = c .before .before .before .past2 .given in
-    let t = subst (BegunAs 16 (now (z .s)) (r .result)) (g .1) (r .ensures .1) in
+    let t = subst (BegunAs plantForms mostModes (now (z .s)) (r .result)) (g .1) (r .ensures .1) in
     c .read-body .ensures ∙ sym (beginning-read (now (z .s)) (r .result .beginning) (g .0 .0) (t .0))
 
 pub read-plant-spec : {M : Type 1} → statement M

@@ -7,28 +7,24 @@ use mir.Val.{SFits}
 use mir.Facts.{toZ-ofZ}
 use denote.Ref.{now}
 use borrow.Author.Needs.{needs}
-use Rattle.meaning.specs.Plants.{coefCount}
-use Rattle.files.proofs.rows.Laws.{few-numbers, EntriesUpTo, entries-none, entries-more, rows-fails, rows-all}
+use Rattle.files.proofs.rows.Laws.{EntriesUpTo, entries-none, entries-more, rows-fails, rows-all}
 use Rattle.files.proofs.rows.read_rows.Statement.{statement}
 use Rattle.files.proofs.rows.read_rows.Tie as tie
 
 abbrev Inv-loop : tie.InvT-loop
-Inv-loop s at n modes coef₀ count p₀ column₀ c₀ coef p column c = EntriesUpTo s at n count c column p coef
+Inv-loop s at n count from coef₀ entries p₀ column₀ c₀ coef p column c = EntriesUpTo s at n entries from c column p coef₀ coef
 
 abbrev μ-loop : tie.MeasureT-loop
-μ-loop s at n modes coef₀ count p₀ column₀ c₀ coef p column c = count - c
+μ-loop s at n count from coef₀ entries p₀ column₀ c₀ coef p column c = entries - c
 
-mul-count : tie.Need-mul-count Inv-loop μ-loop
-mul-count c = record { fits = omega (arith, few-numbers (c .before .args .modes) (c .before .args .n) (omega arith) (omega arith) .0) }
+add-entries : tie.Need-add-entries Inv-loop μ-loop
+add-entries c = omega arith
 
-add-count : tie.Need-add-count Inv-loop μ-loop
-add-count c = omega arith
-
-mul-count-2 : tie.Need-mul-count-2 Inv-loop μ-loop
-mul-count-2 c = record { fits = omega (arith, few-numbers (c .before .args .modes) (c .before .args .n) (omega arith) (omega arith) .1) }
+mul-entries : tie.Need-mul-entries Inv-loop μ-loop
+mul-entries c = record { fits = omega (arith, c .before .pre .1) }
 
 loop-holds : tie.Need-loop-holds Inv-loop μ-loop
-loop-holds c = let t = c .before .args in rw (c .before .pre .2) (entries-none (now (t .s)) (t .at) (t .n) (coefCount (t .modes) (t .n)))
+loop-holds c = let t = c .before .args in entries-none (now (t .s)) (t .at) (t .n) _ (t .from) (now (t .coef)) (c .before .pre .2)
 
 entry-requires : tie.Need-entry-requires Inv-loop μ-loop
 entry-requires c κs = tt
@@ -46,19 +42,22 @@ returns : tie.Need-returns Inv-loop μ-loop
 returns c =
     let l = c .before .before .before .before .before in
     let t = l .before .before .args in
-    rw (c .fault .ensures) (rows-fails (t .modes) (l .loop .inv) (omega arith) (sym (c .before .before .before .entry .ensures) ∙ c .before .enum-told .given .1))
+    rw (c .fault .ensures) (rows-fails (t .count) (l .loop .inv) (omega arith) (sym (c .before .before .before .entry .ensures) ∙ c .before .enum-told .given .1))
+
+add-v : tie.Need-add-v Inv-loop μ-loop
+add-v c = omega (arith, c .before .before .before .before .before .before .before .pre .1)
 
 mul-v : tie.Need-mul-v Inv-loop μ-loop
-mul-v c = let t = c .before .before .before .before .before .before .before .args in omega (arith, few-numbers (t .modes) (t .n) (omega arith) (omega arith) .1)
+mul-v c = omega (arith, c .before .before .before .before .before .before .before .pre .1)
 
 element-set-from-v : tie.Need-element-set-from-v Inv-loop μ-loop
-element-set-from-v c = let t = c .before .before .before .before .before .before .before .args in omega (arith, few-numbers (t .modes) (t .n) (omega arith) (omega arith) .1)
+element-set-from-v c = omega (arith, c .before .before .before .before .before .before .before .pre .1)
 
 next-column-requires : tie.Need-next-column-requires Inv-loop μ-loop
 next-column-requires c κs = tt
 
 add-c : tie.Need-add-c Inv-loop μ-loop
-add-c c = let t = c .before .before .before .before .before .before .before .before .args in omega (arith, few-numbers (t .modes) (t .n) (omega arith) (omega arith) .1)
+add-c c = omega (arith, c .before .before .before .before .before .before .before .before .pre .1)
 
 loop-less : tie.Need-loop-less Inv-loop μ-loop
 loop-less c = omega arith
@@ -66,15 +65,14 @@ loop-less c = omega arith
 loop-again : tie.Need-loop-again Inv-loop μ-loop
 loop-again c =
     let l = c .before .before .before .before .before .before in
-    let t = l .before .before .args in
+    let z = l .before .before in
     let v = c .before .before .v .given in
     let f : SFits w64 (v .0 .0) = record { sfits = c .before .known-told .given .0 .1 } in
-    let q = few-numbers (t .modes) (t .n) (omega arith) (omega arith) .1 in
     rw (c .next-column .ensures, toZ-ofZ f)
-    (entries-more (l .loop .inv) (v .0 .0) (v .0 .1 .0) (omega arith) q (sym (c .before .before .before .before .entry .ensures) ∙ v .1))
+    (entries-more (l .loop .inv) (v .0 .0) (v .0 .1 .0) (omega arith) (z .pre .1) (sym (c .before .before .before .before .entry .ensures) ∙ v .1))
 
 returns-2 : tie.Need-returns-2 Inv-loop μ-loop
-returns-2 c = rows-all (c .before .before .before .args .modes) (c .before .loop .inv) (omega arith)
+returns-2 c = rows-all (c .before .before .before .args .count) (c .before .loop .inv) (omega arith)
 
 pub read-rows-spec : {M : Type 1} → statement M
 read-rows-spec =
@@ -82,15 +80,15 @@ read-rows-spec =
     (tie.spec
     Inv-loop
     μ-loop
-    mul-count
-    add-count
-    mul-count-2
+    add-entries
+    mul-entries
     loop-holds
     entry-requires
     enum-known-v
     enum-told
     fault-requires
     returns
+    add-v
     mul-v
     element-set-from-v
     next-column-requires
