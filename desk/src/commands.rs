@@ -4,15 +4,15 @@
 use crate::causes;
 use crate::drawings;
 use crate::drives;
-use crate::files::houses::{accepted, NotOne};
+use crate::files::houses::accepted;
 use crate::files::tables::counted;
 use crate::files::{House, Plant, Start, Table};
-use crate::kinds::{As, Kind, ALONE, FOR_A_HOUSE};
+use crate::kinds::{self, As, Kind, NotOne, Reason, ALONE, FOR_A_HOUSE};
 use crate::library;
 use crate::papers;
 use crate::progress;
 use crate::refusals::Refusal;
-use crate::text::{self, tables::summary, Said};
+use crate::text::{self, tables::summary};
 use std::io::{ErrorKind, Write};
 
 pub const USAGE: &str = "\
@@ -24,7 +24,12 @@ usage: hoachulim write TEXT FILE                    a sheet, plant or chain of i
        hoachulim drive PLANT TABLE X..              the controller's answers to readings
        hoachulim drive PLANT TABLE any COUNT SEED   the same for a room that does what the plant allows
        hoachulim make start PLANT CHAIN START, check start PLANT START, drive start PLANT START ..   the same with start files
-       hoachulim list < PLANT, list start PLANT START, check_table PLANT TABLE, check_table start PLANT START   the proved programs";
+       hoachulim list < PLANT, list start PLANT START, check_table PLANT TABLE, check_table start PLANT START   the proved programs
+       hoachulim picture [KIND] HOUSE FILE OUT.svg                 the tiles of a table, or the chain of a start file and a run home
+       hoachulim picture-run [KIND] HOUSE FILE OUT.svg COUNT SEED  a run as a chart
+       hoachulim release [KIND] HOUSE FILE OUT.html                the page of a release
+         HOUSE is a sheet or a plant, FILE its table or start file, KIND `table` or `start` where it has to be said;
+         `--degrees R` behind the words of a plant gives its counts a degree";
 
 /// What came of a command that was called rightly and could read its files.
 #[derive(Clone, Copy, Debug, PartialEq, Eq)]
@@ -37,8 +42,8 @@ pub enum Outcome {
 pub type Ran = Result<Outcome, String>;
 
 pub fn run(words: &[&str], out: &mut dyn Write) -> Ran {
-    if let Some(drawn) = drawings::run(words, out) {
-        return drawn.map(|done| if done { Outcome::Done } else { Outcome::Refused });
+    if let Some(ran) = drawings::run(words, out) {
+        return ran;
     }
     match *words {
         ["write", text, file] => write(text, file, out),
@@ -51,9 +56,9 @@ pub fn run(words: &[&str], out: &mut dyn Write) -> Ran {
         ["check", plant, table] => check(Kind::Table, plant, table, out),
         ["make", "start", plant, chain, start] => start_make(plant, chain, start, out),
         ["check", "start", plant, start] => check(Kind::Start, plant, start, out),
-        ["drive", "start", plant, start, ref rest @ ..] if !rest.is_empty() => drives::drive(plant, start, true, rest, out),
-        ["drive", plant, table, ref rest @ ..] if !rest.is_empty() => drives::drive(plant, table, false, rest, out),
-        _ => Err(format!("{USAGE}\n{}", drawings::USAGE)),
+        ["drive", "start", plant, start, ref rest @ ..] if !rest.is_empty() => drives::drive(Kind::Start, plant, start, rest, out),
+        ["drive", plant, table, ref rest @ ..] if !rest.is_empty() => drives::drive(Kind::Table, plant, table, rest, out),
+        _ => Err(USAGE.into()),
     }
 }
 
@@ -92,12 +97,12 @@ pub fn plant_at(path: &str, out: &mut dyn Write) -> Result<Option<House>, String
 /// The house of a sheet's file or a plant's, where it is one of them; else that is told.
 fn house_at(path: &str, out: &mut dyn Write) -> Result<Option<House>, String> {
     let bytes = papers::read(path)?;
-    match House::read(&bytes) {
+    match kinds::house(&bytes) {
         Ok(house) => Ok(Some(house)),
-        Err(NotOne::Both) => Err(format!("{path} is right as a sheet and as a plant: make its plant first")),
-        Err(NotOne::Neither { .. }) => {
+        Err(NotOne::Two(..)) => Err(format!("{path} is right as a sheet and as a plant: make its plant first")),
+        Err(NotOne::None(reasons)) => {
             say(out, &format!("{path} is no house:"))?;
-            none_of(&reads(&ALONE, &bytes, None), out)?;
+            refused_as(&reasons, out)?;
             Ok(None)
         }
     }
@@ -116,14 +121,10 @@ fn write(text: &str, path: &str, out: &mut dyn Write) -> Ran {
         }
     };
     let bytes = said.write();
-    let (kind, file) = match said {
-        Said::Sheet(_) => ("sheet", Some(As::Sheet(&bytes))),
-        Said::Plant(_) => ("plant", Some(As::Plant(&bytes))),
-        Said::Chain(_) => ("chain", None),
-    };
+    let file = As::of(said.kind(), &bytes, None);
     match file.map(|file| (file, file.verdict())) {
         Some((file, Err(refusal))) => refused(out, refusal, &file.cause(refusal)),
-        _ => done(out, path, &bytes, &format!("a {kind} of {}", counted(bytes.len() as u64, "byte"))),
+        _ => done(out, path, &bytes, &format!("a {} of {}", said.kind().word(), counted(bytes.len() as u64, "byte"))),
     }
 }
 
@@ -140,32 +141,24 @@ fn show(kind: Option<Kind>, path: &str, house: Option<&str>, out: &mut dyn Write
         None if is_for_a_house => FOR_A_HOUSE.to_vec(),
         None => ALONE.to_vec(),
     };
-    let reads = reads(&kinds, &bytes, house.as_ref());
-    let right: Vec<_> = reads.iter().filter(|(_, read)| read.verdict().is_ok()).collect();
-    match right[..] {
-        [(_, read)] => say(out, read.text().trim_end()).map(|()| Outcome::Done),
-        [] if reads.is_empty() => Err(USAGE.into()),
-        [] => none_of(&reads, out),
-        [(one, _), (other, _), ..] => {
+    match kinds::only(&kinds, &bytes, house.as_ref()) {
+        Ok(read) => say(out, read.text().trim_end()).map(|()| Outcome::Done),
+        Err(NotOne::None(reasons)) if reasons.is_empty() => Err(USAGE.into()),
+        Err(NotOne::None(reasons)) => refused_as(&reasons, out),
+        Err(NotOne::Two(one, other)) => {
             let (one, other) = (one.word(), other.word());
             Err(format!("{path} is right as a {one} and as a {other}: say which, `show {one} {path} ..` or `show {other} {path} ..`"))
         }
     }
 }
 
-/// A file as each of these kinds that needs a house where there is one, and none where there is none.
-fn reads<'a>(kinds: &[Kind], bytes: &'a [u8], house: Option<&'a House>) -> Vec<(Kind, As<'a>)> {
-    kinds.iter().filter_map(|&kind| Some((kind, As::of(kind, bytes, house)?))).collect()
-}
-
 /// What the library says of a file as each kind that it could have been.
-fn none_of(reads: &[(Kind, As)], out: &mut dyn Write) -> Ran {
-    for (kind, read) in reads {
-        let Err(refusal) = read.verdict() else { continue };
-        if reads.len() > 1 {
-            say(out, &format!("as a {}:", kind.word()))?;
+pub fn refused_as(reasons: &[Reason], out: &mut dyn Write) -> Ran {
+    for Reason { kind, refusal, cause } in reasons {
+        if reasons.len() > 1 {
+            say(out, &format!("as a {}:", kind.words()))?;
         }
-        refused(out, refusal, &read.cause(refusal))?;
+        refused(out, *refusal, cause)?;
     }
     Ok(Outcome::Refused)
 }

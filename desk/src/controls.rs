@@ -1,11 +1,9 @@
-//! A control file: a table or a start file, whichever the library accepts for a house. Both begin with 01, so a file that is right as both is never taken
-//! for one of them, unless it is said which. Leaves out why a file was refused (`causes`).
+//! A control file: a table or a start file that the library accepted for a house. Which of them a file is, is found elsewhere (`kinds`).
 
 use crate::files::houses::accepted;
 use crate::files::tables::counted;
 use crate::files::{House, Sides, Start, Table};
-use crate::library;
-use crate::refusals::Refusal;
+use crate::kinds::Kind;
 use crate::runs::Controller;
 
 /// What an accepted control file holds.
@@ -15,72 +13,29 @@ pub enum Control {
     Start(Start),
 }
 
-/// Why a file is not one control file: the refusal as each kind that it could have been, none where it is right as both.
-pub type NotOne = Vec<(Kind, Refusal)>;
-
-#[derive(Clone, Copy, Debug, PartialEq, Eq)]
-pub enum Kind {
-    Table,
-    Start,
-}
-
-impl Kind {
-    pub fn word(self) -> &'static str {
-        match self {
-            Kind::Table => "table",
-            Kind::Start => "start",
-        }
-    }
-
-    /// The kind in the words of a sentence.
-    pub fn words(self) -> &'static str {
-        match self {
-            Kind::Table => "table",
-            Kind::Start => "start file",
-        }
-    }
-
-    /// What answers the calls of a room that runs by such a file.
-    pub fn controller(self, bytes: &[u8]) -> Controller<'_> {
-        match self {
-            Kind::Table => Controller::Table(bytes),
-            Kind::Start => Controller::Start(bytes),
-        }
-    }
-
-    fn verdict(self, house: &House, bytes: &[u8]) -> Result<(), Refusal> {
-        match self {
-            Kind::Table => library::check(&house.bytes, bytes),
-            Kind::Start => library::start_check(&house.bytes, bytes),
-        }
-    }
-}
-
 impl Control {
-    /// The file as the kind that was said, or as the only one that the library accepts.
-    pub fn read(house: &House, bytes: &[u8], said: Option<Kind>) -> Result<Control, NotOne> {
-        let kinds = said.map_or(vec![Kind::Table, Kind::Start], |kind| vec![kind]);
-        let verdicts: Vec<_> = kinds.iter().map(|&kind| (kind, kind.verdict(house, bytes))).collect();
-        let right: Vec<Kind> = verdicts.iter().filter(|(_, verdict)| verdict.is_ok()).map(|(kind, _)| *kind).collect();
-        match right[..] {
-            [kind] => Ok(Control::of(kind, house, bytes)),
-            [] => Err(verdicts.into_iter().filter_map(|(kind, verdict)| Some((kind, verdict.err()?))).collect()),
-            _ => Err(Vec::new()),
-        }
+    /// What a table's file holds that the library accepted for this house.
+    pub fn table(house: &House, bytes: &[u8]) -> Control {
+        Control::Table(accepted(Table::read(bytes, &house.plant)))
     }
 
-    /// What a file that the library accepted as this kind holds.
-    pub fn of(kind: Kind, house: &House, bytes: &[u8]) -> Control {
-        match kind {
-            Kind::Table => Control::Table(accepted(Table::read(bytes, &house.plant))),
-            Kind::Start => Control::Start(accepted(Start::read(bytes, &house.plant))),
-        }
+    /// The same of a start file.
+    pub fn start(house: &House, bytes: &[u8]) -> Control {
+        Control::Start(accepted(Start::read(bytes, &house.plant)))
     }
 
     pub fn kind(&self) -> Kind {
         match self {
             Control::Table(_) => Kind::Table,
             Control::Start(_) => Kind::Start,
+        }
+    }
+
+    /// What answers the calls of a room that runs by this file, whose bytes these are.
+    pub fn controller<'a>(&self, bytes: &'a [u8]) -> Controller<'a> {
+        match self {
+            Control::Table(_) => Controller::Table(bytes),
+            Control::Start(_) => Controller::Start(bytes),
         }
     }
 

@@ -1,41 +1,29 @@
 //! The commands that draw: `picture`, `picture-run` and `release`. What they need is read, judged by the library (`judged`) and drawn.
 //! A refused file is drawn by none; `release` writes a page that says so.
 
-use crate::controls::Kind;
+use crate::commands::{refused_as, say, Outcome, Ran, USAGE};
 use crate::files::tables::counted;
 use crate::files::House;
 use crate::judged::{Judged, Not};
+use crate::kinds::{Kind, Reason, CONTROLS};
 use crate::papers;
 use crate::refusals::Refusal;
-use crate::release::{self, File, Files, Reason};
+use crate::release::{self, File, Files};
 use std::io::Write;
-
-pub const USAGE: &str = "       hoachulim picture [KIND] HOUSE FILE OUT.svg                 the tiles of a table, or the chain of a start file and a run home
-       hoachulim picture-run [KIND] HOUSE FILE OUT.svg COUNT SEED  a run as a chart
-       hoachulim release [KIND] HOUSE FILE OUT.html                the page of a release
-         HOUSE is a sheet or a plant, FILE its table or start file, KIND `table` or `start` where it has to be said;
-         `--degrees R` behind the words of a plant gives its counts a degree";
 
 /// The most samples of a drawn run.
 const MOST_SAMPLES: usize = 2_000;
 
-/// Whether it was done; what was refused is told and is not done.
-type Ran = Result<bool, String>;
-
 /// What the words ask for, where it is a command of this page.
 pub fn run(words: &[&str], out: &mut dyn Write) -> Option<Ran> {
     let (&command, words) = words.split_first().filter(|(command, _)| ["picture", "picture-run", "release"].contains(command))?;
-    let Some(asked) = Asked::of(words) else { return Some(wrong_call()) };
+    let Some(asked) = Asked::of(words) else { return Some(Err(USAGE.into())) };
     Some(match (command, &asked.rest[..]) {
         ("picture", []) => asked.drawn(|judged| judged.picture(), out),
         ("picture-run", [count, seed]) => asked.picture_run(count, seed, out),
         ("release", []) => asked.release(out),
-        _ => wrong_call(),
+        _ => Err(USAGE.into()),
     })
-}
-
-fn wrong_call() -> Ran {
-    Err(format!("usage:\n{USAGE}"))
 }
 
 /// The words behind a command.
@@ -54,7 +42,7 @@ impl<'a> Asked<'a> {
             [ref words @ .., "--degrees", r] => (words, Some(r.parse().ok().filter(|r| (1..=1_000).contains(r))?)),
             _ => (words, None),
         };
-        let kind = [Kind::Table, Kind::Start].into_iter().find(|kind| words.first() == Some(&kind.word()));
+        let kind = CONTROLS.into_iter().find(|kind| words.first() == Some(&kind.word()));
         match words[usize::from(kind.is_some())..] {
             [house, control, path, ref rest @ ..] => Some(Asked { kind, house, control, path, rest: rest.to_vec(), degrees }),
             _ => None,
@@ -95,12 +83,12 @@ impl<'a> Asked<'a> {
             Ok(judged) => match accepted(&judged) {
                 Ok(text) => self.written(&text, out),
                 // no call on an accepted file is refused, so that this would be a fault of the tool: nothing is written
-                Err(refusal) => tell(&[("run", refusal)], out),
+                Err(refusal) => Err(format!("a call on accepted files was {refusal}")),
             },
             Err(Not::Both(trouble)) => Err(trouble),
             Err(Not::Refused(house, reasons)) => {
                 refused(&files, house.as_deref(), &reasons)?;
-                tell(&reasons, out)
+                refused_as(&reasons, out)
             }
         }
     }
@@ -108,23 +96,8 @@ impl<'a> Asked<'a> {
     fn written(&self, text: &str, out: &mut dyn Write) -> Ran {
         papers::write(self.path, text.as_bytes())?;
         say(out, &format!("done: {}", counted(text.len() as u64, "byte")))?;
-        Ok(true)
+        Ok(Outcome::Done)
     }
-}
-
-/// What the library says of a file as each kind that it could have been.
-fn tell(reasons: &[Reason], out: &mut dyn Write) -> Ran {
-    for (kind, refusal) in reasons {
-        if reasons.len() > 1 {
-            say(out, &format!("as a {kind}:"))?;
-        }
-        say(out, &refusal.to_string())?;
-    }
-    Ok(false)
-}
-
-fn say(out: &mut dyn Write, words: &str) -> Result<(), String> {
-    writeln!(out, "{words}").map_err(|error| format!("standard output: {error}"))
 }
 
 /// A path's last part.

@@ -4,6 +4,7 @@
 use crate::causes;
 use crate::commands::{plant_at, refused, say, Outcome, Ran, USAGE};
 use crate::files::{Chain, Plant, Sides};
+use crate::kinds::Kind;
 use crate::library::{Reading, State};
 use crate::papers;
 use crate::progress;
@@ -26,13 +27,13 @@ enum Asked {
 }
 
 /// `X..`, readings of n numbers each, or `any COUNT SEED`, a room that does what the plant allows.
-pub fn drive(plant: &str, file: &str, is_start: bool, words: &[&str], out: &mut dyn Write) -> Ran {
+pub fn drive(kind: Kind, plant: &str, file: &str, words: &[&str], out: &mut dyn Write) -> Ran {
     let file = papers::read(file)?;
     let Some(house) = plant_at(plant, out)? else {
         return Ok(Outcome::Refused);
     };
     let asked = asked(words, house.plant.rooms.len()).ok_or(USAGE)?;
-    let controller = if is_start { Controller::Start(&file) } else { Controller::Table(&file) };
+    let controller = if kind == Kind::Start { Controller::Start(&file) } else { Controller::Table(&file) };
     let mut drive = Drive { bytes: &house.bytes, plant: &house.plant, controller, state: State::default() };
     match asked {
         Asked::Readings(readings) => drive.through(&readings, out),

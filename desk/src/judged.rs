@@ -1,13 +1,13 @@
-//! A house and its control file as the library judged them, and what is drawn of them. Relies on `controls` for the kind of a file.
+//! A house and its control file as the library judged them, and what is drawn of them. Relies on `kinds` for what a file is.
 
-use crate::controls::{Control, Kind};
+use crate::controls::Control;
 use crate::courses::{course, extreme, Sample};
-use crate::files::houses::NotOne;
 use crate::files::{House, Sides};
+use crate::kinds::{self, As, Kind, NotOne, Reason, CONTROLS};
 use crate::library::{Reading, State};
 use crate::pictures::{chain, tiles, Chart};
 use crate::refusals::Refusal;
-use crate::release::{self, Accepted, Files, Reason};
+use crate::release::{self, Accepted, Files};
 use crate::runs::Draws;
 use crate::units::Units;
 
@@ -30,20 +30,22 @@ pub enum Not {
 impl<'a> Judged<'a> {
     /// The files judged; `degrees` are the counts a degree of a house that is a plant.
     pub fn read(files: Files<'a>, said: Option<Kind>, degrees: Option<u64>) -> Result<Judged<'a>, Not> {
-        let house = House::read(files.house.bytes).map_err(|not| match not {
-            NotOne::Both => Not::Both(format!("{} is right as a sheet and as a plant: make its plant first", files.house.name)),
-            NotOne::Neither { sheet, plant } => Not::Refused(None, vec![("sheet", sheet), ("plant", plant)]),
+        let house = kinds::house(files.house.bytes).map_err(|not| match not {
+            NotOne::Two(..) => Not::Both(format!("{} is right as a sheet and as a plant: make its plant first", files.house.name)),
+            NotOne::None(reasons) => Not::Refused(None, reasons),
         })?;
         let units = Units::of(house.sheet.as_ref().map(|sheet| sheet.counts).or(degrees));
-        match Control::read(&house, files.control.bytes, said) {
+        let kinds = said.map_or(CONTROLS.to_vec(), |kind| vec![kind]);
+        let control = kinds::only(&kinds, files.control.bytes, Some(&house)).map(|read| match read {
+            As::Start(bytes, house) => Control::start(house, bytes),
+            _ => Control::table(&house, files.control.bytes),
+        });
+        match control {
             Ok(control) => Ok(Judged { files, house, control, units }),
-            Err(refusals) if refusals.is_empty() => {
+            Err(NotOne::Two(..)) => {
                 Err(Not::Both(format!("{} is right as a table and as a start file: say `table` or `start` before the files", files.control.name)))
             }
-            Err(refusals) => {
-                let reasons = refusals.into_iter().map(|(kind, refusal)| (kind.words(), refusal)).collect();
-                Err(Not::Refused(Some(Box::new(house)), reasons))
-            }
+            Err(NotOne::None(reasons)) => Err(Not::Refused(Some(Box::new(house)), reasons)),
         }
     }
 
@@ -74,12 +76,13 @@ impl<'a> Judged<'a> {
         Chart { house: &self.house, boxes, samples, units: self.units }
     }
 
-    fn extreme(&self) -> Result<Vec<Sample>, Refusal> {
+    /// The run of extreme readings that is drawn.
+    pub fn extreme(&self) -> Result<Vec<Sample>, Refusal> {
         extreme(&self.house, &self.control, &|state, x| self.call(state, x))
     }
 
     /// A call of the proved controller.
     fn call(&self, state: State, x: Reading) -> Result<(u64, State), Refusal> {
-        self.control.kind().controller(self.files.control.bytes).call(&self.house.bytes, state, x)
+        self.control.controller(self.files.control.bytes).call(&self.house.bytes, state, x)
     }
 }

@@ -19,11 +19,13 @@ pub enum Kind {
     Start,
 }
 
-/// The kinds that need no other file, and those that are for a house.
+/// The kinds that need no other file, those that are for a house, and of these the ones that a controller is given.
 pub const ALONE: [Kind; 2] = [Kind::Sheet, Kind::Plant];
 pub const FOR_A_HOUSE: [Kind; 3] = [Kind::Table, Kind::Chain, Kind::Start];
+pub const CONTROLS: [Kind; 2] = [Kind::Table, Kind::Start];
 
 impl Kind {
+    /// The word of a command and of a text's first line.
     pub fn word(self) -> &'static str {
         match self {
             Kind::Sheet => "sheet",
@@ -31,6 +33,14 @@ impl Kind {
             Kind::Table => "table",
             Kind::Chain => "chain",
             Kind::Start => "start",
+        }
+    }
+
+    /// The kind in a sentence.
+    pub fn words(self) -> &'static str {
+        match self {
+            Kind::Start => "start file",
+            other => other.word(),
         }
     }
 
@@ -96,6 +106,46 @@ impl<'a> As<'a> {
         }
         shown.0
     }
+}
+
+/// A kind that a file could have been, its refusal as that, and the cause.
+#[derive(Clone, Debug, PartialEq, Eq)]
+pub struct Reason {
+    pub kind: Kind,
+    pub refusal: Refusal,
+    pub cause: String,
+}
+
+/// Why a file is not one of some kinds: right as two of them, or refused as each.
+#[derive(Clone, Debug, PartialEq, Eq)]
+pub enum NotOne {
+    Two(Kind, Kind),
+    None(Vec<Reason>),
+}
+
+/// A file as the only one of these kinds that the library accepts; of the kinds those count that need a house where there is one, none where there is none.
+pub fn only<'a>(kinds: &[Kind], bytes: &'a [u8], house: Option<&'a House>) -> Result<As<'a>, NotOne> {
+    let (mut right, mut refused) = (Vec::new(), Vec::new());
+    for &kind in kinds {
+        let Some(read) = As::of(kind, bytes, house) else { continue };
+        match read.verdict() {
+            Ok(()) => right.push((kind, read)),
+            Err(refusal) => refused.push((kind, read, refusal)),
+        }
+    }
+    match right[..] {
+        [(_, read)] => Ok(read),
+        [] => Err(NotOne::None(refused.into_iter().map(|(kind, read, refusal)| Reason { kind, refusal, cause: read.cause(refusal) }).collect())),
+        [(one, _), (other, _), ..] => Err(NotOne::Two(one, other)),
+    }
+}
+
+/// The house of a sheet's file or a plant's, whichever it is.
+pub fn house(bytes: &[u8]) -> Result<House, NotOne> {
+    Ok(match only(&ALONE, bytes, None)? {
+        As::Sheet(_) => House::of(accepted(library::sheet(bytes).ok()), Some(accepted(Sheet::read(bytes)))),
+        _ => House::of(bytes.to_vec(), None),
+    })
 }
 
 /// The library's verdict on a chain, and bytes left over, which come before 15 and which no call of the library tells without making all tables.

@@ -5,7 +5,6 @@
 use crate::refusals::Refusal;
 
 /// The largest file of each kind, in bytes (docs/FORMATS.md, "Lengths").
-pub const LARGEST_SHEET: usize = 308;
 pub const LARGEST_PLANT: usize = 1_183;
 pub const LARGEST_TABLE: usize = 30_039;
 pub const LARGEST_START: usize = 270_476;

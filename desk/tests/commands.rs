@@ -85,6 +85,9 @@ fn refusals_come_with_number_place_and_cause() {
         (1, "refused 1 3 0: a number or float ends early, is over 5 bytes, or not shortest\nthe plant, 1 at byte 3: q ends early\n".into())
     );
     assert_eq!(run(&["make", &cut, &folder.path("none")]).0, 1);
+    let kept = folder.put("kept", "as it was");
+    assert_eq!(run(&["make", &cut, &kept]).0, 1);
+    assert_eq!(std::fs::read(&kept).unwrap(), b"as it was");
     assert_eq!(run(&["drive", &plant, &table, "200", "0"]).1.lines().next(), Some("200 : 1 0 0"));
     assert_eq!(run(&["drive", &plant, &table, "200", "0"]).0, 1);
     let text = folder.put("text", String::from_utf8(sample("P.txt")).unwrap().replace("195 .. 225", "185 .. 225"));

@@ -1,22 +1,14 @@
 //! The sample house as it is drawn in the repository, and the commands that draw: what they print, write and answer.
 
-mod shared;
+mod common;
 
-use hoachulim::files::House;
+use common::{sample, Folder};
+use hoachulim::kinds;
 use hoachulim::library;
-use std::path::PathBuf;
 use std::process::{Command, Output};
 
-/// A folder of this test's own.
-fn folder(name: &str) -> PathBuf {
-    let folder = PathBuf::from(env!("CARGO_TARGET_TMPDIR")).join(name);
-    let _ = std::fs::remove_dir_all(&folder);
-    std::fs::create_dir_all(&folder).unwrap();
-    folder
-}
-
-fn hoachulim(folder: &PathBuf, words: &[&str]) -> Output {
-    Command::new(env!("CARGO_BIN_EXE_hoachulim")).current_dir(folder).args(words).output().unwrap()
+fn hoachulim(folder: &Folder, words: &[&str]) -> Output {
+    Command::new(env!("CARGO_BIN_EXE_hoachulim")).current_dir(folder.path("")).args(words).output().unwrap()
 }
 
 /// The status, and what was printed.
@@ -25,14 +17,14 @@ fn told(output: &Output) -> (Option<i32>, String) {
 }
 
 /// A folder with the house, its table and one that is refused.
-fn house(name: &str) -> PathBuf {
-    let folder = folder(name);
-    let sheet = shared::sample("house.sheet");
-    let plant = House::read(&sheet).unwrap().bytes;
-    std::fs::write(folder.join("house.table"), library::make(&plant).unwrap()).unwrap();
-    std::fs::write(folder.join("house.sheet"), sheet).unwrap();
-    std::fs::write(folder.join("house.plant"), plant).unwrap();
-    std::fs::write(folder.join("bad.table"), [1, 2, 1, 0]).unwrap();
+fn house(name: &str) -> Folder {
+    let folder = Folder::new(name);
+    let sheet = sample("house.sheet");
+    let plant = kinds::house(&sheet).unwrap().bytes;
+    folder.put("house.table", library::make(&plant).unwrap());
+    folder.put("house.sheet", sheet);
+    folder.put("house.plant", plant);
+    folder.put("bad.table", [1, 2, 1, 0]);
     folder
 }
 
@@ -42,24 +34,26 @@ fn the_sample_house_is_drawn() {
     assert!(hoachulim(&folder, &["picture", "house.sheet", "house.table", "house.svg"]).status.success());
     assert!(hoachulim(&folder, &["release", "house.sheet", "house.table", "house.html"]).status.success());
     for name in ["house.svg", "house.html"] {
-        let drawn = std::fs::read(folder.join(name)).unwrap();
-        assert!(drawn == shared::sample(name), "samples/{name} is not what is drawn: tools/drawn draws it anew");
+        let drawn = std::fs::read(folder.path(name)).unwrap();
+        assert!(drawn == sample(name), "samples/{name} is not what is drawn: tools/drawn draws it anew");
     }
 }
 
 #[test]
 fn what_is_refused_is_told_and_not_drawn() {
     let folder = house("refused");
-    let refused = "refused 8 2 1: last image not in R\n".to_string();
+    let refused = "refused 8 2 1: last image not in R\n\
+                   8 at byte 2, step 1: tile 2000 .. 2200 by 2000 .. 2200 with modes 0: room 1 comes to 1974 .. 2171, R is 2000 .. 2200\n"
+        .to_string();
     for command in ["picture", "release"] {
         assert_eq!(told(&hoachulim(&folder, &[command, "table", "house.sheet", "bad.table", "out"])), (Some(1), refused.clone()));
-        assert_eq!(folder.join("out").exists(), command == "release");
+        assert_eq!(folder.names().contains(&"out".to_string()), command == "release");
     }
     assert_eq!(told(&hoachulim(&folder, &["picture-run", "table", "house.plant", "bad.table", "run", "10", "1"])), (Some(1), refused.clone()));
     let (status, both) = told(&hoachulim(&folder, &["picture", "house.sheet", "bad.table", "out.svg"]));
     assert_eq!(status, Some(1));
     assert!(both.starts_with(&format!("as a table:\n{refused}as a start file:\nrefused ")), "{both}");
-    assert!(std::fs::read_to_string(folder.join("out")).unwrap().contains("<title>Refused: bad.table</title>"));
+    assert!(std::fs::read_to_string(folder.path("out")).unwrap().contains("<title>Refused: bad.table</title>"));
 }
 
 #[test]
@@ -80,7 +74,7 @@ fn wrong_calls_are_2() {
         assert_eq!(output.status.code(), Some(2), "{words:?}");
         assert!(output.stdout.is_empty() && !output.stderr.is_empty(), "{words:?}");
     }
-    assert!(!folder.join("a.svg").exists());
+    assert!(!folder.names().contains(&"a.svg".to_string()));
 }
 
 #[test]
@@ -88,7 +82,7 @@ fn a_run_is_the_same_for_the_same_seed() {
     let folder = house("runs");
     let run = |seed: &str| {
         assert!(hoachulim(&folder, &["picture-run", "house.plant", "house.table", "run.svg", "50", seed, "--degrees", "100"]).status.success());
-        std::fs::read(folder.join("run.svg")).unwrap()
+        std::fs::read(folder.path("run.svg")).unwrap()
     };
     assert_eq!(run("1"), run("1"));
     assert_ne!(run("1"), run("2"));

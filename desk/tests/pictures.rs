@@ -1,17 +1,18 @@
 //! The pictures: XML, with every tile of the table once and where it belongs, labels that touch nothing, and short and quick for the largest table.
 
-mod shared;
+mod common;
 
-use hoachulim::controls::{Control, Kind};
+use common::xml::{self, Element};
+use common::{sample, shapes, within_a_second};
+use hoachulim::controls::Control;
 use hoachulim::courses::course;
 use hoachulim::files::{House, Side, Table};
+use hoachulim::kinds;
 use hoachulim::library;
 use hoachulim::pictures::{chain, tiles, Chart};
 use hoachulim::runs::Draws;
 use hoachulim::units::Units;
-use shared::xml::{self, Element};
 use std::collections::BTreeSet;
-use std::time::{Duration, Instant};
 
 /// A rectangle of pixels: left, top, right, bottom.
 type Edges = [f64; 4];
@@ -99,7 +100,7 @@ fn table_of(house: &House, bytes: &[u8]) -> Table {
 
 #[test]
 fn tables_of_every_shape() {
-    for (house, bytes) in shared::many() {
+    for (house, bytes) in shapes::many() {
         let table = table_of(&house, &bytes);
         for units in [None, Some(100), Some(1_000), Some(3)].map(Units::of) {
             let svg = xml::read(&tiles::picture(&house, &table, units));
@@ -111,13 +112,10 @@ fn tables_of_every_shape() {
 
 #[test]
 fn the_largest_tables_are_short_and_quick() {
-    for (house, bytes) in shared::largest() {
+    for (house, bytes) in shapes::largest() {
         let table = table_of(&house, &bytes);
         assert_eq!(table.tiles.len(), 4_096);
-        let begun = Instant::now();
-        let picture = tiles::picture(&house, &table, Units::of(Some(1_000)));
-        let took = begun.elapsed();
-        assert!(cfg!(debug_assertions) || took < Duration::from_secs(1), "took {took:?}");
+        let picture = within_a_second(|| tiles::picture(&house, &table, Units::of(Some(1_000))));
         assert!(picture.len() < 700_000, "{} bytes", picture.len());
         let svg = xml::read(&picture);
         tiles_are_the_table_s(&svg, &house, &table);
@@ -128,7 +126,7 @@ fn the_largest_tables_are_short_and_quick() {
 
 #[test]
 fn the_house_in_degrees_and_counts() {
-    let house = House::read(&shared::sample("house.sheet")).unwrap();
+    let house = kinds::house(&sample("house.sheet")).unwrap();
     let table = table_of(&house, &library::make(&house.bytes).unwrap());
     let svg = xml::read(&tiles::picture(&house, &table, Units::of(Some(100))));
     let labels: Vec<String> = svg.classed("label").iter().map(|label| label.text()).collect();
@@ -149,9 +147,9 @@ fn run_of(house: &House, bytes: &[u8], count: usize) -> Vec<hoachulim::courses::
 #[test]
 fn a_run_has_its_readings_and_modes() {
     for name in ["house.sheet", "P.plant"] {
-        let house = House::read(&shared::sample(name)).unwrap();
+        let house = kinds::house(&sample(name)).unwrap();
         let bytes = library::make(&house.bytes).unwrap();
-        let control = Control::of(Kind::Table, &house, &bytes);
+        let control = Control::table(&house, &bytes);
         for count in [1, 2, 40, 121, 2_000] {
             let samples = run_of(&house, &bytes, count);
             let boxes = control.boxes(&house);
@@ -170,7 +168,7 @@ fn a_run_has_its_readings_and_modes() {
 
 #[test]
 fn a_chain_has_its_boxes() {
-    let house = shared::steady(3, 4, 2, 0, Side { lo: 2_000, hi: 2_100 }, Side { lo: 1_000, hi: 3_000 });
+    let house = shapes::steady(3, 4, 2, 0, Side { lo: 2_000, hi: 2_100 }, Side { lo: 1_000, hi: 3_000 });
     let boxes: Vec<Vec<Side>> = (0..9).map(|index| vec![Side { lo: 2_000 - 90 * index, hi: 2_100 + 50 * index }; 3]).collect();
     let samples = run_of(&house, &[1, 3, 1, 2], 12);
     let svg = xml::read(&chain::picture(&Chart { house: &house, boxes: &boxes, samples: &samples, units: Units::of(Some(100)) }));

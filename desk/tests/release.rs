@@ -1,23 +1,32 @@
 //! The release page: its numbers against the table's own and the checker's verdict; a refused file's page promises nothing; it needs no other file.
 
-mod shared;
+mod common;
 
-use hoachulim::controls::{Control, Kind};
-use hoachulim::courses::{extreme, holds, Sample};
+use common::xml::{self, Element};
+use common::{sample, shapes, within_a_second};
+use hoachulim::causes;
 use hoachulim::files::numbers::Writer;
 use hoachulim::files::plants::{Bounds, Row};
 use hoachulim::files::{Chain, House, Plant, Side, Table};
 use hoachulim::judged::{Judged, Not};
-use hoachulim::library::{self, Reading, State};
-use hoachulim::refusals::Refusal;
-use hoachulim::release::{self, Accepted, File, Files};
+use hoachulim::kinds::{self, Kind};
+use hoachulim::library;
+use hoachulim::release::{self, File, Files};
 use hoachulim::sha256;
-use hoachulim::units::Units;
-use shared::xml::{self, Element};
-use std::time::{Duration, Instant};
+use second::start_listing::start_listing;
+use side::common::file;
+use side::inputs::{plant_fields, random, rounds};
 
 fn files<'a>(house: &'a [u8], control: &'a [u8]) -> Files<'a> {
     Files { house: File { name: "a.house", bytes: house }, control: File { name: "a.table", bytes: control } }
+}
+
+/// The files judged, a plant's counts being so many a degree.
+fn judged<'a>(files: Files<'a>, kind: Option<Kind>, degrees: u64) -> Judged<'a> {
+    match Judged::read(files, kind, Some(degrees)) {
+        Ok(judged) => judged,
+        Err(_) => panic!("refused"),
+    }
 }
 
 /// The page of a file, and whether it was accepted.
@@ -71,8 +80,8 @@ fn sums_are_told(text: &str, files: &[&[u8]]) {
 
 #[test]
 fn the_house_in_plain_words() {
-    let sheet = shared::sample("house.sheet");
-    let house = House::read(&sheet).unwrap();
+    let sheet = sample("house.sheet");
+    let house = kinds::house(&sheet).unwrap();
     let bytes = library::make(&house.bytes).unwrap();
     let table = Table::read(&bytes, &house.plant).unwrap();
     let (page, accepted) = page(&sheet, &bytes);
@@ -92,9 +101,34 @@ fn the_house_in_plain_words() {
     assert_eq!(page.classed("picture").len(), 2);
 }
 
+/// The defined tables of seeded plants: page and picture against the second program's listing.
+#[test]
+fn page_and_picture_are_the_listing_s() {
+    let mut random = random(29);
+    let mut made = 0;
+    for _ in 0..rounds(120) {
+        let plant = file(&plant_fields(&mut random));
+        let Ok(bytes) = library::make(&plant) else { continue };
+        let listing = second::listing::listing(&plant);
+        let (header, lines) = listing.split_once('\n').unwrap();
+        let [_, count, longest] = header.strip_prefix("table ").unwrap().split(' ').map(|number| number.parse().unwrap()).collect::<Vec<usize>>()[..] else {
+            panic!("{header}");
+        };
+        let judged = judged(files(&plant, &bytes), Some(Kind::Table), 100);
+        let page = xml::read(&judged.page().unwrap());
+        assert_eq!(tiles(&page), lines.lines().collect::<Vec<_>>());
+        says(&read(&page), &format!("back in R within {longest} sample"));
+        let picture = xml::read(&judged.picture().unwrap());
+        let drawn: std::collections::BTreeSet<_> = picture.classed("tile").iter().map(|tile| tile.number("data-tile") as usize).collect();
+        assert_eq!(drawn.len(), count);
+        made += 1;
+    }
+    assert!(made > 20, "only {made} tables");
+}
+
 #[test]
 fn a_page_s_numbers_are_its_table_s() {
-    for (house, bytes) in shared::many() {
+    for (house, bytes) in shapes::many() {
         let (page, accepted) = page(&house.bytes, &bytes);
         let (text, table) = (read(&page), Table::read(&bytes, &house.plant).unwrap());
         assert!(accepted && library::check(&house.bytes, &bytes).is_ok());
@@ -117,9 +151,9 @@ const PROMISES: [&str; 9] = ["promise", "Accepted", "accepted", "never", "within
 
 #[test]
 fn a_refused_file_s_page_promises_nothing() {
-    let mut random = shared::Random(21);
+    let mut random = shapes::Random(21);
     let (mut refused, mut accepted) = (0, 0);
-    for (house, bytes) in shared::many() {
+    for (house, bytes) in shapes::many() {
         let mut spoiled = bytes.clone();
         let at = random.below(bytes.len() as u64) as usize;
         spoiled[at] ^= 1 << random.below(8);
@@ -131,7 +165,7 @@ fn a_refused_file_s_page_promises_nothing() {
                 refused += 1;
                 assert!(!is_accepted);
                 says(&text, &format!("Refused by the proved checker. As a table: {refusal}"));
-                says(&text, &format!("Number {}, place {}, step {}.", refusal.number, refusal.place, refusal.step));
+                says(&text, &causes::table(&house.plant, &spoiled, refusal));
                 assert!(PROMISES.iter().all(|promise| !text.contains(promise)), "{text}");
                 assert!(page.classed("picture").is_empty() && page.classed("tiles").is_empty());
                 sums_are_told(&text, &[&house.bytes, &spoiled]);
@@ -153,8 +187,8 @@ fn a_refused_house_s_page_promises_nothing() {
 
 #[test]
 fn a_page_needs_nothing_else() {
-    let sheet = shared::sample("house.sheet");
-    let bytes = library::make(&House::read(&sheet).unwrap().bytes).unwrap();
+    let sheet = sample("house.sheet");
+    let bytes = library::make(&kinds::house(&sheet).unwrap().bytes).unwrap();
     let files = Files { house: File { name: "<&\">.sheet", bytes: &sheet }, control: File { name: "a\u{1}'b</title>.table", bytes: &bytes } };
     let Ok(judged) = Judged::read(files, None, None) else { panic!("the house has a table") };
     let text = judged.page().unwrap();
@@ -172,12 +206,8 @@ fn a_page_needs_nothing_else() {
 
 #[test]
 fn the_largest_pages_are_quick() {
-    for (house, bytes) in shared::largest() {
-        let begun = Instant::now();
-        let Ok(judged) = Judged::read(files(&house.bytes, &bytes), None, Some(1_000)) else { panic!("every table is accepted") };
-        let text = judged.page().unwrap();
-        let took = begun.elapsed();
-        assert!(cfg!(debug_assertions) || took < Duration::from_secs(1), "took {took:?}");
+    for (house, bytes) in shapes::largest() {
+        let text = within_a_second(|| judged(files(&house.bytes, &bytes), None, 1_000).page().unwrap());
         assert!(text.len() < 1_500_000, "{} bytes", text.len());
         assert_eq!(tiles(&xml::read(&text)).len(), 4_096);
     }
@@ -190,43 +220,15 @@ fn far() -> (House, Vec<u8>) {
     let plant = Plant { q: 10, longest: 3, depth: 2, rooms: vec![room], modes };
     let boxes = vec![vec![Side { lo: 180, hi: 240 }], vec![Side { lo: 150, hi: 260 }]];
     let tables: [&[u8]; 3] = [&[1, 1, 0, 1, 1, 1, 0], &[1, 1, 0, 0, 2, 1, 1, 1, 1, 0, 1, 0, 2, 0, 0], &[1, 1, 0, 3, 1, 1, 1, 2, 0, 0]];
-    let mut start = Chain { boxes }.write();
-    for table in tables {
-        start.push(table.len() as u8);
-        start.extend(table);
-    }
-    (House::read(&plant.write()).unwrap(), start)
-}
-
-/// A start file's call by the proved controller of tables: a box's table is a table of the plant that has the box for R (docs/DECISIONS.md, "Start files").
-/// It stands in for `library::start_control`, so that these pages are tested with a library that has no start files too.
-fn start_call(house: &House, bytes: &[u8], control: &Control, state: State, x: Reading) -> Result<(u64, State), Refusal> {
-    let boxes = control.boxes(house);
-    let index = if state.is_idle() { boxes.iter().position(|sides| holds(sides, &x)).unwrap() } else { state.index as usize };
-    let Control::Start(start) = control else { panic!("a start file") };
-    let mut plant = house.plant.clone();
-    plant.rooms.iter_mut().zip(&boxes[index]).for_each(|(room, &side)| room.r = side);
-    let inner = &start.tables[index];
-    let table = &bytes[inner.place..inner.place + inner.length];
-    let (mode, next) = library::control(&plant.write(), table, State { index: 0, ..state }, x)?;
-    Ok((mode, State { index: if next.is_idle() { 0 } else { index as u64 }, ..next }))
-}
-
-fn start_page() -> (Element, Vec<Sample>) {
-    let (house, bytes) = far();
-    let control = Control::of(Kind::Start, &house, &bytes);
-    let samples = extreme(&house, &control, &|state, x| start_call(&house, &bytes, &control, state, x)).unwrap();
-    let accepted = Accepted { house: &house, control: &control, samples: &samples, units: Units::of(Some(10)) };
-    let text = release::accepted(&files(&house.bytes, &bytes), &accepted);
-    if let Ok(path) = std::env::var("HOACHULIM_LOOK") {
-        std::fs::write(path, &text).unwrap();
-    }
-    (xml::read(&text), samples)
+    let start = tables.iter().fold(Chain { boxes }.write(), |start, table| [&start[..], &[table.len() as u8], table].concat());
+    (House::of(plant.write(), None), start)
 }
 
 #[test]
 fn a_start_file_s_page_tells_of_arrival() {
-    let (page, samples) = start_page();
+    let (house, bytes) = far();
+    let judged = judged(files(&house.bytes, &bytes), Some(Kind::Start), 10);
+    let page = xml::read(&judged.page().unwrap());
     let text = read(&page);
     says(&text, "Accepted by the proved checker (hoachulim_start_check)");
     says(&text, "in one of these boxes, ends included, in steps of 0.1 degrees:");
@@ -234,38 +236,32 @@ fn a_start_file_s_page_tells_of_arrival() {
     says(&text, "From any reading in R2 the room has arrived within 5 samples: a tile of R’s own table is chosen, on a reading in R.");
     says(&text, "From then on: from each reading at which a tile is chosen, the room is back in R within 1 sample, and there the next tile is chosen.");
     says(&text, "Room 1 is never read below 10.0 or above 30.0 degrees.");
+    let listing = start_listing(&house.bytes, &bytes);
+    assert_eq!(tiles(&page), listing.lines().filter(|line| !line.starts_with("box")).collect::<Vec<_>>());
+}
+
+#[test]
+fn the_run_of_a_start_file_is_home_last_from_its_first_reading() {
+    let (house, bytes) = far();
+    let samples = judged(files(&house.bytes, &bytes), Some(Kind::Start), 10).extreme().unwrap();
     let home = samples.iter().position(|sample| sample.idle && (195..=225).contains(&sample.reading[0])).unwrap();
     assert_eq!(samples[0].reading[0], 150, "the cold corner is home last");
     assert!(home > 0 && home <= 5 && samples[home..].iter().all(|sample| sample.idle && (195..=225).contains(&sample.reading[0])));
-    assert_eq!(tiles(&page).len(), 2 + 4 + 2);
 }
 
 /// Nine tables of 4,096 tiles, which is the largest start file.
 #[test]
 fn the_largest_start_file_s_page_is_quick() {
-    let (house, table) = shared::largest().swap_remove(0);
+    let (house, table) = shapes::largest().swap_remove(0);
     let mut bytes = Chain { boxes: vec![house.plant.r(); 8] }.write();
     for _ in 0..9 {
         let mut length = Writer::default();
         length.number(table.len() as u64);
         bytes.extend([length.0, table.clone()].concat());
     }
-    let begun = Instant::now();
-    let control = Control::of(Kind::Start, &house, &bytes);
-    let samples = extreme(&house, &control, &|state, x| start_call(&house, &bytes, &control, state, x)).unwrap();
-    let accepted = Accepted { house: &house, control: &control, samples: &samples, units: Units::of(Some(1_000)) };
-    let text = release::accepted(&files(&house.bytes, &bytes), &accepted);
-    let took = begun.elapsed();
-    assert!(cfg!(debug_assertions) || took < Duration::from_secs(5), "took {took:?}"); // under a second by itself, and a busy machine must not fail
+    let text = within_a_second(|| judged(files(&house.bytes, &bytes), Some(Kind::Start), 1_000).page().unwrap());
     assert!(text.len() < 5_000_000, "{} bytes", text.len());
     assert_eq!(tiles(&xml::read(&text)).len(), 9 * 4_096);
-}
-
-/// The whole way, judged by the library.
-#[test]
-fn a_start_file_is_judged() {
-    let (house, bytes) = far();
-    let Ok(judged) = Judged::read(files(&house.bytes, &bytes), Some(Kind::Start), Some(10)) else { panic!("refused") };
-    assert_eq!(read(&xml::read(&judged.page().unwrap())), read(&start_page().0));
-    xml::read(&judged.picture().unwrap());
+    let picture = within_a_second(|| judged(files(&house.bytes, &bytes), Some(Kind::Start), 1_000).picture().unwrap());
+    xml::read(&picture);
 }

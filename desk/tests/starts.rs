@@ -2,7 +2,7 @@
 
 mod common;
 
-use common::{goes_round, sample, sample_path, tool, Folder};
+use common::{goes_round, sample, sample_path, tool, within_a_second, Folder};
 use hoachulim::causes;
 use hoachulim::files::{Chain, House, Start};
 use hoachulim::kinds::As;
@@ -12,7 +12,6 @@ use hoachulim::runs::{allowed, Controller, Draws};
 use side::common::{chain_fields, file, p_fields, with, Field, P, S, T1, U};
 use side::inputs::{damaged, plant_fields, random, rounds};
 use side::starts::{any_chain, any_start, made_start, other_start, spoiled_chain, spoiled_lengths, turning};
-use std::time::{Duration, Instant};
 
 fn house(plant: &[u8]) -> House {
     House::of(plant.to_vec(), None)
@@ -201,11 +200,8 @@ fn the_largest_start_files_are_shown_within_a_second() {
     let house = house(&plant);
     let bytes = library::start_make(&plant, &chain).unwrap();
     assert!(bytes.len() > 250_000, "{} bytes", bytes.len());
-    let began = Instant::now();
-    let read = As::Start(&bytes, &house);
-    assert_eq!(read.verdict(), Ok(()));
-    let tiles = read.text().lines().filter(|line| line.starts_with("tile ")).count();
-    assert!(began.elapsed() < Duration::from_secs(1), "{:?}", began.elapsed());
+    let text = within_a_second(|| As::Start(&bytes, &house).verdict().map(|()| As::Start(&bytes, &house).text())).unwrap();
+    let tiles = text.lines().filter(|line| line.starts_with("tile ")).count();
     let start = Start::read(&bytes, &house.plant).unwrap();
     assert_eq!(tiles, start.tables.iter().map(|inner| inner.table.tiles.len()).sum::<usize>());
     assert_eq!(Chain::read(&chain, 2), Some(start.chain));

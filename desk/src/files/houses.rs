@@ -1,9 +1,6 @@
-//! A house: a sheet or a plant, whichever a file is. Both begin with 01, and some bytes are both, so the library is asked for both, and a file that is
-//! both is never taken for one of them.
+//! A house: a plant, and its sheet where it came as one. Which of them a file is, is found elsewhere (`kinds`).
 
 use super::{Plant, Sheet};
-use crate::library;
-use crate::refusals::Refusal;
 
 /// A house's plant, and its sheet where it came as one.
 #[derive(Clone, Debug)]
@@ -14,23 +11,7 @@ pub struct House {
     pub sheet: Option<Sheet>,
 }
 
-/// Why a file is not one house.
-#[derive(Clone, Copy, Debug, PartialEq, Eq)]
-pub enum NotOne {
-    Neither { sheet: Refusal, plant: Refusal },
-    Both,
-}
-
 impl House {
-    pub fn read(bytes: &[u8]) -> Result<House, NotOne> {
-        match (library::sheet(bytes), library::plant(bytes)) {
-            (Ok(_), Ok(())) => Err(NotOne::Both),
-            (Err(sheet), Err(plant)) => Err(NotOne::Neither { sheet, plant }),
-            (Ok(made), Err(_)) => Ok(House::of(made, Some(accepted(Sheet::read(bytes))))),
-            (Err(_), Ok(())) => Ok(House::of(bytes.to_vec(), None)),
-        }
-    }
-
     /// How many counts a degree has, which only a sheet says.
     pub fn counts(&self) -> Option<i64> {
         self.sheet.as_ref().map(|sheet| sheet.counts as i64)

@@ -5,11 +5,11 @@
 mod figures;
 mod promise;
 
-use crate::controls::{Control, Kind};
+use crate::controls::Control;
 use crate::courses::Sample;
 use crate::files::House;
+use crate::kinds::{Kind, Reason};
 use crate::pictures::svg::escape;
-use crate::refusals::Refusal;
 use crate::sha256;
 use crate::units::Units;
 
@@ -26,9 +26,6 @@ pub struct Files<'a> {
     pub house: File<'a>,
     pub control: File<'a>,
 }
-
-/// A kind that a file could have been, and why it is not that.
-pub type Reason = (&'static str, Refusal);
 
 /// What the checker accepted, and a run to be shown.
 pub struct Accepted<'a> {
@@ -65,18 +62,13 @@ pub fn accepted(files: &Files, accepted: &Accepted) -> String {
 pub fn refused(files: &Files, house: Option<&House>, reasons: &[Reason]) -> String {
     let reasons: String = reasons
         .iter()
-        .map(|(kind, refusal)| format!("<p>As a {kind}: <code>{}</code><br/>{}</p>\n", escape(&refusal.to_string()), place_words(refusal)))
+        .map(|Reason { kind, refusal, cause }| format!("<p>As a {}: <code>{}</code><br/>{}</p>\n", kind.words(), escape(&refusal.to_string()), escape(cause)))
         .collect();
     let verdict = format!(
         "<div class=\"verdict refused\"><strong>Refused</strong> by the proved checker.\n{reasons}<p>This page releases nothing. Run no controller with these files.</p></div>\n"
     );
     let body = [head(files, "file"), verdict, sums(files, house, "refused")];
     whole(&format!("Refused: {}", files.control.name), &body.concat())
-}
-
-/// Number, place and step by their names.
-fn place_words(refusal: &Refusal) -> String {
-    format!("Number {}, place {}, step {}.", refusal.number, refusal.place, refusal.step)
 }
 
 fn head(files: &Files, kind: &str) -> String {

@@ -11,6 +11,7 @@ pub mod tables;
 pub mod values;
 
 use crate::files::{Chain, Plant, Sheet};
+use crate::kinds::Kind;
 use lines::{Fault, Lines};
 
 /// What a text says.
@@ -22,6 +23,14 @@ pub enum Said {
 }
 
 impl Said {
+    pub fn kind(&self) -> Kind {
+        match self {
+            Said::Sheet(_) => Kind::Sheet,
+            Said::Plant(_) => Kind::Plant,
+            Said::Chain(_) => Kind::Chain,
+        }
+    }
+
     /// The file's bytes, not judged.
     pub fn write(&self) -> Vec<u8> {
         match self {
@@ -35,14 +44,14 @@ impl Said {
 /// What a text says; its first line names its kind.
 pub fn read(text: &[u8]) -> Result<Said, Fault> {
     let mut lines = Lines::of(text)?;
-    let (kinds, wanted) = (["sheet", "plant", "chain"], "`sheet`, `plant` or `chain`");
+    let wanted = "`sheet`, `plant` or `chain`";
     let mut line = lines.next(wanted)?;
-    let kind = line.word(wanted, |word| kinds.into_iter().find(|&kind| kind == word))?;
+    let kind = line.word(wanted, |word| Kind::of(word).filter(|kind| [Kind::Sheet, Kind::Plant, Kind::Chain].contains(kind)))?;
     line.words("form 1")?;
     line.end()?;
     let said = match kind {
-        "sheet" => Said::Sheet(sheets::read(&mut lines)?),
-        "plant" => Said::Plant(plants::read(&mut lines)?),
+        Kind::Sheet => Said::Sheet(sheets::read(&mut lines)?),
+        Kind::Plant => Said::Plant(plants::read(&mut lines)?),
         _ => Said::Chain(chains::read(&mut lines)?),
     };
     lines.end()?;

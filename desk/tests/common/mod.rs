@@ -1,10 +1,15 @@
-//! What the tests share: samples, a folder to work in, the tool as it is called, texts of files.
+//! What the tests share: samples, a folder to work in, the tool as it is called, texts of files, what is quick; tables of every shape (`shapes`), and XML
+//! read strictly (`xml`).
 #![allow(dead_code)] // no test uses all of it
+
+pub mod shapes;
+pub mod xml;
 
 use hoachulim::kinds::As;
 use hoachulim::text;
 use std::path::PathBuf;
 use std::process::{Command, Stdio};
+use std::time::{Duration, Instant};
 
 pub fn sample_path(name: &str) -> String {
     format!("{}/../samples/{name}", env!("CARGO_MANIFEST_DIR"))
@@ -59,4 +64,18 @@ pub fn goes_round(read: As, bytes: &[u8]) {
     let shown = read.text();
     let said = text::read(shown.as_bytes()).unwrap_or_else(|fault| panic!("{fault} in\n{shown}"));
     assert_eq!(said.write(), bytes, "{shown}");
+}
+
+/// What some work comes to, which takes less than a second: the quickest of ten tries counts, since a busy machine may hold up any one of them.
+pub fn within_a_second<T>(mut work: impl FnMut() -> T) -> T {
+    let mut least = Duration::MAX;
+    for _ in 0..10 {
+        let began = Instant::now();
+        let value = work();
+        least = least.min(began.elapsed());
+        if least < Duration::from_secs(1) || cfg!(debug_assertions) {
+            return value;
+        }
+    }
+    panic!("the quickest of ten tries took {least:?}");
 }

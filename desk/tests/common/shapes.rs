@@ -1,14 +1,7 @@
-//! What the tests of pictures and pages share: XML read strictly, plants for which every table is right, and seeded tables for them.
-#![allow(dead_code)]
-
-pub mod xml;
+//! Plants for which every table is right, and seeded tables for them: tables of every shape and size, which no maker would make.
 
 use hoachulim::files::plants::{Bounds, Row};
 use hoachulim::files::{House, Plant, Side};
-
-pub fn sample(name: &str) -> Vec<u8> {
-    std::fs::read(format!("{}/../samples/{name}", env!("CARGO_MANIFEST_DIR"))).unwrap()
-}
 
 /// A seeded generator: three shifts.
 pub struct Random(pub u64);
@@ -27,7 +20,7 @@ pub fn steady(rooms: usize, modes: usize, longest: u64, depth: u64, r: Side, s: 
     let bounds = Bounds { r, s, w: Side { lo: 0, hi: 0 } };
     let row = Row { a: vec![0; rooms], b: (r.lo + r.hi).div_euclid(2) };
     let plant = Plant { q: 1, longest, depth, rooms: vec![bounds; rooms], modes: vec![vec![row; rooms]; modes] };
-    House::read(&plant.write()).unwrap()
+    House::of(plant.write(), None)
 }
 
 /// A table for such a plant: a box with depth left is split in `split` of four cases, and patterns are drawn.
