@@ -58,7 +58,7 @@ impl<'a> Asked<'a> {
 
     /// A picture of files that were accepted.
     fn drawn(&self, by: impl Fn(&Judged) -> Result<String, Refusal>, out: &mut dyn Write) -> Ran {
-        self.judged(by, |_, _, _| Ok(()), out)
+        self.judged("picture", by, |_, _, _| Ok(()), out)
     }
 
     /// A page in either case: one that says what was refused releases nothing.
@@ -66,12 +66,13 @@ impl<'a> Asked<'a> {
         let refused = |files: &Files, house: Option<&House>, reasons: &[Reason]| {
             papers::write(self.path, release::refused(files, house, reasons).as_bytes())
         };
-        self.judged(|judged| judged.page(), refused, out)
+        self.judged("release page", |judged| judged.page(), refused, out)
     }
 
     /// The files read and judged, and what becomes of them where they were accepted, and before a refusal is told.
     fn judged(
         &self,
+        what: &str,
         accepted: impl Fn(&Judged) -> Result<String, Refusal>,
         refused: impl Fn(&Files, Option<&House>, &[Reason]) -> Result<(), String>,
         out: &mut dyn Write,
@@ -81,7 +82,7 @@ impl<'a> Asked<'a> {
         match Judged::read(files, self.kind, self.degrees) {
             Ok(judged) if judged.house.sheet.is_some() && self.degrees.is_some() => Err(format!("{} is a sheet and has its own counts a degree", self.house)),
             Ok(judged) => match accepted(&judged) {
-                Ok(text) => self.written(&text, out),
+                Ok(text) => self.written(what, &text, out),
                 // no call on an accepted file is refused, so that this would be a fault of the tool: nothing is written
                 Err(refusal) => Err(format!("a call on accepted files was {refusal}")),
             },
@@ -93,9 +94,9 @@ impl<'a> Asked<'a> {
         }
     }
 
-    fn written(&self, text: &str, out: &mut dyn Write) -> Ran {
+    fn written(&self, what: &str, text: &str, out: &mut dyn Write) -> Ran {
         papers::write(self.path, text.as_bytes())?;
-        say(out, &format!("done: {}", counted(text.len() as u64, "byte")))?;
+        say(out, &format!("done: a {what} of {}", counted(text.len() as u64, "byte")))?;
         Ok(Outcome::Done)
     }
 }

@@ -1,4 +1,4 @@
-//! The sample house as it is drawn in the repository, and the commands that draw: what they print, write and answer.
+//! The samples as they are drawn in the repository, and the commands that draw: what they print, write and answer.
 
 mod common;
 
@@ -29,11 +29,22 @@ fn house(name: &str) -> Folder {
 }
 
 #[test]
-fn the_sample_house_is_drawn() {
+fn the_samples_are_drawn() {
     let folder = house("drawn");
-    assert!(hoachulim(&folder, &["picture", "house.sheet", "house.table", "house.svg"]).status.success());
-    assert!(hoachulim(&folder, &["release", "house.sheet", "house.table", "house.html"]).status.success());
-    for name in ["house.svg", "house.html"] {
+    folder.put("nursery.txt", sample("nursery.txt"));
+    let calls: [(&[&str], &str); 6] = [
+        (&["write", "nursery.txt", "nursery.sheet"], "done: a sheet of 117 bytes\n"),
+        (&["sheet", "nursery.sheet", "nursery.plant"], "done: 2 rooms, 4 modes, 103 bytes\n"),
+        (&["make", "nursery.plant", "nursery.table"], "done: 13 tiles, longest pattern 3, 44 bytes\n"),
+        (&["picture", "nursery.sheet", "nursery.table", "nursery.svg"], "done: a picture of "),
+        (&["picture", "house.sheet", "house.table", "house.svg"], "done: a picture of "),
+        (&["release", "house.sheet", "house.table", "house.html"], "done: a release page of "),
+    ];
+    for (words, done) in calls {
+        let (status, told) = told(&hoachulim(&folder, words));
+        assert!(status == Some(0) && told.starts_with(done), "{words:?}: {told}");
+    }
+    for name in ["nursery.svg", "house.svg", "house.html"] {
         let drawn = std::fs::read(folder.path(name)).unwrap();
         assert!(drawn == sample(name), "samples/{name} is not what is drawn: tools/drawn draws it anew");
     }
