@@ -44,6 +44,8 @@ fn the_samples_are_drawn() {
         let (status, told) = told(&hoachulim(&folder, words));
         assert!(status == Some(0) && told.starts_with(done), "{words:?}: {told}");
     }
+    let readme = String::from_utf8(sample("../README.md")).unwrap();
+    assert!(readme.contains(&format!("done: a release page of {} bytes\n", sample("house.html").len())), "README has what ./house prints");
     for name in ["nursery.svg", "house.svg", "house.html"] {
         let drawn = std::fs::read(folder.path(name)).unwrap();
         assert!(drawn == sample(name), "samples/{name} is not what is drawn: tools/drawn draws it anew");

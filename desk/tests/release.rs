@@ -182,6 +182,9 @@ fn a_refused_house_s_page_promises_nothing() {
     assert!(!accepted);
     says(&text, "As a sheet: refused 3 1 0");
     says(&text, "As a plant: refused 3 1 0");
+    says(&text, "3 at byte 1: n is 9, wanted 1 .. 4");
+    says(&text, "a.house refused 2 bytes");
+    says(&text, "a.table not judged 4 bytes");
     assert!(PROMISES.iter().all(|promise| !text.contains(promise)));
 }
 

@@ -67,7 +67,7 @@ pub fn refused(files: &Files, house: Option<&House>, reasons: &[Reason]) -> Stri
     let verdict = format!(
         "<div class=\"verdict refused\"><strong>Refused</strong> by the proved checker.\n{reasons}<p>This page releases nothing. Run no controller with these files.</p></div>\n"
     );
-    let body = [head(files, "file"), verdict, sums(files, house, "refused")];
+    let body = [head(files, "file"), verdict, sums(files, house, if house.is_some() { "refused" } else { "not judged" })];
     whole(&format!("Refused: {}", files.control.name), &body.concat())
 }
 
@@ -79,13 +79,14 @@ fn head(files: &Files, kind: &str) -> String {
     )
 }
 
-/// The files with their sizes and sums; of a sheet the plant made of it too, which is what a controller is given.
+/// The files with their sizes and sums; of a sheet the plant made of it too, which is what a controller is given. There is no house where it was refused.
 fn sums(files: &Files, house: Option<&House>, kind: &str) -> String {
-    let is_sheet = house.is_some_and(|house| house.sheet.is_some());
-    let mut rows = row(files.house.name, if is_sheet { "sheet" } else { "plant" }, files.house.bytes);
-    if let Some(house) = house.filter(|_| is_sheet) {
-        rows += &row("the plant made of it", "plant", &house.bytes);
-    }
+    let of_house = |kind| row(files.house.name, kind, files.house.bytes);
+    let mut rows = match house {
+        None => of_house("refused"),
+        Some(house) if house.sheet.is_some() => of_house("sheet") + &row("the plant made of it", "plant", &house.bytes),
+        Some(_) => of_house("plant"),
+    };
     rows += &row(files.control.name, kind, files.control.bytes);
     format!(
         "<section>\n<h2>Files</h2>\n<p>A file with another size or sum is not the file that was judged.</p>\n<table class=\"files\">\
