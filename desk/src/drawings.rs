@@ -2,6 +2,7 @@
 //! A refused file is drawn by none; `release` writes a page that says so.
 
 use crate::commands::{refused_as, say, Outcome, Ran, USAGE};
+use crate::files::ranges::MOST_COUNTS;
 use crate::files::tables::counted;
 use crate::files::House;
 use crate::judged::{Judged, Not};
@@ -39,7 +40,7 @@ struct Asked<'a> {
 impl<'a> Asked<'a> {
     fn of(words: &[&'a str]) -> Option<Asked<'a>> {
         let (words, degrees) = match *words {
-            [ref words @ .., "--degrees", r] => (words, Some(r.parse().ok().filter(|r| (1..=1_000).contains(r))?)),
+            [ref words @ .., "--degrees", r] => (words, Some(r.parse().ok().filter(|r| (1..=MOST_COUNTS as u64).contains(r))?)),
             _ => (words, None),
         };
         let kind = CONTROLS.into_iter().find(|kind| words.first() == Some(&kind.word()));

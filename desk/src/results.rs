@@ -1,7 +1,7 @@
 //! What a sheet comes to (document 01, "The sheet"), number by number of the plant file, to explain 14. The floats are multiplied as floats, so a value
 //! here is about the one that the library rounds; that it does not fit is the library's word.
 
-use crate::files::plants::{MOST_A, MOST_B, MOST_BAND};
+use crate::files::ranges::{MOST_A, MOST_B, MOST_BAND};
 use crate::files::sheets::{Emitter, Room};
 use crate::files::Sheet;
 

@@ -4,7 +4,7 @@ mod common;
 
 use common::{goes_round, sample, sample_path};
 use hoachulim::files::{Chain, House, Side};
-use hoachulim::kinds::As;
+use hoachulim::kinds::{self, As};
 use hoachulim::library;
 use hoachulim::text::{self, chains, shown::Shown, Said};
 use side::common::{file, Random};
@@ -13,7 +13,7 @@ use side::inputs::{plant_fields, random, rounds, sheet_fields};
 /// The sheet or plant, or what is for the plant of the same name.
 #[test]
 fn every_sample_goes_round() {
-    let mut kinds = std::collections::BTreeSet::new();
+    let mut kinds_seen = std::collections::BTreeSet::new();
     for entry in std::fs::read_dir(sample_path("")).unwrap() {
         let name = entry.unwrap().file_name().into_string().unwrap();
         let (stem, kind) = name.rsplit_once('.').unwrap();
@@ -22,13 +22,21 @@ fn every_sample_goes_round() {
         match kind {
             "sheet" => goes_round(As::Sheet(&bytes), &bytes),
             "plant" => goes_round(As::Plant(&bytes), &bytes),
-            "chain" => goes_round(As::Chain(&bytes, &house()), &bytes),
+            "chain" => {
+                goes_round(As::Chain(&bytes, &house()), &bytes);
+                // for a sheet its edges are shown in degrees
+                if let Some(house) = std::fs::read(sample_path(&format!("{stem}.sheet"))).ok().map(|sheet| kinds::house(&sheet).unwrap()) {
+                    goes_round(As::Chain(&bytes, &house), &bytes);
+                    assert!(As::Chain(&bytes, &house).text().contains("degrees"));
+                    kinds_seen.insert("chain in degrees".to_string());
+                }
+            }
             "start" => assert!(As::Start(&bytes, &house()).text().starts_with("start form 1")),
             _ => assert!(["txt", "svg", "html"].contains(&kind), "{name}"),
         }
-        kinds.insert(kind.to_string());
+        kinds_seen.insert(kind.to_string());
     }
-    assert!(kinds.len() > 3, "{kinds:?}");
+    assert!(["sheet", "plant", "chain", "chain in degrees", "start"].iter().all(|kind| kinds_seen.contains(*kind)), "{kinds_seen:?}");
 }
 
 #[test]

@@ -2,7 +2,8 @@
 
 use super::boxes::Sides;
 use super::numbers::{self, Reader, Writer};
-use super::plants::{form, ranged, side, Plant, MOST_EDGE};
+use super::plants::{form, ranged, side, Plant};
+use super::ranges::{MOST_BOXES, MOST_EDGE};
 use super::tables::{counted, Table};
 
 /// The boxes R1..Rm.
@@ -20,7 +21,7 @@ impl Chain {
     /// Form, m and edges in file order.
     pub fn follow(file: &mut Reader, rooms: usize) -> Option<Chain> {
         form(file)?;
-        let m = ranged(file, "m, the number of boxes,", 0, 8)?;
+        let m = ranged(file, "m, the number of boxes,", 0, MOST_BOXES)?;
         let mut boxes = Vec::new();
         for index in 1..=m {
             let edge = |room| side(file, format_args!("box {index}, room {room},"), MOST_EDGE);

@@ -6,6 +6,7 @@ pub mod chains;
 pub mod houses;
 pub mod numbers;
 pub mod plants;
+pub mod ranges;
 pub mod sheets;
 pub mod tables;
 

@@ -2,6 +2,7 @@
 
 use super::boxes::{Side, Sides};
 use super::numbers::{Reader, Writer};
+use super::ranges::{most_depth, MOST_A, MOST_B, MOST_BAND, MOST_EDGE, MOST_LONGEST, MOST_MODES, MOST_Q, MOST_ROOMS};
 use std::fmt::Display;
 
 /// A plant's values, under document 01's letters.
@@ -51,7 +52,7 @@ impl Plant {
 
     /// The plant's numbers in file order.
     pub fn follow(file: &mut Reader) -> Option<Plant> {
-        let head = Head::follow(file, "N", 16)?;
+        let head = Head::follow(file, "N", MOST_MODES)?;
         let rooms = bounds(file, head.rooms)?;
         let modes = (0..head.second).map(|mode| rows(file, mode, head.rooms)).collect::<Option<_>>()?;
         Some(Plant { q: head.q, longest: head.longest, depth: head.depth, rooms, modes })
@@ -81,17 +82,15 @@ pub struct Head {
 }
 
 impl Head {
-    pub fn follow(file: &mut Reader, second: &str, most: u64) -> Option<Head> {
+    pub fn follow(file: &mut Reader, second: &str, most: i64) -> Option<Head> {
         form(file)?;
-        let rooms = ranged(file, "n", 1, 4)?;
+        let rooms = ranged(file, "n", 1, MOST_ROOMS)?;
         let second = ranged(file, second, 1, most)?;
-        let q = ranged(file, "q", 1, 10_000)?;
-        let longest = ranged(file, "K", 1, 6)?;
-        let most_depth = 12 / rooms;
-        let depth = file.number(
-            || "D".into(),
-            |value| format!("D is {value}, wanted 0 .. {}{}", most_depth.min(6), if most_depth < 6 { ", as n·D is at most 12" } else { "" }),
-        )?;
+        let q = ranged(file, "q", 1, MOST_Q)?;
+        let longest = ranged(file, "K", 1, MOST_LONGEST)?;
+        let most = most_depth(rooms as i64);
+        let product = if most < most_depth(1) { ", as n·D is at most 12" } else { "" };
+        let depth = file.number(|| "D".into(), |value| format!("D is {value}, wanted 0 .. {most}{product}"))?;
         Some(Head { rooms, second, q, longest, depth })
     }
 }
@@ -102,7 +101,7 @@ pub fn form(file: &mut Reader) -> Option<u64> {
 }
 
 /// A number with the range that it may have.
-pub fn ranged(file: &mut Reader, name: &str, lo: u64, hi: u64) -> Option<u64> {
+pub fn ranged(file: &mut Reader, name: &str, lo: i64, hi: i64) -> Option<u64> {
     file.number(|| name.into(), |value| format!("{name} is {value}, wanted {lo} .. {hi}"))
 }
 
@@ -117,10 +116,6 @@ pub fn side(file: &mut Reader, what: impl Display, most: i64) -> Option<Side> {
     let hi = file.signed(|| format!("{what} hi"), |hi| format!("{what} hi is {hi}, wanted {lo}, which is its lo, .. {most}"))?;
     Some(Side { lo, hi })
 }
-
-/// The most that an edge of R, S or a box of a chain is away from 0, and an end of w.
-pub const MOST_EDGE: i64 = 1_000_000;
-pub const MOST_BAND: i64 = 1_000_000_000;
 
 /// R and S of each room, then w of each.
 pub fn bounds(file: &mut Reader, rooms: u64) -> Option<Vec<Bounds>> {
@@ -142,10 +137,6 @@ pub fn write_bounds(file: &mut Writer, rooms: &[Bounds]) {
         file.signed(side.hi);
     }
 }
-
-/// The most that an entry of A is away from 0, and b.
-pub const MOST_A: i64 = 20_000;
-pub const MOST_B: i64 = 10_000_000_000;
 
 /// The rows of a mode.
 fn rows(file: &mut Reader, mode: u64, rooms: u64) -> Option<Vec<Row>> {

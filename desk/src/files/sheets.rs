@@ -2,6 +2,7 @@
 
 use super::numbers::{Reader, Writer};
 use super::plants::{bounds, write_bounds, Bounds, Head};
+use super::ranges::MOST_COUNTS;
 
 /// A sheet's values.
 #[derive(Clone, Debug, PartialEq)]
@@ -45,7 +46,7 @@ impl Sheet {
 
     /// The sheet's numbers and floats in file order.
     pub fn follow(file: &mut Reader) -> Option<Sheet> {
-        let head = Head::follow(file, "r, counts a degree,", 1_000)?;
+        let head = Head::follow(file, "r, counts a degree,", MOST_COUNTS)?;
         let bounds = bounds(file, head.rooms)?;
         let time = float(file, || "the sample time".into(), "above 0")?;
         let outside = float(file, || "the outside temperature".into(), "a finite float")?;

@@ -4,14 +4,14 @@ use super::lines::{Fault, Lines};
 use super::plants::{count, counts_if, COUNTS};
 use super::shown::Shown;
 use super::values::{box_words, side};
-use crate::files::plants::MOST_EDGE;
+use crate::files::ranges::{MOST_BOXES, MOST_EDGE, MOST_ROOMS};
 use crate::files::{Chain, House, Sides};
 
 /// The chain that a text says, behind its first line.
 pub fn read(lines: &mut Lines) -> Result<Chain, Fault> {
-    let rooms = count(lines, "rooms", 1, 4)?;
+    let rooms = count(lines, "rooms", 1, MOST_ROOMS)?;
     let counts = counts_if(lines)?;
-    let boxes = count(lines, "boxes", 0, 8)?;
+    let boxes = count(lines, "boxes", 0, MOST_BOXES)?;
     let boxes = (1..=boxes).map(|index| read_box(lines, index, rooms, counts)).collect::<Result<_, _>>()?;
     Ok(Chain { boxes })
 }

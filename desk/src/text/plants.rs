@@ -4,14 +4,15 @@
 use super::lines::{Fault, Lines};
 use super::shown::Shown;
 use super::values::{band, box_words, side, whole};
-use crate::files::plants::{Bounds, Row, MOST_A, MOST_B, MOST_BAND, MOST_EDGE};
+use crate::files::plants::{Bounds, Row};
+use crate::files::ranges::{most_depth, MOST_A, MOST_B, MOST_BAND, MOST_COUNTS, MOST_EDGE, MOST_LONGEST, MOST_MODES, MOST_Q, MOST_ROOMS};
 use crate::files::Plant;
 
 /// The plant that a text says, behind its first line.
 pub fn read(lines: &mut Lines) -> Result<Plant, Fault> {
-    let rooms = count(lines, "rooms", 1, 4)?;
+    let rooms = count(lines, "rooms", 1, MOST_ROOMS)?;
     let counts = counts_if(lines)?;
-    let modes = count(lines, "modes", 1, 16)?;
+    let modes = count(lines, "modes", 1, MOST_MODES)?;
     let (q, longest, depth) = limits(lines, rooms)?;
     let rooms = (1..=rooms).map(|room| read_room(lines, room, counts)).collect::<Result<Vec<_>, _>>()?;
     let modes = (0..modes).map(|mode| read_mode(lines, mode, rooms.len())).collect::<Result<_, _>>()?;
@@ -77,13 +78,12 @@ pub fn counts_if(lines: &mut Lines) -> Result<Option<i64>, Fault> {
 }
 
 pub const COUNTS: &str = "counts a degree";
-pub const MOST_COUNTS: i64 = 1_000;
 
 /// q, the longest pattern and the depth.
 pub fn limits(lines: &mut Lines, rooms: i64) -> Result<(u64, u64, u64), Fault> {
-    let q = count(lines, "q", 1, 10_000)?;
-    let longest = count(lines, "longest pattern", 1, 6)?;
-    let depth = count(lines, "depth", 0, 6.min(12 / rooms))?;
+    let q = count(lines, "q", 1, MOST_Q)?;
+    let longest = count(lines, "longest pattern", 1, MOST_LONGEST)?;
+    let depth = count(lines, "depth", 0, most_depth(rooms))?;
     Ok((q as u64, longest as u64, depth as u64))
 }
 

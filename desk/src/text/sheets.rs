@@ -1,15 +1,16 @@
 //! A sheet as text. Its edges are shown in degrees, in counts where one count has no decimal of a degree.
 
 use super::lines::{Fault, Line, Lines};
-use super::plants::{bounds, count, limits, show_bounds, show_limits, COUNTS, MOST_COUNTS};
+use super::plants::{bounds, count, limits, show_bounds, show_limits, COUNTS};
 use super::shown::Shown;
 use super::values::{float, float_words, Sign};
+use crate::files::ranges::{MOST_COUNTS, MOST_ROOMS};
 use crate::files::sheets::{Emitter, Room};
 use crate::files::Sheet;
 
 /// The sheet that a text says, behind its first line.
 pub fn read(lines: &mut Lines) -> Result<Sheet, Fault> {
-    let rooms = count(lines, "rooms", 1, 4)?;
+    let rooms = count(lines, "rooms", 1, MOST_ROOMS)?;
     let counts = count(lines, COUNTS, 1, MOST_COUNTS)?;
     let (q, longest, depth) = limits(lines, rooms)?;
     let time = one_float(lines, "sample time", Sign::Above0)?;
