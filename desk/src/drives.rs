@@ -10,7 +10,7 @@ use crate::papers;
 use crate::progress;
 use crate::refusals::Refusal;
 use crate::runs::{allowed, Controller, Draws};
-use std::io::Write;
+use std::io::{IsTerminal, Write};
 
 /// A table or start file that drives a room of a plant.
 struct Drive<'a> {
@@ -37,6 +37,8 @@ pub fn drive(kind: Kind, plant: &str, file: &str, words: &[&str], out: &mut dyn 
     let mut drive = Drive { bytes: &house.bytes, plant: &house.plant, controller, state: State::default() };
     match asked {
         Asked::Readings(readings) => drive.through(&readings, out),
+        // on a terminal the lines themselves show how far it is
+        Asked::Any { count, seed } if std::io::stdout().is_terminal() => drive.any(count, Draws(seed), out),
         Asked::Any { count, seed } => progress::during("driving", || drive.any(count, Draws(seed), out)),
     }
 }

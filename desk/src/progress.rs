@@ -20,11 +20,12 @@ pub fn during<T>(what: &str, work: impl FnOnce() -> T) -> T {
 }
 
 fn watch(what: &str, waiting: Receiver<()>) {
-    for seconds in 1.. {
-        if waiting.recv_timeout(Duration::from_secs(1)) != Err(RecvTimeoutError::Timeout) {
-            break;
-        }
+    let mut seconds = 0;
+    while waiting.recv_timeout(Duration::from_secs(1)) == Err(RecvTimeoutError::Timeout) {
+        seconds += 1;
         eprint!("\r{what}, {seconds} s");
     }
-    eprint!("\r\x1b[K");
+    if seconds > 0 {
+        eprint!("\r\x1b[K");
+    }
 }
