@@ -46,16 +46,19 @@ fn the_readme_s_room() {
     let readme = std::fs::read_to_string(sample_path("../README.md")).unwrap();
     let text = readme_text(&readme, "sheet form 1");
     let folder = Folder::new("readme");
-    let [sheet, plant, table, chain, start] = ["sheet", "plant", "table", "chain", "start"].map(|name| folder.path(name));
+    let [sheet, plant, table, chain, start, page] = ["sheet", "plant", "table", "chain", "start", "page"].map(|name| folder.path(name));
     assert_eq!(run(&["write", &folder.put("text", &text), &sheet]).0, 0);
     assert_eq!(run(&["sheet", &sheet, &plant]).0, 0);
     assert_eq!(run(&["make", &plant, &table]).0, 0);
     assert_eq!(run(&["check", &plant, &table]), (0, "accepted\n".into()));
+    assert_eq!(run(&["picture", &sheet, &table, &page]).0, 0);
+    assert_eq!(run(&["release", &sheet, &table, &page]).0, 0);
     let fault = run(&["write", &folder.put("fault", text.replace("19.5 ..", "19.55 ..")), &sheet]).1;
     assert!(readme.contains(fault.split_once(", ").unwrap().1.trim_end()), "{fault}");
     assert_eq!(run(&["write", &folder.put("cold", readme_text(&readme, "chain form 1")), &chain]).0, 0);
     assert_eq!(run(&["make", "start", &plant, &chain, &start]).0, 0);
     assert_eq!(run(&["check", "start", &plant, &start]), (0, "accepted\n".into()));
+    assert_eq!(run(&["release", &sheet, &start, &page]).0, 0);
 }
 
 #[test]
