@@ -15,7 +15,10 @@ pub fn pictures(accepted: &Accepted) -> String {
     let boxes = accepted.control.boxes(house);
     let chart = Chart { house, boxes: &boxes, samples: accepted.samples, units };
     let table = drawn::picture(house, accepted.control.tables()[0], units);
-    let map = figure(&table, "R cut into tiles, in S. The numbers in a tile are the modes of its pattern, one a sample. Lines and shade say the same without words.");
+    let map = figure(
+        &table,
+        "R cut into tiles, in S. The numbers in a tile are the modes of its pattern, one a sample. Lines and shade say the same without words.",
+    );
     let run = match accepted.control {
         Control::Table(_) => chart.picture(),
         Control::Start(_) => chain::picture(&chart),
@@ -23,7 +26,11 @@ pub fn pictures(accepted: &Accepted) -> String {
     format!(
         "<section>\n<h2>The table</h2>\n{map}</section>\n<section>\n<h2>A run at the edge</h2>\n<p>{}</p>\n{}</section>\n",
         run_words(accepted),
-        figure(&run, "A filled dot is a reading at which a tile is chosen, an open one a reading within a pattern. Shaded: R, and the boxes about it where there are any.")
+        figure(
+            &run,
+            "A filled dot is a reading at which a tile is chosen, an open one a reading within a pattern. Shaded: R, and the boxes about it where there \
+             are any."
+        )
     )
 }
 

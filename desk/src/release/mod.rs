@@ -60,12 +60,13 @@ pub fn accepted(files: &Files, accepted: &Accepted) -> String {
 
 /// The page of a file that is not released: what it could have been, and why it is not that. None of its words may be taken for a release.
 pub fn refused(files: &Files, house: Option<&House>, reasons: &[Reason]) -> String {
-    let reasons: String = reasons
-        .iter()
-        .map(|Reason { kind, refusal, cause }| format!("<p>As a {}: <code>{}</code><br/>{}</p>\n", kind.words(), escape(&refusal.to_string()), escape(cause)))
-        .collect();
+    let reason = |Reason { kind, refusal, cause }: &Reason| {
+        format!("<p>As a {}: <code>{}</code><br/>{}</p>\n", kind.words(), escape(&refusal.to_string()), escape(cause))
+    };
+    let reasons: String = reasons.iter().map(reason).collect();
     let verdict = format!(
-        "<div class=\"verdict refused\"><strong>Refused</strong> by the proved checker.\n{reasons}<p>This page releases nothing. Run no controller with these files.</p></div>\n"
+        "<div class=\"verdict refused\"><strong>Refused</strong> by the proved checker.\n{reasons}<p>This page releases nothing. Run no controller with \
+         these files.</p></div>\n"
     );
     let body = [head(files, "file"), verdict, sums(files, house, if house.is_some() { "refused" } else { "not judged" })];
     whole(&format!("Refused: {}", files.control.name), &body.concat())
