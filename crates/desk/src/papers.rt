@@ -1,15 +1,12 @@
-// Files that the program's arguments name, read whole into a lent buffer and written whole. Relies on os and io. Leaves out what a file says.
+// Files that the program's arguments name, read whole into a lent buffer. Relies on os and io. Leaves out what a file says.
 // What goes wrong is told on standard error: the file's name and why. A buffer is longer than any right file of its kind, by as many bytes as settle
 // what is said of one that goes on behind it; so every file is judged, however long. A start file's lengths may reach as far as they like, so that no number
 // of bytes settles what is said of it: who reads one asks whether it was read whole.
-use figures::texts;
 use libc::STDERR_FILENO;
 ghost use Rattle.io.specs.Counts.{Counts};
 
-// Room for a file of each kind. No sheet has more than 308 bytes and no plant more than 1,183, and a byte more settles any file. No table has more than
-// 30,039; its last number begins at 30,038 at most, and five bytes tell what a number is.
-pub const SHEET: usize = 309;
-
+// Room for a file of each kind. No plant has more than 1,183 bytes, and a byte more settles any file. No table has more than 30,039; its last number
+// begins at 30,038 at most, and five bytes tell what a number is.
 pub const PLANT: usize = 1_184;
 
 pub const TABLE: usize = 30_044;
@@ -93,52 +90,4 @@ pub fn says_start() -> bool {
         && word[2] == b'a'
         && word[3] == b'r'
         && word[4] == b't'
-}
-
-// All of bytes, in a new file `part` that takes the name `path` once it is whole. Where that fails nothing is left behind.
-fn save(path: &[u8], part: &[u8], bytes: &[u8]) -> bool {
-    let fd = os::create(part);
-    if fd < 0 {
-        os::fail(part);
-        return false;
-    }
-    let is_written = io::write_all(fd, bytes);
-    if !is_written {
-        os::fail(part);
-    }
-    libc::close(fd);
-    if is_written {
-        if os::rename(part, path) == 0 {
-            return true;
-        }
-        os::fail(path);
-    }
-    os::unlink(part);
-    false
-}
-
-// The same, `room` lent for the new file's name, which is `path` with ".part" behind it.
-fn save_by(path: &[u8], room: &mut [u8], bytes: &[u8]) -> bool {
-    let past_path = texts::put(room, 0, path);
-    let end = texts::put(room, past_path, b".part");
-    if room.len() < end {
-        io::write_all(STDERR_FILENO, b"argument: too long a name\n");
-        return false;
-    }
-    save(path, &room[..end], bytes)
-}
-
-// The first `length` bytes of buf, as the file that argument i names; answers whether that was done.
-pub fn write(i: usize, buf: &[u8], length: usize) -> bool {
-    if buf.len() < length {
-        return false;
-    }
-    let mut path = io::buffer();
-    let n = os::arg(i, &mut path);
-    if os::errno() != 0 {
-        os::fail(b"argument");
-        return false;
-    }
-    let mut room = io::buffer();
-    save_by(&path[..n], &mut room, &buf[..length])
 }

@@ -1,0 +1,83 @@
+//! A table's file: its tiles, each with its place, box, depth and modes. Relies on the plant that it is for: the boxes are not in the file.
+
+use super::boxes::{self, Side, Sides};
+use super::numbers::Reader;
+use super::plants::{form, Plant};
+
+/// A table's tiles in file order, which is that of the listing.
+#[derive(Clone, Debug, Default, PartialEq, Eq)]
+pub struct Table {
+    pub tiles: Vec<Tile>,
+}
+
+#[derive(Clone, Debug, PartialEq, Eq)]
+pub struct Tile {
+    /// The place of its number in the table's file, or in the start file that holds the table.
+    pub place: usize,
+    pub sides: Sides,
+    /// How many splits are above it.
+    pub depth: u64,
+    pub modes: Vec<u64>,
+}
+
+impl Table {
+    /// The table of a file that the library accepted for this plant.
+    pub fn read(bytes: &[u8], plant: &Plant) -> Option<Table> {
+        let mut table = Table::default();
+        table.follow(&mut Reader::new(bytes), plant, &plant.r())?;
+        Some(table)
+    }
+
+    /// The most modes that a tile has.
+    pub fn longest(&self) -> usize {
+        self.tiles.iter().map(|tile| tile.modes.len()).max().unwrap_or(0)
+    }
+
+    /// The table's numbers in file order, from box `root` on. What was read before the reader ended stays in the table.
+    pub fn follow(&mut self, file: &mut Reader, plant: &Plant, root: &[Side]) -> Option<()> {
+        form(file)?;
+        let rooms = plant.rooms.len();
+        file.number(|| "the table's n".into(), |n| format!("the table is for {}, the plant has {rooms}", counted(n, "room")))?;
+        self.node(file, plant, root, 0)
+    }
+
+    /// A node and all below it.
+    fn node(&mut self, file: &mut Reader, plant: &Plant, sides: &[Side], depth: u64) -> Option<()> {
+        let place = file.place();
+        let children = boxes::split(sides);
+        let node = file.number(
+            || format!("the number of box {}", boxes::words(sides)),
+            |node| node_cause(node, plant, sides, depth),
+        )?;
+        if node == 0 {
+            return children.iter().try_for_each(|child| self.node(file, plant, child, depth + 1));
+        }
+        let modes = (0..node).map(|_| mode(file, plant, sides)).collect::<Option<_>>()?;
+        self.tiles.push(Tile { place, sides: sides.to_vec(), depth, modes });
+        Some(())
+    }
+}
+
+fn mode(file: &mut Reader, plant: &Plant, sides: &[Side]) -> Option<u64> {
+    file.number(
+        || format!("a mode of tile {}", boxes::words(sides)),
+        |mode| format!("tile {} has mode {mode}, the plant's modes are 0 .. {}", boxes::words(sides), plant.modes.len() - 1),
+    )
+}
+
+/// Why a node cannot be: a split that may not be, or a pattern that is too long.
+fn node_cause(node: u64, plant: &Plant, sides: &[Side], depth: u64) -> String {
+    let sides_words = boxes::words(sides);
+    if node > 0 {
+        return format!("box {sides_words} has a pattern of {node} modes, K is {}", plant.longest);
+    }
+    if depth >= plant.depth {
+        return format!("box {sides_words} is split at depth {depth}, D is {}", plant.depth);
+    }
+    format!("box {sides_words} is split, and no side of it has more than one count")
+}
+
+/// A count with its word, in the plural where it is not 1.
+pub fn counted(count: u64, word: &str) -> String {
+    format!("{count} {word}{}", if count == 1 { "" } else { "s" })
+}

@@ -1,0 +1,111 @@
+//! How a pattern looks where no words fit: its first mode by lines, a direction for each of the mode number's four bits, its length by a shade.
+//! Both can be told in grey and in a tile of a few pixels. Relies on `svg`; sixteen modes are all there are. The lines are drawn and no fill of SVG's own,
+//! which takes a browser minutes to print where there are thousands of tiles.
+
+use super::axes::LINE;
+use super::svg::{at, px, wide, Area, Stands, Svg, LETTER, WIDTH};
+use crate::files::{House, Tile};
+use std::collections::BTreeSet;
+use std::fmt::Write;
+
+/// The pixels between two lines of one direction, where a tile has space for two.
+const APART: f64 = 8.0;
+
+/// A tile's shade, which is a class of the style.
+pub fn shade(tile: &Tile) -> String {
+    length_shade(tile.modes.len())
+}
+
+fn length_shade(length: usize) -> String {
+    format!("k{length}")
+}
+
+/// Adds a mode's lines over an area to a path: across for bit 0, upright for bit 1, rising for bit 2, falling for bit 3.
+pub fn lines(path: &mut String, mode: u64, area: Area) {
+    let Area { width, height, .. } = area;
+    let mut line = |x: f64, y: f64, to: String| {
+        let _ = write!(path, "M{} {}{to}", px(area.x + x), px(area.y + y));
+    };
+    if mode & 1 != 0 {
+        spread(height).for_each(|y| line(0.0, y, format!("h{}", px(width))));
+    }
+    if mode & 2 != 0 {
+        spread(width).for_each(|x| line(x, 0.0, format!("v{}", px(height))));
+    }
+    // a slant leaves the left or lower side at its distance along both, and comes in at the upper or right side
+    for distance in spread(width + height).filter(|_| mode & 12 != 0) {
+        let (left, right) = ((distance - height).max(0.0), distance.min(width));
+        let (low, high) = (distance.min(height), (distance - width).max(0.0));
+        if mode & 4 != 0 {
+            line(left, low, format!("l{} {}", px(right - left), px(high - low)));
+        }
+        if mode & 8 != 0 {
+            line(left, height - low, format!("l{} {}", px(right - left), px(low - high)));
+        }
+    }
+}
+
+/// The middles of equal parts of a length, as many as there is space for.
+fn spread(length: f64) -> impl Iterator<Item = f64> {
+    let parts = (length / APART).round().max(1.0);
+    (0..parts as u32).map(move |part| (f64::from(part) + 0.5) * length / parts)
+}
+
+/// What lines and shades say, from a height on; the height behind it.
+pub fn legend(svg: &mut Svg, house: &House, tiles: &[Tile], top: f64) -> f64 {
+    let modes: BTreeSet<u64> = tiles.iter().map(|tile| tile.modes[0]).collect();
+    let lengths: BTreeSet<usize> = tiles.iter().map(|tile| tile.modes.len()).collect();
+    let modes = modes.into_iter().map(|mode| Swatch { mode, length: 1, words: mode_words(house, mode) });
+    let lengths = lengths.into_iter().map(|length| Swatch { mode: 0, length, words: length.to_string() });
+    let below = row(svg, "lines: the first mode", modes.collect(), top);
+    row(svg, "shade: the modes of a pattern", lengths.collect(), below)
+}
+
+/// A first mode and a length with what they are.
+struct Swatch {
+    mode: u64,
+    length: usize,
+    words: String,
+}
+
+/// A row of swatches with their words, going on below where the picture is full.
+fn row(svg: &mut Svg, name: &str, swatches: Vec<Swatch>, top: f64) -> f64 {
+    let left = 24.0;
+    let mut y = top + LINE;
+    svg.words("label quiet", (left, y), Stands::Behind, name);
+    let mut x = left;
+    y += LINE + 4.0;
+    for swatch in swatches {
+        let area = Area { x, y: y - LETTER + 1.0, width: 2.0 * LETTER, height: LETTER + 4.0 };
+        let wide = area.width + 6.0 + wide(&swatch.words, LETTER);
+        if x + wide > WIDTH - left / 2.0 {
+            (x, y) = (left, y + LINE + 6.0);
+        }
+        let area = Area { x, y: y - LETTER + 1.0, ..area };
+        svg.raw(&format!("<rect class=\"key {}\" {}/>", length_shade(swatch.length), at(area)));
+        let mut path = String::new();
+        lines(&mut path, swatch.mode, area);
+        svg.path("line", &path);
+        svg.words("label", (area.x + area.width + 6.0, y + 1.0), Stands::Behind, &swatch.words);
+        x += wide + 18.0;
+    }
+    y + 8.0
+}
+
+/// A mode's number, with what it switches on where a sheet says so.
+pub fn mode_words(house: &House, mode: u64) -> String {
+    let Some(emitters) = emitters(house) else { return mode.to_string() };
+    let on: Vec<String> = emitters.iter().enumerate().filter(|(bit, _)| mode >> bit & 1 == 1).map(|(_, room)| room.to_string()).collect();
+    match on.len() {
+        0 => format!("{mode} none on"),
+        1 => format!("{mode} room {} on", on[0]),
+        _ => format!("{mode} rooms {} on", on.join(", ")),
+    }
+}
+
+/// The rooms that have an emitter, from 1, in the order of the mode's bits.
+pub fn emitters(house: &House) -> Option<Vec<usize>> {
+    use crate::files::sheets::Emitter;
+    let rooms = &house.sheet.as_ref()?.rooms;
+    Some((1..).zip(rooms).filter(|(_, room)| room.emitter != Emitter::None).map(|(number, _)| number).collect())
+}

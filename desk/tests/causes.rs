@@ -1,0 +1,139 @@
+//! Why something was refused: a line for each cause of each row, and a cause for whatever is refused.
+
+mod common;
+
+use common::sample;
+use hoachulim::causes;
+use hoachulim::files::{House, Plant};
+use hoachulim::library::{self, State};
+use hoachulim::refusals::Refusal;
+use side::common::{file, line_13, p_fields, p_prime, two_room_sheet, with, Field, F, P, S, T1, T5, U};
+use side::inputs::{any_tree, damaged, made_table, other_table, plant_fields, random, rounds, sheet_fields, spoiled};
+
+fn of_plant(plant: &[u8]) -> String {
+    causes::plant(plant, library::make(plant).unwrap_err())
+}
+
+fn of_p(index: usize, field: Field) -> String {
+    of_plant(&file(&with(&p_fields(), index, field)))
+}
+
+#[test]
+fn causes_of_plants() {
+    assert_eq!(of_plant(&[]), "1 at byte 0: the form ends early");
+    assert_eq!(of_plant(&[0x81, 0]), "1 at byte 0: the form is not in shortest form: its last byte is 00");
+    assert_eq!(of_plant(&[1, 1, 2, 0x80, 0x80, 0x80, 0x80, 0x80, 1]), "1 at byte 3: q is over 5 bytes");
+    assert_eq!(of_p(0, U(2)), "2 at byte 0: the form is 2, wanted 1");
+    assert_eq!(of_p(1, U(5)), "3 at byte 1: n is 5, wanted 1 .. 4");
+    assert_eq!(of_p(2, U(17)), "3 at byte 2: N is 17, wanted 1 .. 16");
+    assert_eq!(of_p(5, U(7)), "3 at byte 5: D is 7, wanted 0 .. 6");
+    assert_eq!(of_plant(&[1, 4, 1, 1, 1, 4]), "3 at byte 5: D is 4, wanted 0 .. 3, as n·D is at most 12");
+    assert_eq!(of_p(6, S(-1_000_001)), "3 at byte 6: R of room 1, lo is -1000001, wanted -1000000 .. 1000000");
+    assert_eq!(of_p(7, S(194)), "3 at byte 8: R of room 1, hi is 194, wanted 195, which is its lo, .. 1000000");
+    assert_eq!(of_p(13, S(10_000_000_001)), "3 at byte 17: b of mode 0, room 1, is 10000000001, wanted -10000000000 .. 10000000000");
+    assert_eq!(of_plant(&[&P[..], &[0, 0]].concat()), "3 at byte 22: 2 bytes left over behind the last number");
+    assert_eq!(of_p(8, S(196)), "4 in room 1: R is 195 .. 225, S is 196 .. 230");
+    assert_eq!(of_p(11, S(3)), "5 in room 1: w is -5 .. 3, which is 8 wide, wanted at least q - 1 = 9");
+    assert!(of_p(5, U(0)).starts_with("9: some box that can be split no further has no pattern that works"));
+}
+
+fn of_sheet(sheet: &[u8]) -> String {
+    causes::sheet(sheet, library::sheet(sheet).unwrap_err())
+}
+
+#[test]
+fn causes_of_sheets() {
+    let of = |index, field| of_sheet(&file(&with(&line_13(), index, field)));
+    assert_eq!(of(2, U(0)), "3 at byte 2: r, counts a degree, is 0, wanted 1 .. 1000");
+    assert_eq!(of(12, F(0.0)), "13 at byte 16: the sample time is 0.0, wanted above 0");
+    assert_eq!(of(13, F(f64::NAN)), "13 at byte 24: the outside temperature is NaN, wanted a finite float");
+    assert_eq!(of(14, F(-1.0)), "13 at byte 32: the loss of room 1 is -1.0, wanted a finite float not below 0");
+    assert_eq!(of(15, U(3)), "3 at byte 40: the emitter number of room 1 is 3, wanted 0 (none), 1 (heater) or 2 (steady)");
+    assert_eq!(of_sheet(&file(&line_13()[..17])), "1 at byte 49: the water temperature of room 1's heater ends early: a float has 8 bytes, 0 are left");
+    let two = |index, field| of_sheet(&file(&with(&two_room_sheet(), index, field)));
+    assert_eq!(two(21, F(-2.0)), "13 at byte 50: the exchange of room 1 with room 2 is -2.0, wanted a finite float not below 0");
+    assert_eq!(two(21, F(1e9)), "14 at number 18 of the plant: A of mode 0, room 1, column 1, comes to about -4.000e9, wanted -20000 .. 20000");
+    assert_eq!(two(19, F(1e12)), "14 at number 20 of the plant: b of mode 0, room 1, comes to about 1.000e13, wanted -10000000000 .. 10000000000");
+    // a heater that is on fades: the diagonal of its mode alone is out
+    assert_eq!(two(23, F(1e9)), "14 at number 24 of the plant: A of mode 1, room 1, column 1, comes to about -4.000e9, wanted -20000 .. 20000");
+    assert_eq!(
+        two(14, S(-1_000_000_000)),
+        "14 at number 14 of the plant: w lo of room 1, widened by 232, comes to -1000000232, wanted -1000000000 .. 1000000000"
+    );
+}
+
+fn of_table(plant: &[u8], table: &[u8]) -> String {
+    causes::table(&Plant::read(plant).unwrap(), table, library::check(plant, table).unwrap_err())
+}
+
+#[test]
+fn causes_of_tables() {
+    assert_eq!(of_table(&sample("house.plant"), &T1), "6 at byte 1: the table is for 1 room, the plant has 2");
+    assert_eq!(of_table(&P, &[1, 1, 3]), "6 at byte 2: box 195 .. 225 has a pattern of 3 modes, K is 2");
+    assert_eq!(of_table(&P, &[1, 1, 1, 2]), "6 at byte 3: tile 195 .. 225 has mode 2, the plant's modes are 0 .. 1");
+    assert_eq!(of_table(&P, &[1, 1, 0, 0]), "6 at byte 3: box 195 .. 210 is split at depth 1, D is 1");
+    let one_count = file(&with(&with(&p_fields(), 6, S(200)), 7, S(200)));
+    assert_eq!(of_table(&one_count, &[1, 1, 0]), "6 at byte 2: box 200 .. 200 is split, and no side of it has more than one count");
+    assert_eq!(of_table(&P, &[&T1[..], &[0]].concat()), "6 at byte 7: 1 byte left over behind the last number");
+    assert_eq!(of_table(&P, &[1, 1, 0, 1]), "1 at byte 4: a mode of tile 195 .. 210 ends early");
+    assert_eq!(of_table(&P, &[2]), "2 at byte 0: the form is 2, wanted 1");
+    assert_eq!(of_table(&P, &[1, 1, 1, 1]), "7 at byte 2, step 1: tile 195 .. 225 with modes 1: room 1 comes to 205 .. 232, S is 190 .. 230");
+    assert_eq!(of_table(&p_prime(), &[1, 1, 1, 1]), "8 at byte 2, step 1: tile 195 .. 225 with modes 1: room 1 comes to 205 .. 232, R is 195 .. 225");
+    assert_eq!(of_table(&P, &T5), "7 at byte 2, step 1: tile 195 .. 225 with modes 0 1: room 1 comes to 185 .. 212, S is 190 .. 230");
+}
+
+#[test]
+fn causes_of_readings() {
+    let plant = Plant::read(&p_prime()).unwrap();
+    let reading = |state: State, x| {
+        let refusal = library::control(&p_prime(), &T5, state, [x, 0, 0, 0]).unwrap_err();
+        causes::reading(&plant, &plant.r(), state, [x, 0, 0, 0], refusal)
+    };
+    assert_eq!(reading(State::default(), 194), "11 in room 1: 194 counts, idle, wanted 195 .. 225");
+    assert_eq!(reading(State { index: 0, place: 4, left: 1 }, 241), "11 in room 1: 241 counts, running, S is 180 .. 240");
+}
+
+/// A cause that begins with its number and says something.
+fn says(refusal: Refusal, cause: &str) {
+    assert!(cause.starts_with(&format!("{}", refusal.number)), "{refusal}: {cause}");
+    assert!(!cause.contains("cannot be read"), "{refusal}: {cause}");
+}
+
+#[test]
+fn whatever_is_refused_has_a_cause() {
+    let mut random = random(25);
+    let mut causes_of_plants = |bytes: &[u8]| {
+        if let Err(refusal) = library::plant(bytes) {
+            says(refusal, &causes::plant(bytes, refusal));
+        }
+        if let Err(refusal) = library::sheet(bytes) {
+            says(refusal, &causes::sheet(bytes, refusal));
+        }
+    };
+    for _ in 0..rounds(60) {
+        for fields in [plant_fields(&mut random), sheet_fields(&mut random)] {
+            causes_of_plants(&file(&fields));
+            spoiled(&fields).iter().for_each(|(bytes, _)| causes_of_plants(bytes));
+            damaged(&mut random, &file(&fields), &mut causes_of_plants);
+        }
+    }
+}
+
+#[test]
+fn whatever_table_is_refused_has_a_cause() {
+    let mut random = random(26);
+    for _ in 0..rounds(300) {
+        let house = House::of(file(&plant_fields(&mut random)), None);
+        let n = house.plant.rooms.len() as u8;
+        let judged = |table: &[u8]| {
+            if let Err(refusal) = library::check(&house.bytes, table) {
+                says(refusal, &causes::table(&house.plant, table, refusal));
+            }
+        };
+        (0..20).for_each(|_| judged(&any_tree(&mut random, n)));
+        let other = other_table(&mut random, &second::plant::read_plant(&house.bytes).unwrap());
+        for table in made_table(&house.bytes).into_iter().chain(other).filter(|table| table.len() < 500) {
+            damaged(&mut random, &table, judged);
+        }
+    }
+}
