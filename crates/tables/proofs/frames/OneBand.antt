@@ -1,7 +1,7 @@
 -- A plant that has one band for all modes: its bands in an array by mode are that band, so that its own frame's steps are its own; and they are sound.
 -- Assumes nothing.
 use Prim.Native.Nat.{ℕ, zero, suc, _+_, _*_, _%_, _≤_, _<_}
-use mathlib.Core.Path.{_≡_, refl, sym, ap, _∙_}
+use mathlib.Core.Path.{_≡_, refl, ap, _∙_}
 use mathlib.Core.Bool.{Bool, true, false, cond}
 use mathlib.Core.List.{List}
 use native.Mathlib.Omega.{arith}
@@ -12,7 +12,7 @@ use lib.IntN.{ℤ, pos, _-ℤ_}
 use lib.Signed.{_≤ℤ_}
 use lib.ListN.{length, set, length-set}
 use borrow.Author.Tests.{ltb-true}
-use Rattle.laws.specs.Lists.{at, tab}
+use Rattle.laws.specs.Lists.{at}
 use Rattle.laws.specs.Tabs.{tab-same, at-stored}
 use Rattle.meaning.specs.declared.Plant.{Plant}
 use Rattle.meaning.specs.Boxes.{Side}
@@ -29,9 +29,6 @@ use Rattle.tables.proofs.levels.Laws.{at-other}
 
 abbrev pub Paired : ℕ → List ℤ → List ℤ → List ℤ → ℕ → Type 0
 Paired n lo hi bands m = (k : ℕ) → k < m → (at bands (k * 2) ≡ at lo (k % n)) × (at bands (k * 2 + 1) ≡ at hi (k % n))
-
-pub paired-none : (n : ℕ) (lo hi bands : List ℤ) → Paired n lo hi bands 0
-paired-none n lo hi bands k h = absurd (omega arith)
 
 pub paired-more : (n : ℕ) (lo hi bands : List ℤ) (m : ℕ) (x y : ℤ) → m * 2 + 1 < length bands → x ≡ at lo (m % n) → y ≡ at hi (m % n) → Paired n lo hi bands m
     → Paired n lo hi (set (set bands (m * 2) x) (m * 2 + 1) y) (m + 1)

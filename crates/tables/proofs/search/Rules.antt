@@ -1,6 +1,6 @@
 -- What the search is lent of a frame, and what it seeks, are the frame's own: tests of sums are the image in S and in the goal, what is made of them is
 -- the image, and the first pattern by them is the defined one. The only page of the search that speaks of a frame and its rules. Assumes nothing.
-use Prim.Native.Nat.{ℕ, zero, suc, _+_, _<_}
+use Prim.Native.Nat.{ℕ, zero, suc, _<_}
 use mathlib.Core.Path.{_≡_, refl, sym, ap, _∙_}
 use mathlib.Core.Bool.{Bool, true, false}
 use mathlib.Core.List.{List, []}

@@ -1,13 +1,13 @@
 -- `frames::bands_of`: the pairs that are done are the band's. Assumes nothing.
-use Prim.Native.Nat.{ℕ, _+_, _-_, _*_, _%_, _≤_, _<_}
-use mathlib.Core.Path.{_≡_, refl, _∙_}
+use Prim.Native.Nat.{_-_, _%_, _≤_, _<_}
+use mathlib.Core.Path.{_≡_, refl}
 use native.Mathlib.Omega.{arith}
 use lib.ListN.{length, length-set}
 use mir.Facts.{toZ-ofZ}
 use Rattle.laws.specs.Integers.{ok64}
 use Rattle.laws.specs.Lists.{at}
 use Rattle.tables.specs.Images.{mostBands}
-use Rattle.tables.proofs.frames.OneBand.{Paired, paired-none, paired-more, few-rem}
+use Rattle.tables.proofs.frames.OneBand.{Paired, paired-more, few-rem}
 use Rattle.tables.proofs.frames.bands_of.Statement.{statement}
 use Rattle.tables.proofs.frames.bands_of.Tie as tie
 

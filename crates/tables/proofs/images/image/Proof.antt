@@ -41,6 +41,10 @@ module _ (s : tie.Start Inv-loop μ-loop) (i : ℕ) (h : i < s .args .n) where
     abbrev high : Ex
     high = var (at (now (s .args .bands)) (place + 1)) bandLimit (band-small (s .args .n) (now (s .args .bands)) (s .args .u) i place e band .high)
 
+-- the band that is read is that of the mode
+placed : (c : tie.After-band Inv-loop μ-loop) → c .band .result ≡ bandStart (c .before .before .before .args .n) (c .before .before .before .args .u) (c .before .before .loop .i)
+placed c = c .band .ensures .0
+
 loop-holds : tie.Need-loop-holds Inv-loop μ-loop
 unfolding tab
 loop-holds c = (omega arith, refl, refl, refl)
@@ -80,8 +84,8 @@ image-side-requires c κs =
     let s = c .before .before .before .before .before in
     let i = c .before .before .before .before .loop .i in
     let h = c .before .before .before .loop-test .taken in
-    let b = c .before .before .band in
-    ((s .pre .0 .least, s .pre .0 .most, under (low s i h (b .result) (b .ensures .0)) bandLimit tt, under (high s i h (b .result) (b .ensures .0)) bandLimit tt), (row s i h, s .pre .1))
+    let b = c .before .before in
+    ((s .pre .0 .least, s .pre .0 .most, under (low s i h (b .band .result) (placed b)) bandLimit tt, under (high s i h (b .band .result) (placed b)) bandLimit tt), (row s i h, s .pre .1))
 
 mul-least : tie.Need-mul-least Inv-loop μ-loop
 mul-least c = omega arith
@@ -107,9 +111,8 @@ loop-again c =
     let l = c .before .before .before .before .before .before .before .loop in
     let s = c .before .before .before .before .before .before .before .before in
     let h : l .i < s .args .n = omega arith in
-    let b = c .before .before .before .before .before .band in
-    let place = b .ensures .0 in
-    let g = rw (exact (low s (l .i) h (b .result) place) tt, exact (high s (l .i) h (b .result) place) tt, place) at (e .ensures) in (
+    let b = c .before .before .before .before .before in
+    let g = rw (exact (low s (l .i) h (b .band .result) (placed b)) tt, exact (high s (l .i) h (b .band .result) (placed b)) tt, placed b) at (e .ensures) in (
       omega arith,
       simp length-set (l .inv .1),
       simp length-set (l .inv .2),

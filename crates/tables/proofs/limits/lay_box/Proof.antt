@@ -1,12 +1,12 @@
 -- `limits::lay_box`: the sides that are done are the limits of their dimensions. Assumes nothing.
-use Prim.Native.Nat.{ℕ, _+_, _-_, _≤_, _<_}
-use mathlib.Core.Path.{_≡_, refl, ap, _∙_}
+use Prim.Native.Nat.{ℕ, _-_, _≤_, _<_}
+use mathlib.Core.Path.{_≡_, ap, _∙_}
 use native.Mathlib.Omega.{arith}
 use denote.Ref.{now}
 use Rattle.meaning.specs.Boxes.{Side, side, sideAt}
 use Rattle.meaning.specs.Plants.{edgeLimit, bandLimit}
 use Rattle.promises.specs.files.Sound.{Bounded}
-use Rattle.tables.specs.Images.{bandIn}
+use Rattle.tables.specs.Images.{bandStart, bandIn}
 use Rattle.tables.specs.Limits.{limitSide, limitAt}
 use Rattle.tables.proofs.boxes.Laws.{small-side}
 use Rattle.tables.proofs.images.Laws.{bandHere, band-here, band-small}
@@ -32,14 +32,18 @@ module _ (c : tie.After-band Inv-loop μ-loop) where
   few : index < 4
   few = let h = c .before .loop-test .taken in let n = from .pre .0 .0 in omega arith
 
+  -- the band is that of the mode
+  placed : c .band .result ≡ bandStart (from .args .n) (from .args .u) index
+  placed = c .band .ensures .0
+
   abbrev band : Side
-  band = let a = from .args in bandHere (a .n) (now (a .bands)) (a .u) index (c .band .result) (c .band .ensures .0)
+  band = let a = from .args in bandHere (a .n) (now (a .bands)) (a .u) index (c .band .result) placed
 
   band-is : band ≡ bandIn (from .args .n) (now (from .args .bands)) (from .args .u) index
-  band-is = let a = from .args in band-here (a .n) (now (a .bands)) (a .u) index (c .band .result) (c .band .ensures .0)
+  band-is = let a = from .args in band-here (a .n) (now (a .bands)) (a .u) index (c .band .result) placed
 
   small-band : Bounded bandLimit band
-  small-band = let a = from .args in band-small (a .n) (now (a .bands)) (a .u) index (c .band .result) (c .band .ensures .0) (from .pre .0 .2 index (c .before .loop-test .taken))
+  small-band = let a = from .args in band-small (a .n) (now (a .bands)) (a .u) index (c .band .result) placed (from .pre .0 .2 index (c .before .loop-test .taken))
 
   abbrev edge : Side
   edge = sideAt (from .args .t5 .lo) (from .args .t5 .hi) index

@@ -10,7 +10,7 @@ use Rattle.laws.specs.Expressions.{Ex, var, _⊕_, need, exact, under}
 use Rattle.meaning.specs.Boxes.{Side, sideAt}
 use Rattle.meaning.specs.Plants.{bandLimit}
 use Rattle.promises.specs.files.Sound.{Bounded}
-use Rattle.tables.specs.Images.{sumLimit, BandSound}
+use Rattle.tables.specs.Images.{sumLimit, bandStart, BandSound}
 use Rattle.tables.specs.Limits.{addLimit, divided, dividedIn}
 use Rattle.tables.proofs.images.Laws.{bandHere, band-here, band-small}
 use Rattle.tables.proofs.levels.Laws.{FilledTo, filled-none, filled-more, filled-box}
@@ -42,8 +42,12 @@ module _ (p : tie.After-band Inv-loop μ-loop) where
   abbrev round : tie.In-loop Inv-loop μ-loop
   round = p .before .before .before
 
-  small : Bounded bandLimit (bandHere (from round .args .n) (now (from round .args .bands)) (from round .args .u) (index round) (p .band .result) (p .band .ensures .0))
-  small = let a = from round .args in band-small (a .n) (now (a .bands)) (a .u) (index round) (p .band .result) (p .band .ensures .0) (band round)
+  -- the band is that of the mode
+  placed : p .band .result ≡ bandStart (from round .args .n) (from round .args .u) (index round)
+  placed = p .band .ensures .0
+
+  small : Bounded bandLimit (bandHere (from round .args .n) (now (from round .args .bands)) (from round .args .u) (index round) (p .band .result) placed)
+  small = let a = from round .args in band-small (a .n) (now (a .bands)) (a .u) (index round) (p .band .result) placed (band round)
 
   abbrev low : Ex
   low = let s = from round .args in var (at (now (s .slo)) (index round)) addLimit (from round .pre .1 .0 (index round) (round .loop-test .taken) .0) ⊕ var (at (now (s .bands)) (p .band .result)) bandLimit (small .low)
@@ -116,7 +120,7 @@ loop-again c =
     let y = c .before .before .floor in
     let lo = toZ-ofZ (ok64 (x .result) (x .ok)) ∙ (rw (exact (low p) tt) at (x .ensures)) in
     let hi = toZ-ofZ (ok64 (y .result) (y .ok)) ∙ (rw (exact (high p) tt) at (y .ensures)) in
-    (omega arith, filled-more (l .inv .1) _ (few t) (omega (arith, from t .pre .1 .1, from t .pre .1 .2)) (rw (lo, hi) (ap (λ (w : Side). divided (a .q) w (sideAt (now (a .slo)) (now (a .shi)) (l .i))) (band-here (a .n) (now (a .bands)) (a .u) (l .i) (p .band .result) (p .band .ensures .0)))) (c .put-side .ensures))
+    (omega arith, filled-more (l .inv .1) _ (few t) (omega (arith, from t .pre .1 .1, from t .pre .1 .2)) (rw (lo, hi) (ap (λ (w : Side). divided (a .q) w (sideAt (now (a .slo)) (now (a .shi)) (l .i))) (band-here (a .n) (now (a .bands)) (a .u) (l .i) (p .band .result) (placed p)))) (c .put-side .ensures))
 
 returns : tie.Need-returns Inv-loop μ-loop
 returns c =
