@@ -1,6 +1,6 @@
--- A frame: what a table is made, checked and run by, its small numbers by value and its coefficients lent; its rules, and what is asked of it, which
+-- A frame: what a table is made, checked and run by, its small numbers by value, its bands and its coefficients lent; its rules, and what is asked of it, which
 -- a judged plant's own frame has. Definitions alone.
-use Prim.Native.Nat.{ℕ, _*_, _≤_, _<_}
+use Prim.Native.Nat.{ℕ, _+_, _*_, _%_, _≤_, _<_}
 use mathlib.Core.Path.{_≡_}
 use mathlib.Core.Bool.{true}
 use mathlib.Core.List.{List, [], _∷_}
@@ -11,14 +11,14 @@ use Rattle.laws.specs.Lists.{at}
 use Rattle.meaning.specs.declared.Plant.{Plant}
 use Rattle.meaning.specs.Boxes.{within}
 use Rattle.meaning.specs.Images.{Step}
-use Rattle.meaning.specs.Plants.{edgeLimit, bandLimit, rowStart}
+use Rattle.meaning.specs.Plants.{edgeLimit, rowStart}
 use Rattle.meaning.specs.Rules.{Rules}
 use Rattle.meaning.specs.Tables.{rulesFrom}
 use Rattle.tables.specs.declared.boxes.Bx.{Bx}
 use Rattle.tables.specs.declared.frames.Frame.{Frame}
 use Rattle.tables.specs.declared.frames.Counts.{Counts}
 use Rattle.tables.specs.Boxes.{boxOf, Small}
-use Rattle.tables.specs.Images.{stepFrom, RowSound}
+use Rattle.tables.specs.Images.{bandIn, stepFrom, RowSound, BandSound}
 
 abbrev pub boxFrom : List ℤ → List ℤ → Bx
 boxFrom lo hi = record { lo = lo; hi = hi }
@@ -34,15 +34,18 @@ frameOf p = record {
   root = boxFrom (p .rlo) (p .rhi);
   goal = boxFrom (p .rlo) (p .rhi);
   safe = boxFrom (p .slo) (p .shi);
-  band = boxFrom (p .wlo) (p .whi);
 }
+
+-- one band for every mode: lo and hi by dimension, again and again
+abbrev pub OneBand : ℕ → List ℤ → List ℤ → List ℤ → Type 0
+OneBand n lo hi bands = (k : ℕ) → k < 64 → (at bands (k * 2) ≡ at lo (k % n)) × (at bands (k * 2 + 1) ≡ at hi (k % n))
 
 -- a frame taken apart: its numbers, and the edges of its boxes, lows and highs of each
 abbrev pub countsOf : Frame → Counts
 countsOf f = record { n = f .n; modes = f .modes; q = f .q; k = f .k; d = f .d }
 
 abbrev pub edgesOf : Frame → List (List ℤ)
-edgesOf f = f .root .lo ∷ f .root .hi ∷ f .goal .lo ∷ f .goal .hi ∷ f .safe .lo ∷ f .safe .hi ∷ f .band .lo ∷ f .band .hi ∷ []
+edgesOf f = f .root .lo ∷ f .root .hi ∷ f .goal .lo ∷ f .goal .hi ∷ f .safe .lo ∷ f .safe .hi ∷ []
 
 -- and put together again
 abbrev pub frameFrom : Counts → List (List ℤ) → Frame
@@ -55,17 +58,16 @@ frameFrom c edges = record {
   root = boxFrom (getD edges 0 []) (getD edges 1 []);
   goal = boxFrom (getD edges 2 []) (getD edges 3 []);
   safe = boxFrom (getD edges 4 []) (getD edges 5 []);
-  band = boxFrom (getD edges 6 []) (getD edges 7 []);
 }
 
 -- what mode u does
-abbrev pub stepIn : Frame → List ℤ → ℕ → Step
-stepIn f coef u = stepFrom (f .n) (f .q) (f .band .lo) (f .band .hi) coef u
+abbrev pub stepIn : Frame → List ℤ → List ℤ → ℕ → Step
+stepIn f bands coef u = stepFrom (f .n) (f .q) bands coef u
 
-abbrev pub rulesIn : Frame → List ℤ → Rules
-rulesIn f coef = rulesFrom (f .n) (f .modes) (f .k) (f .d) (boxOf (f .n) (f .root)) (boxOf (f .n) (f .goal)) (boxOf (f .n) (f .safe)) (stepIn f coef)
+abbrev pub rulesIn : Frame → List ℤ → List ℤ → Rules
+rulesIn f bands coef = rulesFrom (f .n) (f .modes) (f .k) (f .d) (boxOf (f .n) (f .root)) (boxOf (f .n) (f .goal)) (boxOf (f .n) (f .safe)) (stepIn f bands coef)
 
-pub record FrameSound (f : Frame) (coef : List ℤ) : Type 0 where
+pub record FrameSound (f : Frame) (bands coef : List ℤ) : Type 0 where
   pub some : 1 ≤ f .n
   pub rooms : f .n ≤ 4
   pub longest : f .k ≤ 6
@@ -77,7 +79,7 @@ pub record FrameSound (f : Frame) (coef : List ℤ) : Type 0 where
   pub root : Small edgeLimit (boxOf (f .n) (f .root))
   pub goal : Small edgeLimit (boxOf (f .n) (f .goal))
   pub safe : Small edgeLimit (boxOf (f .n) (f .safe))
-  pub band : Small bandLimit (boxOf (f .n) (f .band))
   pub in-safe : within (boxOf (f .n) (f .goal)) (boxOf (f .n) (f .safe)) ≡ true
-  pub wide : (i : ℕ) → i < f .n → (pos (f .q) -ℤ pos 1) ≤ℤ (at (f .band .hi) i -ℤ at (f .band .lo) i)
+  pub band : (u i : ℕ) → u < f .modes → i < f .n → BandSound (f .n) bands u i
+  pub wide : (u i : ℕ) → u < f .modes → i < f .n → (pos (f .q) -ℤ pos 1) ≤ℤ (bandIn (f .n) bands u i .hi -ℤ bandIn (f .n) bands u i .lo)
   pub rows : (u i : ℕ) → u < f .modes → i < f .n → RowSound (f .n) coef (rowStart (f .n) u i)

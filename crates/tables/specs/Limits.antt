@@ -1,7 +1,7 @@
 -- Limits: where the sums of a row over a box have to lie for the side of the image to lie in a given side, so that no division is needed to
--- tell it; the array in which the search is lent them, with a mark for each mode whose last row is that of the mode before it; and what the
+-- tell it; the array in which the search is lent them, mode by mode, with a mark where a mode's last row is that of the mode before it; and what the
 -- search asks of all that it is lent. Definitions alone.
-use Prim.Native.Nat.{ℕ, _+_, _-_, _≤_, _<_}
+use Prim.Native.Nat.{ℕ, _+_, _-_, _*_, _≤_, _<_}
 use mathlib.Core.Path.{_≡_}
 use mathlib.Core.Bool.{Bool, true}
 use mathlib.Core.List.{List, []}
@@ -12,12 +12,12 @@ use Rattle.laws.specs.Lists.{at, tab, all}
 use Rattle.laws.specs.Division.{floorZ, ceilZ}
 use Rattle.meaning.specs.Boxes.{Side, side, sideAt, covers}
 use Rattle.meaning.specs.Images.{leastOf, greatestOf, extreme}
-use Rattle.meaning.specs.Plants.{edgeLimit, bandLimit, rowStart}
+use Rattle.meaning.specs.Plants.{edgeLimit, rowStart}
 use Rattle.tables.specs.declared.frames.Frame.{Frame}
 use Rattle.tables.specs.Boxes.{Small}
-use Rattle.tables.specs.Images.{entriesOf, RowSound}
+use Rattle.tables.specs.Images.{entriesOf, bandIn, RowSound, BandSound}
 use Rattle.tables.specs.Frames.{FrameSound}
-use Rattle.tables.specs.Levels.{sideIn, boxIn}
+use Rattle.tables.specs.Levels.{sideIn}
 
 -- ceil(v / q) ≥ lo exactly when v ≥ q·(lo − 1) + 1, floor(v / q) ≤ hi exactly when v ≤ q·(hi + 1) − 1; v is a sum with an end of the band w
 abbrev pub limitSide : ℕ → Side → Side → Side
@@ -31,35 +31,46 @@ sumSide n coef start b = side (extreme leastOf (entriesOf n coef start) b +ℤ a
 abbrev pub divided : ℕ → Side → Side → Side
 divided q w s = side (ceilZ (s .lo +ℤ w .lo) q) (floorZ (s .hi +ℤ w .hi) q)
 
--- ---- three boxes in the front of one array: the limits of S, those of the goal, and the band; behind them the marks of the modes
+-- ---- one array, mode by mode: two boxes, the limits of S and those of the goal, and the mode's mark
 
-abbrev pub safeAt : ℕ
-safeAt = 0
-
-abbrev pub goalAt : ℕ
-goalAt = 8
-
-abbrev pub bandAt : ℕ
-bandAt = 16
-
-abbrev pub marksAt : ℕ
-marksAt = 24
-
--- as many modes as there may be
+-- as many modes as there may be, the numbers of a mode, and those of all
 abbrev pub mostModes : ℕ
 mostModes = 16
 
-pub record Laid (n q : ℕ) (goal safe band : ℕ → Side) (limits : List ℤ) : Type 0 where
-  pub in-safe : (i : ℕ) → i < n → sideIn limits safeAt i ≡ limitSide q (band i) (safe i)
-  pub in-goal : (i : ℕ) → i < n → sideIn limits goalAt i ≡ limitSide q (band i) (goal i)
-  pub in-band : (i : ℕ) → i < n → sideIn limits bandAt i ≡ band i
+abbrev pub modeSize : ℕ
+modeSize = 17
+
+abbrev pub mostLimits : ℕ
+mostLimits = 272
+
+abbrev pub safeAt : ℕ → ℕ
+safeAt u = modeSize * u
+
+abbrev pub goalAt : ℕ → ℕ
+goalAt u = modeSize * u + 8
+
+abbrev pub markAt : ℕ → ℕ
+markAt u = modeSize * u + 16
+
+-- side i of the limits of a box lo, hi under mode u
+abbrev pub limitAt : ℕ → ℕ → List ℤ → ℕ → List ℤ → List ℤ → ℕ → Side
+limitAt n q bands u lo hi i = limitSide q (bandIn n bands u i) (sideAt lo hi i)
+
+-- of one mode
+pub record LaidAt (n q : ℕ) (goal safe : ℕ → Side) (bands limits : List ℤ) (u : ℕ) : Type 0 where
+  pub in-safe : (i : ℕ) → i < n → sideIn limits (safeAt u) i ≡ limitSide q (bandIn n bands u i) (safe i)
+  pub in-goal : (i : ℕ) → i < n → sideIn limits (goalAt u) i ≡ limitSide q (bandIn n bands u i) (goal i)
+
+-- of so many
+abbrev pub Laid : ℕ → ℕ → ℕ → (ℕ → Side) → (ℕ → Side) → List ℤ → List ℤ → Type 0
+Laid n modes q goal safe bands limits = (u : ℕ) → u < modes → LaidAt n q goal safe bands limits u
 
 -- the entries of the last row of mode u, and a mark: 0, unless mode u has those of the mode before it
 abbrev pub lastEntries : ℕ → List ℤ → ℕ → List ℤ
 lastEntries n coef u = entriesOf n coef (rowStart n u (n - 1))
 
 abbrev pub Marked : ℕ → ℕ → List ℤ → List ℤ → Type 0
-Marked n modes coef limits = (u : ℕ) → u < modes → (at limits (marksAt + u) ≡ pos 0 → ⊥) → (1 ≤ u) × (lastEntries n coef (u - 1) ≡ lastEntries n coef u)
+Marked n modes coef limits = (u : ℕ) → u < modes → (at limits (markAt u) ≡ pos 0 → ⊥) → (1 ≤ u) × (lastEntries n coef (u - 1) ≡ lastEntries n coef u)
 
 -- ---- tests of sums, and what the sums are divided to
 
@@ -74,11 +85,11 @@ abbrev pub covered : ℕ → List ℤ → List ℤ → ℕ → ℕ → List Side
 covered n coef limits base u b = all (tab (coveredAt n coef limits base u b) n 0)
 
 abbrev pub dividedAt : ℕ → ℕ → List ℤ → List ℤ → ℕ → List Side → ℕ → Side
-dividedAt n q coef limits u b i = divided q (sideIn limits bandAt i) (sumsAt n coef u b i)
+dividedAt n q bands coef u b i = divided q (bandIn n bands u i) (sumsAt n coef u b i)
 
--- what two arrays hold of sums, divided
-abbrev pub dividedIn : ℕ → List ℤ → List ℤ → List ℤ → ℕ → Side
-dividedIn q limits lo hi i = divided q (sideIn limits bandAt i) (sideAt lo hi i)
+-- what two arrays hold of sums under mode u, divided
+abbrev pub dividedIn : ℕ → ℕ → List ℤ → ℕ → List ℤ → List ℤ → ℕ → Side
+dividedIn n q bands u lo hi i = divided q (bandIn n bands u i) (sideAt lo hi i)
 
 -- the first n of two arrays lie within ±k
 abbrev pub Within : ℕ → ℕ → List ℤ → List ℤ → Type 0
@@ -86,13 +97,13 @@ Within k n lo hi = (i : ℕ) → i < n → (natAbs (at lo i) ≤ k) × (natAbs (
 
 -- the search's own: an image that stays in S, one that lands in the goal, and the image
 abbrev pub staysLent : ℕ → List ℤ → List ℤ → ℕ → List Side → Bool
-staysLent n coef limits u b = covered n coef limits safeAt u b
+staysLent n coef limits u b = covered n coef limits (safeAt u) u b
 
 abbrev pub landsLent : ℕ → List ℤ → List ℤ → ℕ → List Side → Bool
-landsLent n coef limits u b = covered n coef limits goalAt u b
+landsLent n coef limits u b = covered n coef limits (goalAt u) u b
 
 abbrev pub imageLent : ℕ → ℕ → List ℤ → List ℤ → ℕ → List Side → List Side
-imageLent n q coef limits u b = tab (dividedAt n q coef limits u b) n 0
+imageLent n q bands coef u b = tab (dividedAt n q bands coef u b) n 0
 
 -- the rest of a pattern behind a last mode: none is left, where the image lands
 abbrev pub landing : ℕ → List ℤ → List ℤ → List Side → ℕ → Option (List ℕ)
@@ -104,24 +115,28 @@ landing n coef limits b u = guard (landsLent n coef limits u b) none λ _. some 
 abbrev pub RowsSound : ℕ → List ℤ → ℕ → Type 0
 RowsSound n coef u = (i : ℕ) → i < n → RowSound n coef (rowStart n u i)
 
+-- and each of its bands in theirs
+abbrev pub BandsSound : ℕ → List ℤ → ℕ → Type 0
+BandsSound n bands u = (i : ℕ) → i < n → BandSound n bands u i
+
 -- an offset more than four terms
 abbrev pub addLimit : ℕ
 addLimit = 90_000_000_000
 
 -- of all that the search is lent; an image that stays is small again
-pub record Lent (n modes q : ℕ) (coef limits : List ℤ) : Type 0 where
+pub record Lent (n modes q : ℕ) (bands coef limits : List ℤ) : Type 0 where
   pub some : 1 ≤ n
   pub rooms : n ≤ 4
   pub few : modes ≤ mostModes
   pub least : 1 ≤ q
   pub most : q ≤ 10_000
   pub rows : (u : ℕ) → u < modes → RowsSound n coef u
-  pub band : Small bandLimit (boxIn n limits bandAt)
+  pub band : (u : ℕ) → u < modes → BandsSound n bands u
   pub marked : Marked n modes coef limits
-  pub small : (u : ℕ) (b : List Side) → u < modes → Small edgeLimit b → staysLent n coef limits u b ≡ true → Small edgeLimit (imageLent n q coef limits u b)
+  pub small : (u : ℕ) (b : List Side) → u < modes → Small edgeLimit b → staysLent n coef limits u b ≡ true → Small edgeLimit (imageLent n q bands coef u b)
 
 -- of a frame, that it is sound, and of its limits and marks
-pub record LimitsLaid (f : Frame) (coef limits : List ℤ) : Type 0 where
-  pub sound : FrameSound f coef
-  pub laid : Laid (f .n) (f .q) (sideAt (f .goal .lo) (f .goal .hi)) (sideAt (f .safe .lo) (f .safe .hi)) (sideAt (f .band .lo) (f .band .hi)) limits
+pub record LimitsLaid (f : Frame) (bands coef limits : List ℤ) : Type 0 where
+  pub sound : FrameSound f bands coef
+  pub laid : Laid (f .n) (f .modes) (f .q) (sideAt (f .goal .lo) (f .goal .hi)) (sideAt (f .safe .lo) (f .safe .hi)) bands limits
   pub marked : Marked (f .n) (f .modes) coef limits

@@ -107,9 +107,9 @@ oneOf modes u = picked (ltb u modes) u
 
 -- ---- at limits and rows
 
-module _ (n modes q : ℕ) (coef limits : List ℤ) where
+module _ (n modes q : ℕ) (bands coef limits : List ℤ) where
   abbrev pub movesLent : Moves
-  movesLent = record { stays = staysLent n coef limits; lands = landsLent n coef limits; image = imageLent n q coef limits; modes = modes }
+  movesLent = record { stays = staysLent n coef limits; lands = landsLent n coef limits; image = imageLent n q bands coef; modes = modes }
 
   -- the shortest pattern of at most k modes
   abbrev pub shortestLent : ℕ → List Side → Option (List ℕ)
@@ -120,4 +120,4 @@ module _ (n modes q : ℕ) (coef limits : List ℤ) where
     pub roomy : length boxes ≡ room
     pub long : length us ≡ longestPattern
     pub stands : (j : ℕ) → suc j < longestPattern → modeAt us j < modes
-        → (staysLent n coef limits (modeAt us j) (levelIn n boxes j) ≡ true) × (levelIn n boxes (suc j) ≡ imageLent n q coef limits (modeAt us j) (levelIn n boxes j))
+        → (staysLent n coef limits (modeAt us j) (levelIn n boxes j) ≡ true) × (levelIn n boxes (suc j) ≡ imageLent n q bands coef (modeAt us j) (levelIn n boxes j))

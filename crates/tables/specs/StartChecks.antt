@@ -14,8 +14,8 @@ use Rattle.tables.specs.Chains.{frameAt}
 use Rattle.tables.specs.Frames.{rulesIn}
 
 -- the rules of Ri's table
-abbrev pub rulesAt : Frame → List ℤ → List ℤ → ℕ → Rules
-rulesAt f edges coef i = rulesIn (frameAt f edges i) coef
+abbrev pub rulesAt : Frame → List ℤ → List ℤ → List ℤ → ℕ → Rules
+rulesAt f edges bands coef i = rulesIn (frameAt f edges i) bands coef
 
 -- the place behind the table whose length stands at `at`: the table ends where its length says
 abbrev pub tableAt : Rules → List ℕ → ℕ → Walk

@@ -48,11 +48,11 @@ onChoice (Choice.Refused e) refuse rest = refuse e
 onChoice (Choice.Table i) refuse rest = rest i
 
 -- the call on table i, by a frame's rules
-abbrev pub callBehind : Frame → List ℤ → List ℕ → ℕ → ℕ → State → List ℤ → StartAnswer
-callBehind f coef s at i st x = onPart i s at StartAnswer.Refused λ first size. answerIn i first (call (rulesIn f coef) (part s first size) st x)
+abbrev pub callBehind : Frame → List ℤ → List ℤ → List ℕ → ℕ → ℕ → State → List ℤ → StartAnswer
+callBehind f bands coef s at i st x = onPart i s at StartAnswer.Refused λ first size. answerIn i first (call (rulesIn f bands coef) (part s first size) st x)
 
 -- a call on a chain of m boxes that was read, `at` being the place behind it
-abbrev pub startAnswer : Frame → List ℤ → List ℤ → List ℕ → ℕ → ℕ → StartState → List ℤ → StartAnswer
-startAnswer f edges coef s m at st x =
+abbrev pub startAnswer : Frame → List ℤ → List ℤ → List ℤ → List ℕ → ℕ → ℕ → StartState → List ℤ → StartAnswer
+startAnswer f edges bands coef s m at st x =
     onChoice (choiceOf (f .n) (boxOf (f .n) (f .root)) (valuesIn m edges) st x) StartAnswer.Refused λ i.
-    callBehind (frameAt f edges i) coef s at i (st .state) x
+    callBehind (frameAt f edges i) bands coef s at i (st .state) x

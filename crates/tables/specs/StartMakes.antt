@@ -36,14 +36,14 @@ WroteParts (bad e) buf at (Walk.Next next) out = ⊥
 WroteParts (bad e) buf at (Walk.Refused f) out = (f ≡ e) × (length out ≡ length buf)
 
 -- the rules of Ri's table, and the tables of R0..Rm, as the code has them: by frames
-abbrev pub framesRules : Frame → List ℤ → List ℤ → ℕ → Rules
-framesRules f coef edges i = rulesIn (frameAt f edges i) coef
+abbrev pub framesRules : Frame → List ℤ → List ℤ → List ℤ → ℕ → Rules
+framesRules f bands coef edges i = rulesIn (frameAt f edges i) bands coef
 
-abbrev pub framesTables : Frame → List ℤ → List ℤ → ℕ → Judged (List (List ℕ))
-framesTables f coef edges m = tablesFrom (framesRules f coef edges) (m + 1) 0
+abbrev pub framesTables : Frame → List ℤ → List ℤ → List ℤ → ℕ → Judged (List (List ℕ))
+framesTables f bands coef edges m = tablesFrom (framesRules f bands coef edges) (m + 1) 0
 
-abbrev pub FramesSound : Frame → List ℤ → List ℤ → ℕ → Type 0
-FramesSound f coef edges m = (i : ℕ) → i ≤ m → FrameSound (frameAt f edges i) coef
+abbrev pub FramesSound : Frame → List ℤ → List ℤ → List ℤ → ℕ → Type 0
+FramesSound f bands coef edges m = (i : ℕ) → i ≤ m → FrameSound (frameAt f edges i) bands coef
 
 -- the file: the chain's bytes, then the tables
 abbrev pub behindChain : List ℕ → Judged (List (List ℕ)) → Judged (List ℕ)
@@ -52,15 +52,15 @@ behindChain chain (good ts) = good (chain ++ partsOf ts)
 
 -- ---- the same by the chain's values, as meaning has it; a plant's own frame gives meaning's own
 
-abbrev pub valuesRules : Frame → List ℤ → List ℤ → ℕ → Rules
-valuesRules f coef vs i =
+abbrev pub valuesRules : Frame → List ℤ → List ℤ → List ℤ → ℕ → Rules
+valuesRules f bands coef vs i =
     let root = boxOf (f .n) (f .root) in
-    rulesFrom (f .n) (f .modes) (f .k) (f .d) (boxAt (f .n) root vs i) (boxBelow (f .n) root vs i) (boxOf (f .n) (f .safe)) (stepIn f coef)
+    rulesFrom (f .n) (f .modes) (f .k) (f .d) (boxAt (f .n) root vs i) (boxBelow (f .n) root vs i) (boxOf (f .n) (f .safe)) (stepIn f bands coef)
 
-abbrev pub chainMade : Frame → List ℤ → List ℕ → Judged (List ℕ)
-chainMade f coef chain =
+abbrev pub chainMade : Frame → List ℤ → List ℤ → List ℕ → Judged (List ℕ)
+chainMade f bands coef chain =
     onChain (f .n) (boxOf (f .n) (f .root)) (boxOf (f .n) (f .safe)) (valuesOf (chainForm (f .n)) chain) bad λ vs _.
-    startBytes (f .n) vs (tablesFrom (valuesRules f coef vs) (above vs + 1) 0)
+    startBytes (f .n) vs (tablesFrom (valuesRules f bands coef vs) (above vs + 1) 0)
 
-abbrev pub chainLeft : Frame → List ℤ → List ℕ → List ℕ → Left
-chainLeft f coef chain buf = left (chainMade f coef chain) buf
+abbrev pub chainLeft : Frame → List ℤ → List ℤ → List ℕ → List ℕ → Left
+chainLeft f bands coef chain buf = left (chainMade f bands coef chain) buf

@@ -146,7 +146,6 @@ pub fn frame_at(f: Frame, edges: &[i64; EDGES], i: usize) -> Frame
     let root = box_at(f.n, own, edges, i);
     let goal = box_below(f.n, own, edges, i);
     let safe = f.safe;
-    let band = f.band;
     Frame {
         n: f.n,
         modes: f.modes,
@@ -156,7 +155,6 @@ pub fn frame_at(f: Frame, edges: &[i64; EDGES], i: usize) -> Frame
         root,
         goal,
         safe,
-        band,
     }
 }
 

@@ -2,6 +2,7 @@
 // Relies on crate files for the plant, on headers and walks for the table's parts. Leaves out how a table is made, and whether it is the defined
 // one: any table whose tiles work is accepted.
 use crate::frames;
+use crate::frames::BANDS;
 use crate::frames::Frame;
 use crate::headers;
 use crate::refusals;
@@ -16,9 +17,14 @@ ghost use Rattle.meaning.specs.Verdicts.{tableEnd, verdict};
 ghost use Rattle.tables.specs.Frames.{rulesIn, FrameSound};
 
 // The place behind a table, its header and its tree, against a frame. What may stand there is not asked.
-pub(crate) fn table_end(f: Frame, coef: &[i64; COEFFICIENTS], table: &[u8]) -> Walk
-    requires { ⌜ FrameSound f (now coef) ⌝ }
-    ensures { λ r. ⌜ r ≡ tableEnd (rulesIn f (now (coef .entry))) (now (table .entry)) ⌝ }
+pub(crate) fn table_end(
+    f: Frame,
+    bands: &[i64; BANDS],
+    coef: &[i64; COEFFICIENTS],
+    table: &[u8],
+) -> Walk
+    requires { ⌜ FrameSound f (now bands) (now coef) ⌝ }
+    ensures { λ r. ⌜ r ≡ tableEnd (rulesIn f (now (bands .entry)) (now (coef .entry))) (now (table .entry)) ⌝ }
 {
     match headers::header(f.n, table) {
         Walk::Refused(e) => Walk::Refused(e),
@@ -28,6 +34,7 @@ pub(crate) fn table_end(f: Frame, coef: &[i64; COEFFICIENTS], table: &[u8]) -> W
             walks::walk(
                 frames::counts_of(f),
                 &edges,
+                bands,
                 coef,
                 true,
                 table,
@@ -40,11 +47,11 @@ pub(crate) fn table_end(f: Frame, coef: &[i64; COEFFICIENTS], table: &[u8]) -> W
 }
 
 // A table against a frame: it has to end where its bytes do.
-fn judge(f: Frame, coef: &[i64; COEFFICIENTS], table: &[u8]) -> Verdict
-    requires { ⌜ FrameSound f (now coef) ⌝ }
-    ensures { λ r. ⌜ r ≡ verdict (rulesIn f (now (coef .entry))) (now (table .entry)) ⌝ }
+fn judge(f: Frame, bands: &[i64; BANDS], coef: &[i64; COEFFICIENTS], table: &[u8]) -> Verdict
+    requires { ⌜ FrameSound f (now bands) (now coef) ⌝ }
+    ensures { λ r. ⌜ r ≡ verdict (rulesIn f (now (bands .entry)) (now (coef .entry))) (now (table .entry)) ⌝ }
 {
-    match table_end(f, coef, table) {
+    match table_end(f, bands, coef, table) {
         Walk::Refused(e) => Verdict::Refused(e),
         Walk::Next(next) => {
             if next == table.len() {
@@ -64,6 +71,9 @@ pub fn check(plant: &[u8], table: &[u8]) -> Verdict
     let verdict = read.verdict;
     match verdict {
         Verdict::Refused(e) => Verdict::Refused(e),
-        Verdict::Accepted => { judge(frames::framed(read.plant), &read.plant.coef, table) }
+        Verdict::Accepted => {
+            let bands = frames::bands_of(read.plant);
+            judge(frames::framed(read.plant), &bands, &read.plant.coef, table)
+        }
     }
 }

@@ -6,6 +6,7 @@ use crate::boxes;
 use crate::boxes::Bx;
 use crate::finds;
 use crate::frames;
+use crate::frames::BANDS;
 use crate::frames::Frame;
 use crate::headers;
 use crate::refusals;
@@ -46,14 +47,15 @@ pub(crate) fn admit(can: bool, n: usize, b: Bx, x: [i64; 4]) -> Verdict
 // Idle: the reading must be in R; its tile is found, its first mode answered.
 fn idle_call(
     f: Frame,
+    bands: &[i64; BANDS],
     coef: &[i64; COEFFICIENTS],
     table: &[u8],
     at: usize,
     place: usize,
     x: [i64; 4],
 ) -> Answer
-    requires { ⌜ FrameSound f (now coef) ⌝ }
-    ensures { λ r. ⌜ r ≡ idleCall (rulesIn f (now (coef .entry))) (now (table .entry)) at place x ⌝ }
+    requires { ⌜ FrameSound f (now bands) (now coef) ⌝ }
+    ensures { λ r. ⌜ r ≡ idleCall (rulesIn f (now (bands .entry)) (now (coef .entry))) (now (table .entry)) at place x ⌝ }
 {
     match admit(place == 0, f.n, f.root, x) {
         Verdict::Refused(e) => Answer::Refused(e),
@@ -62,6 +64,7 @@ fn idle_call(
             match finds::find(
                 frames::counts_of(f),
                 &edges,
+                bands,
                 coef,
                 table,
                 f.d,
@@ -79,6 +82,7 @@ fn idle_call(
 // Running: the reading must be in S; the mode at the place is answered.
 fn running_call(
     f: Frame,
+    bands: &[i64; BANDS],
     coef: &[i64; COEFFICIENTS],
     table: &[u8],
     place: usize,
@@ -86,7 +90,7 @@ fn running_call(
     x: [i64; 4],
 ) -> Answer
     requires { ⌜ f .n ≤ 4 ⌝ }
-    ensures { λ r. ⌜ r ≡ runningCall (rulesIn f (now (coef .entry))) (now (table .entry)) place left x ⌝ }
+    ensures { λ r. ⌜ r ≡ runningCall (rulesIn f (now (bands .entry)) (now (coef .entry))) (now (table .entry)) place left x ⌝ }
 {
     let can = states::can_run(f.k, f.modes, table, place, left);
     match admit(can, f.n, f.safe, x) {
@@ -98,21 +102,22 @@ fn running_call(
 // A call on a plant that was read.
 pub(crate) fn call(
     f: Frame,
+    bands: &[i64; BANDS],
     coef: &[i64; COEFFICIENTS],
     table: &[u8],
     st: State,
     x: [i64; 4],
 ) -> Answer
-    requires { ⌜ FrameSound f (now coef) ⌝ }
-    ensures { λ r. ⌜ r ≡ call (rulesIn f (now (coef .entry))) (now (table .entry)) st x ⌝ }
+    requires { ⌜ FrameSound f (now bands) (now coef) ⌝ }
+    ensures { λ r. ⌜ r ≡ call (rulesIn f (now (bands .entry)) (now (coef .entry))) (now (table .entry)) st x ⌝ }
 {
     match headers::header(f.n, table) {
         Walk::Refused(e) => Answer::Refused(e),
         Walk::Next(at) => {
             if st.left == 0 {
-                idle_call(f, coef, table, at, st.place, x)
+                idle_call(f, bands, coef, table, at, st.place, x)
             } else {
-                running_call(f, coef, table, st.place, st.left, x)
+                running_call(f, bands, coef, table, st.place, st.left, x)
             }
         }
     }
@@ -126,6 +131,16 @@ pub fn control(plant: &[u8], table: &[u8], st: State, x: [i64; 4]) -> Answer
     let verdict = read.verdict;
     match verdict {
         Verdict::Refused(e) => Answer::Refused(e),
-        Verdict::Accepted => { call(frames::framed(read.plant), &read.plant.coef, table, st, x) }
+        Verdict::Accepted => {
+            let bands = frames::bands_of(read.plant);
+            call(
+                frames::framed(read.plant),
+                &bands,
+                &read.plant.coef,
+                table,
+                st,
+                x,
+            )
+        }
     }
 }

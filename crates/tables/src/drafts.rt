@@ -4,11 +4,12 @@
 use crate::boxes;
 use crate::boxes::Bx;
 use crate::frames;
+use crate::frames::BANDS;
 use crate::frames::Counts;
 use crate::frames::Frame;
 use crate::levels::LONGEST;
-use crate::levels::ROOM;
 use crate::limits;
+use crate::limits::LIMITS;
 use crate::search;
 use files::numbers;
 use meaning::COEFFICIENTS;
@@ -52,20 +53,21 @@ fn put_tile(buf: &mut [u8], at: usize, k: usize, us: &[usize; LONGEST]) -> usize
 // taken apart, as for the walk: no call copies its boxes, which the limits stand for.
 fn tree(
     f: Counts,
-    edges: &[[i64; 4]; 8],
+    edges: &[[i64; 4]; 6],
+    bands: &[i64; BANDS],
     coef: &[i64; COEFFICIENTS],
-    limits: &[i64; ROOM],
+    limits: &[i64; LIMITS],
     d: usize,
     b: Bx,
     buf: &mut [u8],
     at: usize,
 ) -> Grown
-    requires { ⌜ LimitsLaid (frameFrom f (now edges)) (now coef) (now limits) × Small edgeLimit (boxOf (f .n) b) ⌝ }
-    ensures { λ r. ⌜ Wrote (treeBytes (rulesIn (frameFrom f (now (edges .entry))) (now (coef .entry))) d (boxOf (f .n) b)) (now (buf .entry)) at r (now (buf .exit)) ⌝ }
+    requires { ⌜ LimitsLaid (frameFrom f (now edges)) (now bands) (now coef) (now limits) × Small edgeLimit (boxOf (f .n) b) ⌝ }
+    ensures { λ r. ⌜ Wrote (treeBytes (rulesIn (frameFrom f (now (edges .entry))) (now (bands .entry)) (now (coef .entry))) d (boxOf (f .n) b)) (now (buf .entry)) at r (now (buf .exit)) ⌝ }
 {
     let n = f.n;
     let mut us = [0usize; LONGEST];
-    let size = search::first(n, f.modes, f.q, f.k, coef, limits, b, &mut us);
+    let size = search::first(n, f.modes, f.q, f.k, bands, coef, limits, b, &mut us);
     if size != 0 {
         return Grown::Next(put_tile(buf, at, size, &us));
     }
@@ -80,7 +82,7 @@ fn tree(
     let mut c: usize = 0;
     while c < count {
         let child = boxes::child(n, b, c);
-        let grown = tree(f, edges, coef, limits, d - 1, child, buf, place);
+        let grown = tree(f, edges, bands, coef, limits, d - 1, child, buf, place);
         let Grown::Next(next) = grown else {
             return Grown::Nothing;
         };
@@ -91,12 +93,12 @@ fn tree(
 }
 
 // The table of a frame: header, then the tree of the box that is tiled. The limits are made once, and lent from then on.
-pub fn table(f: Frame, coef: &[i64; COEFFICIENTS], buf: &mut [u8]) -> Grown
-    requires { ⌜ FrameSound f (now coef) ⌝ }
-    ensures { λ r. ⌜ Wrote (definedBytes (rulesIn f (now (coef .entry)))) (now (buf .entry)) 0 r (now (buf .exit)) ⌝ }
+pub fn table(f: Frame, bands: &[i64; BANDS], coef: &[i64; COEFFICIENTS], buf: &mut [u8]) -> Grown
+    requires { ⌜ FrameSound f (now bands) (now coef) ⌝ }
+    ensures { λ r. ⌜ Wrote (definedBytes (rulesIn f (now (bands .entry)) (now (coef .entry)))) (now (buf .entry)) 0 r (now (buf .exit)) ⌝ }
 {
-    let laid = limits::lay(f, coef);
-    let limits = laid.of;
+    let mut limits = [0i64; LIMITS];
+    limits::lay(f, bands, coef, &mut limits);
     let root = f.root;
     let edges = frames::edges_of(f);
     let past_form = numbers::put_number(buf, 0, 1);
@@ -104,6 +106,7 @@ pub fn table(f: Frame, coef: &[i64; COEFFICIENTS], buf: &mut [u8]) -> Grown
     tree(
         frames::counts_of(f),
         &edges,
+        bands,
         coef,
         &limits,
         f.d,

@@ -3,6 +3,7 @@
 // Relies on walks, modes and boxes, and on crate files for numbers. Leaves out whether R holds the reading, and what the tile's modes answer.
 use crate::boxes;
 use crate::boxes::Bx;
+use crate::frames::BANDS;
 use crate::frames::Counts;
 use crate::modes;
 use crate::refusals;
@@ -36,7 +37,8 @@ fn tile(modes: usize, k: usize, table: &[u8], from: usize) -> Found
 // The tile in the tree at `at`, over box b with depth d left.
 pub fn find(
     f: Counts,
-    edges: &[[i64; 4]; 8],
+    edges: &[[i64; 4]; 6],
+    bands: &[i64; BANDS],
     coef: &[i64; COEFFICIENTS],
     table: &[u8],
     d: usize,
@@ -44,8 +46,8 @@ pub fn find(
     b: Bx,
     x: [i64; 4],
 ) -> Found
-    requires { ⌜ FrameSound (frameFrom f (now edges)) (now coef) × Small edgeLimit (boxOf (f .n) b) ⌝ }
-    ensures { λ r. ⌜ r ≡ find (rulesIn (frameFrom f (now (edges .entry))) (now (coef .entry))) d (now (table .entry)) at (boxOf (f .n) b) x ⌝ }
+    requires { ⌜ FrameSound (frameFrom f (now edges)) (now bands) (now coef) × Small edgeLimit (boxOf (f .n) b) ⌝ }
+    ensures { λ r. ⌜ r ≡ find (rulesIn (frameFrom f (now (edges .entry))) (now (bands .entry)) (now (coef .entry))) d (now (table .entry)) at (boxOf (f .n) b) x ⌝ }
 {
     let Number::Value(k, next) = numbers::number(table, at) else {
         return Found::Refused(files::refusals::broken(at));
@@ -66,9 +68,9 @@ pub fn find(
     while c < count {
         let child = boxes::child(n, b, c);
         if n <= boxes::missed(n, child, x) {
-            return find(f, edges, coef, table, d - 1, place, child, x);
+            return find(f, edges, bands, coef, table, d - 1, place, child, x);
         }
-        match walks::walk(f, edges, coef, false, table, d - 1, place, child) {
+        match walks::walk(f, edges, bands, coef, false, table, d - 1, place, child) {
             Walk::Refused(e) => {
                 return Found::Refused(e);
             }

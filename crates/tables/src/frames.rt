@@ -1,11 +1,15 @@
-// What a table is made, checked and run by, all but the coefficients: 320 numbers are lent beside it, so that a call copies only what is small.
+// What a table is made, checked and run by, all but bands and coefficients: their arrays are lent beside it, so that a call copies only what is small.
 // Relies on boxes. Leaves out how a plant is read and judged.
 use crate::boxes::Bx;
 use meaning::Plant;
 ghost use mathlib.Core.Path.{_≡_};
-ghost use Rattle.tables.specs.Frames.{frameOf, countsOf, edgesOf};
+ghost use Prim.Native.Nat.{_≤_};
+ghost use Rattle.tables.specs.Frames.{frameOf, countsOf, edgesOf, OneBand};
 
-// The box that is tiled, the box that patterns end in, the box that nothing may leave; the band as a box; the rest as in a plant.
+// As many numbers of bands as there may be: of sixteen modes, a low and a high end for each of four dimensions.
+pub const BANDS: usize = 128;
+
+// The box that is tiled, the box that patterns end in, the box that nothing may leave; the rest as in a plant.
 pub struct Frame {
     pub n: usize,
     pub modes: usize,
@@ -15,7 +19,6 @@ pub struct Frame {
     pub root: Bx,
     pub goal: Bx,
     pub safe: Bx,
-    pub band: Bx,
 }
 
 // A plant's own frame: R is tiled, and patterns end in R.
@@ -26,8 +29,6 @@ pub fn framed(p: Plant) -> Frame
     let rhi = p.rhi;
     let slo = p.slo;
     let shi = p.shi;
-    let wlo = p.wlo;
-    let whi = p.whi;
     Frame {
         n: p.n,
         modes: p.modes,
@@ -37,8 +38,27 @@ pub fn framed(p: Plant) -> Frame
         root: Bx { lo: rlo, hi: rhi },
         goal: Bx { lo: rlo, hi: rhi },
         safe: Bx { lo: slo, hi: shi },
-        band: Bx { lo: wlo, hi: whi },
     }
+}
+
+// A plant's bands, its one band being that of every mode.
+pub fn bands_of(p: Plant) -> [i64; BANDS]
+    requires { ⌜ (1 ≤ p .n) × (p .n ≤ 4) ⌝ }
+    ensures { λ r. ⌜ OneBand (p .n) (p .wlo) (p .whi) r ⌝ }
+{
+    let lo = p.wlo;
+    let hi = p.whi;
+    let mut bands = [0i64; BANDS];
+    let mut k: usize = 0;
+    while k < 64 {
+        let i = k % p.n;
+        let l = lo[i];
+        let h = hi[i];
+        bands[k * 2] = l;
+        bands[k * 2 + 1] = h;
+        k += 1;
+    }
+    bands
 }
 
 // A frame taken apart, for the functions that call themselves: its numbers by value, and its boxes lent, so that no call copies a box.
@@ -62,21 +82,18 @@ pub fn counts_of(f: Frame) -> Counts
     }
 }
 
-// Lows and highs of the box that is tiled, of the box that patterns end in, of the box that nothing may leave, and of the band.
-pub fn edges_of(f: Frame) -> [[i64; 4]; 8]
+// Lows and highs of the box that is tiled, of the box that patterns end in, and of the box that nothing may leave.
+pub fn edges_of(f: Frame) -> [[i64; 4]; 6]
     ensures { λ r. ⌜ r ≡ edgesOf f ⌝ }
 {
     let root = f.root;
     let goal = f.goal;
     let safe = f.safe;
-    let band = f.band;
     let rlo = root.lo;
     let rhi = root.hi;
     let glo = goal.lo;
     let ghi = goal.hi;
     let slo = safe.lo;
     let shi = safe.hi;
-    let wlo = band.lo;
-    let whi = band.hi;
-    [rlo, rhi, glo, ghi, slo, shi, wlo, whi]
+    [rlo, rhi, glo, ghi, slo, shi]
 }

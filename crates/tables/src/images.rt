@@ -1,11 +1,12 @@
-// Images (document 01, "Image"): what a mode makes of a box. Coefficients, band and box are lent, so that no call copies them.
+// Images (document 01, "Image"): what a mode makes of a box. Bands, coefficients and box are lent, so that no call copies them.
 // Relies on boxes and division, and on crates/meaning for what an image is. Leaves out whether the image lies in S or R (tiles).
 // Every sum fits 64 bits: 4 entries of A within 20,000 times edges within 1,000,000, an offset and a band.
 use crate::boxes::Bx;
 use crate::division;
+use crate::frames::BANDS;
 use meaning::COEFFICIENTS;
 ghost use mathlib.Core.Path.{_≡_};
-ghost use Prim.Native.Nat.{_+_, _≤_, _<_};
+ghost use Prim.Native.Nat.{_+_, _*_, _≤_, _<_};
 ghost use lib.IntN.{natAbs, _+ℤ_};
 ghost use Rattle.laws.specs.Lists.{at};
 ghost use Rattle.meaning.specs.Boxes.{side, sideAt, sidesOf};
@@ -13,7 +14,7 @@ ghost use Rattle.meaning.specs.Images.{leastOf, greatestOf, imageSide, image};
 ghost use Rattle.meaning.specs.Plants.{edgeLimit, bandLimit, entryLimit, rowStart, mostCoefs};
 ghost use Rattle.tables.specs.Boxes.{boxOf, Small};
 ghost use Rattle.promises.specs.files.Sound.{Bounded};
-ghost use Rattle.tables.specs.Images.{negativePart, rowLimit, entriesOf, rowAt, stepFrom, RowSound, StepSound, Extremes};
+ghost use Rattle.tables.specs.Images.{negativePart, rowLimit, mostBands, bandStart, entriesOf, rowAt, stepFrom, RowSound, StepSound, Extremes};
 
 // A least and a greatest number.
 pub struct Span {
@@ -93,6 +94,15 @@ pub fn row(n: usize, u: usize, i: usize) -> usize
     (u * n + i) * (n + 1)
 }
 
+// Where the band of mode u in dimension i stands: its low end, and behind it its high end.
+pub fn band(n: usize, u: usize, i: usize) -> usize
+    requires { ⌜ (u * n + i) * 2 + 1 < mostBands ⌝ }
+    ensures place { λ r. ⌜ r ≡ bandStart n u i ⌝ }
+    ensures inside { λ r. ⌜ r + 1 < mostBands ⌝ }
+{
+    (u * n + i) * 2
+}
+
 // One side of an image, by the row that starts at `start` and its band wl..wh.
 fn image_side(
     n: usize,
@@ -115,27 +125,27 @@ fn image_side(
     Span { lo: low, hi: high }
 }
 
-// The image of a box under mode u: q, the band wlo..whi and the coefficients are the plant's.
+// The image of a box under mode u: q, the bands and the coefficients are the plant's.
 pub fn image(
     n: usize,
     q: usize,
-    wlo: &[i64; 4],
-    whi: &[i64; 4],
+    bands: &[i64; BANDS],
     coef: &[i64; COEFFICIENTS],
     u: usize,
     lo: &[i64; 4],
     hi: &[i64; 4],
 ) -> Bx
-    requires { ⌜ StepSound n q (now wlo) (now whi) (now coef) u × Small edgeLimit (sidesOf n (now lo) (now hi)) ⌝ }
-    ensures { λ r. ⌜ boxOf n r ≡ image (stepFrom n q (now (wlo .entry)) (now (whi .entry)) (now (coef .entry)) u) (sidesOf n (now (lo .entry)) (now (hi .entry))) ⌝ }
+    requires { ⌜ StepSound n q (now bands) (now coef) u × Small edgeLimit (sidesOf n (now lo) (now hi)) ⌝ }
+    ensures { λ r. ⌜ boxOf n r ≡ image (stepFrom n q (now (bands .entry)) (now (coef .entry)) u) (sidesOf n (now (lo .entry)) (now (hi .entry))) ⌝ }
 {
     let mut least = [0i64; 4];
     let mut greatest = [0i64; 4];
     let mut i: usize = 0;
     while i < n {
         let start = (u * n + i) * (n + 1);
-        let wl = wlo[i];
-        let wh = whi[i];
+        let place = band(n, u, i);
+        let wl = bands[place];
+        let wh = bands[place + 1];
         let s = image_side(n, q, coef, start, wl, wh, lo, hi);
         let sl = s.lo;
         let sh = s.hi;

@@ -1,16 +1,16 @@
-// Limits: where the sums of a row have to lie for an image to lie in S or in the goal, with which the search tells both without dividing; and marks of
-// modes whose last row is that of the mode before, as in every plant made of a sheet, with which it makes what it needs of that row once for all of
-// them.
-// Relies on frames, on levels for the array, and on images for a pair of numbers. Leaves out the sums themselves (levels) and who tests them (steps).
+// Limits: where the sums of a row have to lie for an image to lie in S or in the goal, with which the search tells both without dividing, mode by mode,
+// for each has its own band; and marks of modes whose last row is that of the mode before, as in every plant made of a sheet, with which it makes what it
+// needs of that row once for all of them.
+// Relies on frames, and on images for a pair of numbers and for where a band stands. Leaves out the sums themselves (levels) and who tests them (steps).
+use crate::boxes::Bx;
+use crate::frames::BANDS;
 use crate::frames::Frame;
 use crate::images;
 use crate::images::Span;
-use crate::levels;
-use crate::levels::ROOM;
 use meaning::COEFFICIENTS;
 ghost use mathlib.Core.Path.{_≡_};
 ghost use mathlib.Core.Bool.{true};
-ghost use Prim.Native.Nat.{_-_, _≤_, _<_};
+ghost use Prim.Native.Nat.{ℕ, _+_, _-_, _≤_, _<_};
 ghost use lib.ListN.{length};
 ghost use lib.IntN.{pos};
 ghost use Rattle.meaning.specs.Boxes.{side, sideAt};
@@ -19,17 +19,17 @@ ghost use Rattle.tables.specs.Boxes.{boxOf, Small};
 ghost use Rattle.promises.specs.files.Sound.{Bounded};
 ghost use Rattle.tables.specs.Frames.{FrameSound};
 ghost use Rattle.tables.specs.Images.{entriesOf, RowSound};
-ghost use Rattle.tables.specs.Levels.{room};
-ghost use Rattle.tables.specs.Limits.{limitSide, mostModes, Laid, lastEntries, RowsSound, LimitsLaid};
+ghost use Rattle.tables.specs.Levels.{wide, sideIn, stored, Beside};
+ghost use Rattle.tables.specs.Limits.{limitSide, mostModes, mostLimits, limitAt, Laid, lastEntries, RowsSound, BandsSound, LimitsLaid};
 
-// Where the limits of S stand in the array, those of the goal, the band, and the marks.
-pub const SAFE: usize = 0;
+// The numbers of a mode: the limits of S, then those of the goal, then its mark; and those of sixteen modes.
+pub const SPAN: usize = 17;
 
 pub const GOAL: usize = 8;
 
-pub const BAND: usize = 16;
+pub const MARK: usize = 16;
 
-pub const MARKS: usize = 24;
+pub const LIMITS: usize = 272;
 
 // The limits of side l..h with the band wl..wh: q·(l - 1) + 1 - wl, and q·(h + 1) - 1 - wh.
 fn around(q: usize, wl: i64, wh: i64, l: i64, h: i64) -> Span
@@ -42,38 +42,58 @@ fn around(q: usize, wl: i64, wh: i64, l: i64, h: i64) -> Span
     Span { lo: from, hi: to }
 }
 
-// What the search is lent: the limits of S, those of the goal, and the band; then the marks of the modes.
-pub struct Limits {
-    pub of: [i64; ROOM],
+// Side i of the limits at `base`.
+fn put_limit(limits: &mut [i64; LIMITS], base: usize, i: usize, from: i64, to: i64)
+    requires { ⌜ (base + wide ≤ mostLimits) × (i < 4) ⌝ }
+    ensures { λ _. ⌜ now (limits .exit) ≡ stored (now (limits .entry)) base i (side from to) ⌝ }
+{
+    limits[base + i] = from;
+    limits[base + 4 + i] = to;
 }
 
-// The three boxes.
-fn lay_boxes(f: Frame) -> Limits
-    requires sizes { ⌜ (f .n ≤ 4) × (f .q ≤ 10_000) ⌝ }
-    requires boxes { ⌜ Small bandLimit (boxOf (f .n) (f .band)) × Small edgeLimit (boxOf (f .n) (f .goal)) × Small edgeLimit (boxOf (f .n) (f .safe)) ⌝ }
-    ensures laid { λ r. ⌜ Laid (f .n) (f .q) (sideAt (f .goal .lo) (f .goal .hi)) (sideAt (f .safe .lo) (f .safe .hi)) (sideAt (f .band .lo) (f .band .hi)) (r .of) ⌝ }
-    ensures size { λ r. ⌜ length (r .of) ≡ room ⌝ }
+// The limits of box b under mode u, at `base`.
+fn lay_box(
+    n: usize,
+    q: usize,
+    bands: &[i64; BANDS],
+    u: usize,
+    b: Bx,
+    limits: &mut [i64; LIMITS],
+    base: usize,
+)
+    requires step { ⌜ (n ≤ 4) × (q ≤ 10_000) × BandsSound n (now bands) u × Small edgeLimit (boxOf n b) ⌝ }
+    requires place { ⌜ (base + wide ≤ mostLimits) × (length (now limits) ≡ mostLimits) ⌝ }
+    ensures sides { λ _. ⌜ ((i : ℕ) → i < n → sideIn (now (limits .exit)) base i ≡ limitAt n q (now (bands .entry)) u (b .lo) (b .hi) i) ⌝ }
+    ensures beside { λ _. ⌜ Beside base (now (limits .entry)) (now (limits .exit)) ⌝ }
 {
-    let band = f.band;
-    let safe = f.safe;
-    let goal = f.goal;
-    let mut of = [0i64; ROOM];
     let mut i: usize = 0;
-    while i < f.n {
-        let wl = band.lo[i];
-        let wh = band.hi[i];
-        let sl = safe.lo[i];
-        let sh = safe.hi[i];
-        let gl = goal.lo[i];
-        let gh = goal.hi[i];
-        let s = around(f.q, wl, wh, sl, sh);
-        levels::put_side(&mut of, SAFE, i, s.lo, s.hi);
-        let g = around(f.q, wl, wh, gl, gh);
-        levels::put_side(&mut of, GOAL, i, g.lo, g.hi);
-        levels::put_side(&mut of, BAND, i, wl, wh);
+    while i < n {
+        let place = images::band(n, u, i);
+        let wl = bands[place];
+        let wh = bands[place + 1];
+        let l = b.lo[i];
+        let h = b.hi[i];
+        let s = around(q, wl, wh, l, h);
+        put_limit(limits, base, i, s.lo, s.hi);
         i += 1;
     }
-    Limits { of }
+}
+
+// Those of S and of the goal, mode by mode.
+fn lay_boxes(f: Frame, bands: &[i64; BANDS], limits: &mut [i64; LIMITS])
+    requires sizes { ⌜ (f .n ≤ 4) × (f .q ≤ 10_000) × (f .modes ≤ mostModes) × (length (now limits) ≡ mostLimits) ⌝ }
+    requires boxes { ⌜ Small edgeLimit (boxOf (f .n) (f .goal)) × Small edgeLimit (boxOf (f .n) (f .safe)) × ((u : ℕ) → u < f .modes → BandsSound (f .n) (now bands) u) ⌝ }
+    ensures laid { λ _. ⌜ Laid (f .n) (f .modes) (f .q) (sideAt (f .goal .lo) (f .goal .hi)) (sideAt (f .safe .lo) (f .safe .hi)) (now (bands .entry)) (now (limits .exit)) ⌝ }
+    ensures size { λ _. ⌜ length (now (limits .exit)) ≡ mostLimits ⌝ }
+{
+    let safe = f.safe;
+    let goal = f.goal;
+    let mut u: usize = 0;
+    while u < f.modes {
+        lay_box(f.n, f.q, bands, u, safe, limits, SPAN * u);
+        lay_box(f.n, f.q, bands, u, goal, limits, SPAN * u + GOAL);
+        u += 1;
+    }
 }
 
 // Whether two rows have the same entries.
@@ -110,18 +130,16 @@ fn mark(n: usize, coef: &[i64; COEFFICIENTS], u: usize) -> i64
     0
 }
 
-// The boxes, and behind them the marks.
-pub fn lay(f: Frame, coef: &[i64; COEFFICIENTS]) -> Limits
-    requires { ⌜ FrameSound f (now coef) ⌝ }
-    ensures { λ r. ⌜ LimitsLaid f (now (coef .entry)) (r .of) ⌝ }
+// The boxes, and behind those of each mode its mark.
+pub fn lay(f: Frame, bands: &[i64; BANDS], coef: &[i64; COEFFICIENTS], limits: &mut [i64; LIMITS])
+    requires { ⌜ FrameSound f (now bands) (now coef) × (length (now limits) ≡ mostLimits) ⌝ }
+    ensures { λ _. ⌜ LimitsLaid f (now (bands .entry)) (now (coef .entry)) (now (limits .exit)) ⌝ }
 {
-    let laid = lay_boxes(f);
-    let mut of = laid.of;
+    lay_boxes(f, bands, limits);
     let mut u: usize = 0;
     while u < f.modes {
         let m = mark(f.n, coef, u);
-        of[MARKS + u] = m;
+        limits[SPAN * u + MARK] = m;
         u += 1;
     }
-    Limits { of }
 }

@@ -7,6 +7,7 @@ use crate::drafts::FEW;
 use crate::drafts::Grown;
 use crate::drafts::MOST;
 use crate::frames;
+use crate::frames::BANDS;
 use crate::frames::Frame;
 use crate::refusals;
 use files::buffers;
@@ -23,13 +24,19 @@ ghost use Rattle.tables.specs.Frames.{rulesIn, FrameSound};
 ghost use Rattle.tables.specs.Makes.{definedLeft};
 
 // The table of a frame, drafted where there is room for it, and written: 9, 10. Finished, only the table's bytes are changed; refused, the buffer is all zeros.
-fn write_table(f: Frame, coef: &[i64; COEFFICIENTS], draft: &mut [u8], buf: &mut [u8]) -> Written
-    requires frame { ⌜ FrameSound f (now coef) ⌝ }
+fn write_table(
+    f: Frame,
+    bands: &[i64; BANDS],
+    coef: &[i64; COEFFICIENTS],
+    draft: &mut [u8],
+    buf: &mut [u8],
+) -> Written
+    requires frame { ⌜ FrameSound f (now bands) (now coef) ⌝ }
     requires room { ⌜ 2 + most (2 ^ f .n) 7 (f .d) ≤ length (now draft) ⌝ }
-    ensures answer { λ r. ⌜ r ≡ definedLeft (rulesIn f (now (coef .entry))) (now (buf .entry)) .answer ⌝ }
-    ensures bytes { λ r. ⌜ now (buf .exit) ≡ definedLeft (rulesIn f (now (coef .entry))) (now (buf .entry)) .buffer ⌝ }
+    ensures answer { λ r. ⌜ r ≡ definedLeft (rulesIn f (now (bands .entry)) (now (coef .entry))) (now (buf .entry)) .answer ⌝ }
+    ensures bytes { λ r. ⌜ now (buf .exit) ≡ definedLeft (rulesIn f (now (bands .entry)) (now (coef .entry))) (now (buf .entry)) .buffer ⌝ }
 {
-    let Grown::Next(length) = drafts::table(f, coef, draft) else {
+    let Grown::Next(length) = drafts::table(f, bands, coef, draft) else {
         return buffers::refuse(refusals::no_table(0), buf);
     };
     buffers::leave(Verdict::Accepted, &draft[..length], buf)
@@ -45,13 +52,14 @@ pub fn make(plant: &[u8], buf: &mut [u8]) -> Written
     match verdict {
         Verdict::Refused(e) => buffers::refuse(e, buf),
         Verdict::Accepted => {
+            let bands = frames::bands_of(read.plant);
             let f = frames::framed(read.plant);
             if f.n * f.d <= 4 {
                 let mut few = [0u8; FEW];
-                return write_table(f, &read.plant.coef, &mut few, buf);
+                return write_table(f, &bands, &read.plant.coef, &mut few, buf);
             }
             let mut draft = [0u8; MOST];
-            write_table(f, &read.plant.coef, &mut draft, buf)
+            write_table(f, &bands, &read.plant.coef, &mut draft, buf)
         }
     }
 }

@@ -4,10 +4,12 @@
 // A beginning is a path of levels: level 0 is the box, and us[j] the mode whose image of level j stands at level j + 1; the number of modes where
 // none stands there. What stands is not made again, at the next length either, and where an image leaves S nothing behind it is tried.
 use crate::boxes::Bx;
+use crate::frames::BANDS;
 use crate::levels;
 use crate::levels::LONGEST;
 use crate::levels::ROOM;
 use crate::levels::WIDE;
+use crate::limits::LIMITS;
 use crate::steps;
 use meaning::COEFFICIENTS;
 ghost use mathlib.Core.Path.{_≡_};
@@ -26,25 +28,26 @@ fn descend(
     n: usize,
     count: usize,
     q: usize,
+    bands: &[i64; BANDS],
     coef: &[i64; COEFFICIENTS],
-    limits: &[i64; ROOM],
+    limits: &[i64; LIMITS],
     l: usize,
     u: usize,
     us: &mut [usize; LONGEST],
     boxes: &mut [i64; ROOM],
 ) -> bool
-    requires lent { ⌜ Lent n count q (now coef) (now limits) × (suc l < longestPattern) × (u < count) ⌝ }
-    requires level { ⌜ Standing n count q (now coef) (now limits) (now boxes) (now us) × Small edgeLimit (levelIn n (now boxes) l) ⌝ }
+    requires lent { ⌜ Lent n count q (now bands) (now coef) (now limits) × (suc l < longestPattern) × (u < count) ⌝ }
+    requires level { ⌜ Standing n count q (now bands) (now coef) (now limits) (now boxes) (now us) × Small edgeLimit (levelIn n (now boxes) l) ⌝ }
     ensures stays { λ r. ⌜ r ≡ staysLent n (now (coef .entry)) (now (limits .entry)) u (levelIn n (now (boxes .entry)) l) ⌝ }
-    ensures standing { λ r. ⌜ Standing n count q (now (coef .entry)) (now (limits .entry)) (now (boxes .exit)) (now (us .exit)) ⌝ }
+    ensures standing { λ r. ⌜ Standing n count q (now (bands .entry)) (now (coef .entry)) (now (limits .entry)) (now (boxes .exit)) (now (us .exit)) ⌝ }
     ensures same { λ r. ⌜ SameTo n l (now (boxes .entry)) (now (us .entry)) (now (boxes .exit)) (now (us .exit)) ⌝ }
-    ensures new { λ r. ⌜ (r ≡ true → (modeAt (now (us .exit)) l ≡ u) × (levelIn n (now (boxes .exit)) (suc l) ≡ imageLent n q (now (coef .entry)) (now (limits .entry)) u (levelIn n (now (boxes .entry)) l))) ⌝ }
+    ensures new { λ r. ⌜ (r ≡ true → (modeAt (now (us .exit)) l ≡ u) × (levelIn n (now (boxes .exit)) (suc l) ≡ imageLent n q (now (bands .entry)) (now (coef .entry)) u (levelIn n (now (boxes .entry)) l))) ⌝ }
 {
     let v = us[l];
     if v == u {
         return true;
     }
-    if steps::step(n, q, coef, limits, u, boxes, WIDE * l) {
+    if steps::step(n, q, bands, coef, limits, u, boxes, WIDE * l) {
         us[l] = u;
         us[l + 1] = count;
         return true;
@@ -59,13 +62,14 @@ pub fn first(
     count: usize,
     q: usize,
     k: usize,
+    bands: &[i64; BANDS],
     coef: &[i64; COEFFICIENTS],
-    limits: &[i64; ROOM],
+    limits: &[i64; LIMITS],
     b: Bx,
     us: &mut [usize; LONGEST],
 ) -> usize
-    requires { ⌜ Lent n count q (now coef) (now limits) × (k ≤ longestPattern) × Small edgeLimit (boxOf n b) ⌝ }
-    ensures pattern { λ r. ⌜ patternBy r (now (us .exit)) ≡ shortestLent n count q (now (coef .entry)) (now (limits .entry)) k (boxOf n b) ⌝ }
+    requires { ⌜ Lent n count q (now bands) (now coef) (now limits) × (k ≤ longestPattern) × Small edgeLimit (boxOf n b) ⌝ }
+    ensures pattern { λ r. ⌜ patternBy r (now (us .exit)) ≡ shortestLent n count q (now (bands .entry)) (now (coef .entry)) (now (limits .entry)) k (boxOf n b) ⌝ }
     ensures size { λ r. ⌜ (r ≤ longestPattern) × (length (now (us .exit)) ≡ longestPattern) ⌝ }
 {
     let mut boxes = [0i64; ROOM];
@@ -95,7 +99,7 @@ pub fn first(
                 }
                 continue;
             }
-            if descend(n, count, q, coef, limits, l, u, us, &mut boxes) {
+            if descend(n, count, q, bands, coef, limits, l, u, us, &mut boxes) {
                 l += 1;
                 u = 0;
                 continue;

@@ -5,6 +5,7 @@ use crate::chains;
 use crate::chains::EDGES;
 use crate::checks;
 use crate::frames;
+use crate::frames::BANDS;
 use crate::frames::Frame;
 use crate::parts;
 use crate::parts::Part;
@@ -21,15 +22,21 @@ ghost use Rattle.tables.specs.Frames.{rulesIn, FrameSound};
 ghost use Rattle.tables.specs.StartChecks.{rulesAt, tableAt};
 
 // The place behind the table whose length stands at `at`. What is told of the table is told at its place in the file.
-fn table_at(f: Frame, coef: &[i64; COEFFICIENTS], start: &[u8], at: usize) -> Walk
-    requires { ⌜ FrameSound f (now coef) ⌝ }
-    ensures { λ r. ⌜ r ≡ tableAt (rulesIn f (now (coef .entry))) (now (start .entry)) at ⌝ }
+fn table_at(
+    f: Frame,
+    bands: &[i64; BANDS],
+    coef: &[i64; COEFFICIENTS],
+    start: &[u8],
+    at: usize,
+) -> Walk
+    requires { ⌜ FrameSound f (now bands) (now coef) ⌝ }
+    ensures { λ r. ⌜ r ≡ tableAt (rulesIn f (now (bands .entry)) (now (coef .entry))) (now (start .entry)) at ⌝ }
 {
     match parts::part_at(start, at) {
         Part::Refused(e) => Walk::Refused(e),
         Part::At(first, size) => {
             let end = first + size;
-            match checks::table_end(f, coef, &start[first..end]) {
+            match checks::table_end(f, bands, coef, &start[first..end]) {
                 Walk::Refused(e) => Walk::Refused(refusals::moved(first, e)),
                 Walk::Next(next) => {
                     if next == size {
@@ -47,18 +54,19 @@ fn table_at(f: Frame, coef: &[i64; COEFFICIENTS], start: &[u8], at: usize) -> Wa
 fn tables_at(
     f: Frame,
     edges: &[i64; EDGES],
+    bands: &[i64; BANDS],
     coef: &[i64; COEFFICIENTS],
     start: &[u8],
     m: usize,
     at: usize,
 ) -> Verdict
-    requires { ⌜ FramesSound f (now coef) (now edges) m ⌝ }
-    ensures { λ r. ⌜ r ≡ tablesAt (rulesAt f (now (edges .entry)) (now (coef .entry))) (now (start .entry)) (m + 1) 0 at ⌝ }
+    requires { ⌜ FramesSound f (now bands) (now coef) (now edges) m ⌝ }
+    ensures { λ r. ⌜ r ≡ tablesAt (rulesAt f (now (edges .entry)) (now (bands .entry)) (now (coef .entry))) (now (start .entry)) (m + 1) 0 at ⌝ }
 {
     let mut place = at;
     let mut i: usize = 0;
     while i <= m {
-        match table_at(chains::frame_at(f, edges, i), coef, start, place) {
+        match table_at(chains::frame_at(f, edges, i), bands, coef, start, place) {
             Walk::Refused(e) => {
                 return Verdict::Refused(e);
             }
@@ -84,6 +92,7 @@ pub fn start_check(plant: &[u8], start: &[u8]) -> Verdict
     match verdict {
         Verdict::Refused(e) => Verdict::Refused(e),
         Verdict::Accepted => {
+            let bands = frames::bands_of(read.plant);
             let f = frames::framed(read.plant);
             let chain = chains::read_chain(f, false, start);
             let kept = chain.verdict;
@@ -93,6 +102,7 @@ pub fn start_check(plant: &[u8], start: &[u8]) -> Verdict
                     tables_at(
                         f,
                         &chain.edges,
+                        &bands,
                         &read.plant.coef,
                         start,
                         chain.m,

@@ -9,6 +9,7 @@ use crate::chains;
 use crate::chains::EDGES;
 use crate::control;
 use crate::frames;
+use crate::frames::BANDS;
 use crate::frames::Frame;
 use crate::parts;
 use crate::parts::Part;
@@ -112,6 +113,7 @@ fn state_in(i: usize, st: State) -> StartState
 // The call on table i, the first length being at `at`. What is told of the table is told at its place in the file.
 fn call_behind(
     f: Frame,
+    bands: &[i64; BANDS],
     coef: &[i64; COEFFICIENTS],
     start: &[u8],
     at: usize,
@@ -119,14 +121,14 @@ fn call_behind(
     st: State,
     x: [i64; 4],
 ) -> StartAnswer
-    requires { ⌜ FrameSound f (now coef) ⌝ }
-    ensures { λ r. ⌜ r ≡ callBehind f (now (coef .entry)) (now (start .entry)) at i st x ⌝ }
+    requires { ⌜ FrameSound f (now bands) (now coef) ⌝ }
+    ensures { λ r. ⌜ r ≡ callBehind f (now (bands .entry)) (now (coef .entry)) (now (start .entry)) at i st x ⌝ }
 {
     match parts::part_behind(i, start, at) {
         Part::Refused(e) => StartAnswer::Refused(e),
         Part::At(first, size) => {
             let end = first + size;
-            match control::call(f, coef, &start[first..end], st, x) {
+            match control::call(f, bands, coef, &start[first..end], st, x) {
                 Answer::Refused(e) => StartAnswer::Refused(refusals::moved(first, e)),
                 Answer::Mode(u, then) => StartAnswer::Mode(u, state_in(i, then)),
             }
@@ -138,6 +140,7 @@ fn call_behind(
 fn start_call(
     f: Frame,
     edges: &[i64; EDGES],
+    bands: &[i64; BANDS],
     coef: &[i64; COEFFICIENTS],
     start: &[u8],
     m: usize,
@@ -145,15 +148,24 @@ fn start_call(
     st: StartState,
     x: [i64; 4],
 ) -> StartAnswer
-    requires { ⌜ FramesSound f (now coef) (now edges) m ⌝ }
-    ensures { λ r. ⌜ r ≡ startAnswer f (now (edges .entry)) (now (coef .entry)) (now (start .entry)) m at st x ⌝ }
+    requires { ⌜ FramesSound f (now bands) (now coef) (now edges) m ⌝ }
+    ensures { λ r. ⌜ r ≡ startAnswer f (now (edges .entry)) (now (bands .entry)) (now (coef .entry)) (now (start .entry)) m at st x ⌝ }
 {
     let root = f.root;
     let state = st.state;
     match choose_table(f.n, root, edges, m, st, x) {
         Choice::Refused(e) => StartAnswer::Refused(e),
         Choice::Table(i) => {
-            call_behind(chains::frame_at(f, edges, i), coef, start, at, i, state, x)
+            call_behind(
+                chains::frame_at(f, edges, i),
+                bands,
+                coef,
+                start,
+                at,
+                i,
+                state,
+                x,
+            )
         }
     }
 }
@@ -167,6 +179,7 @@ pub fn start_control(plant: &[u8], start: &[u8], st: StartState, x: [i64; 4]) ->
     match verdict {
         Verdict::Refused(e) => StartAnswer::Refused(e),
         Verdict::Accepted => {
+            let bands = frames::bands_of(read.plant);
             let f = frames::framed(read.plant);
             let chain = chains::read_chain(f, false, start);
             let kept = chain.verdict;
@@ -176,6 +189,7 @@ pub fn start_control(plant: &[u8], start: &[u8], st: StartState, x: [i64; 4]) ->
                     start_call(
                         f,
                         &chain.edges,
+                        &bands,
                         &read.plant.coef,
                         start,
                         chain.m,

@@ -9,6 +9,7 @@ use crate::drafts::FEW;
 use crate::drafts::Grown;
 use crate::drafts::MOST;
 use crate::frames;
+use crate::frames::BANDS;
 use crate::frames::Frame;
 use crate::refusals;
 use files::buffers;
@@ -35,16 +36,17 @@ ghost use Rattle.tables.specs.StartMakes.{partBytes, WroteParts, framesT
 // A frame's table behind its length: drafted where there is room for it, then copied.
 fn put_part(
     f: Frame,
+    bands: &[i64; BANDS],
     coef: &[i64; COEFFICIENTS],
     draft: &mut [u8],
     buf: &mut [u8],
     at: usize,
 ) -> Grown
-    requires frame { ⌜ FrameSound f (now coef) ⌝ }
+    requires frame { ⌜ FrameSound f (now bands) (now coef) ⌝ }
     requires room { ⌜ 2 + most (2 ^ f .n) 7 (f .d) ≤ length (now draft) ⌝ }
-    ensures { λ r. ⌜ Wrote (partBytes (rulesIn f (now (coef .entry)))) (now (buf .entry)) at r (now (buf .exit)) ⌝ }
+    ensures { λ r. ⌜ Wrote (partBytes (rulesIn f (now (bands .entry)) (now (coef .entry)))) (now (buf .entry)) at r (now (buf .exit)) ⌝ }
 {
-    let Grown::Next(size) = drafts::table(f, coef, draft) else {
+    let Grown::Next(size) = drafts::table(f, bands, coef, draft) else {
         return Grown::Nothing;
     };
     let past_length = numbers::put_number(buf, at, size);
@@ -54,6 +56,7 @@ fn put_part(
 // The tables of R0..Rm, one draft for all; or 9 with the first index that has none.
 fn put_parts(
     f: Frame,
+    bands: &[i64; BANDS],
     coef: &[i64; COEFFICIENTS],
     edges: &[i64; EDGES],
     m: usize,
@@ -61,16 +64,16 @@ fn put_parts(
     buf: &mut [u8],
     at: usize,
 ) -> Walk
-    requires frames { ⌜ (m ≤ mostAbove) × FramesSound f (now coef) (now edges) m ⌝ }
+    requires frames { ⌜ (m ≤ mostAbove) × FramesSound f (now bands) (now coef) (now edges) m ⌝ }
     requires room { ⌜ 2 + most (2 ^ f .n) 7 (f .d) ≤ length (now draft) ⌝ }
     requires place { ⌜ at ≤ length (now buf) + 1 ⌝ }
-    ensures { λ r. ⌜ WroteParts (framesTables f (now (coef .entry)) (now (edges .entry)) m) (now (buf .entry)) at r (now (buf .exit)) ⌝ }
+    ensures { λ r. ⌜ WroteParts (framesTables f (now (bands .entry)) (now (coef .entry)) (now (edges .entry)) m) (now (buf .entry)) at r (now (buf .exit)) ⌝ }
 {
     let mut place = at;
     let mut i: usize = 0;
     while i <= m {
         let own = chains::frame_at(f, edges, i);
-        let grown = put_part(own, coef, draft, buf, place);
+        let grown = put_part(own, bands, coef, draft, buf, place);
         let Grown::Next(next) = grown else {
             return Walk::Refused(refusals::no_table(i));
         };
@@ -83,6 +86,7 @@ fn put_parts(
 // The chain's bytes, then the tables: 9, 10. Finished, only the file's bytes are changed; refused, the buffer is all zeros.
 fn write_start(
     f: Frame,
+    bands: &[i64; BANDS],
     coef: &[i64; COEFFICIENTS],
     edges: &[i64; EDGES],
     m: usize,
@@ -90,13 +94,13 @@ fn write_start(
     draft: &mut [u8],
     buf: &mut [u8],
 ) -> Written
-    requires frames { ⌜ (m ≤ mostAbove) × FramesSound f (now coef) (now edges) m ⌝ }
+    requires frames { ⌜ (m ≤ mostAbove) × FramesSound f (now bands) (now coef) (now edges) m ⌝ }
     requires room { ⌜ 2 + most (2 ^ f .n) 7 (f .d) ≤ length (now draft) ⌝ }
-    ensures answer { λ r. ⌜ r ≡ left (behindChain (now (chain .entry)) (framesTables f (now (coef .entry)) (now (edges .entry)) m)) (now (buf .entry)) .answer ⌝ }
-    ensures bytes { λ r. ⌜ now (buf .exit) ≡ left (behindChain (now (chain .entry)) (framesTables f (now (coef .entry)) (now (edges .entry)) m)) (now (buf .entry)) .buffer ⌝ }
+    ensures answer { λ r. ⌜ r ≡ left (behindChain (now (chain .entry)) (framesTables f (now (bands .entry)) (now (coef .entry)) (now (edges .entry)) m)) (now (buf .entry)) .answer ⌝ }
+    ensures bytes { λ r. ⌜ now (buf .exit) ≡ left (behindChain (now (chain .entry)) (framesTables f (now (bands .entry)) (now (coef .entry)) (now (edges .entry)) m)) (now (buf .entry)) .buffer ⌝ }
 {
     let past_chain = buffers::put_bytes(buf, 0, chain);
-    let past = put_parts(f, coef, edges, m, draft, buf, past_chain);
+    let past = put_parts(f, bands, coef, edges, m, draft, buf, past_chain);
     match past {
         Walk::Refused(e) => buffers::refuse(e, buf),
         Walk::Next(size) => {
@@ -109,11 +113,17 @@ fn write_start(
 }
 
 // For a frame: chain, 15, 9, 10.
-fn make_start(f: Frame, coef: &[i64; COEFFICIENTS], chain: &[u8], buf: &mut [u8]) -> Written
-    requires frame { ⌜ FrameSound f (now coef) ⌝ }
+fn make_start(
+    f: Frame,
+    bands: &[i64; BANDS],
+    coef: &[i64; COEFFICIENTS],
+    chain: &[u8],
+    buf: &mut [u8],
+) -> Written
+    requires frame { ⌜ FrameSound f (now bands) (now coef) ⌝ }
     requires root { ⌜ within (boxOf (f .n) (f .root)) (boxOf (f .n) (f .safe)) ≡ true ⌝ }
-    ensures answer { λ r. ⌜ r ≡ chainLeft f (now (coef .entry)) (now (chain .entry)) (now (buf .entry)) .answer ⌝ }
-    ensures bytes { λ r. ⌜ now (buf .exit) ≡ chainLeft f (now (coef .entry)) (now (chain .entry)) (now (buf .entry)) .buffer ⌝ }
+    ensures answer { λ r. ⌜ r ≡ chainLeft f (now (bands .entry)) (now (coef .entry)) (now (chain .entry)) (now (buf .entry)) .answer ⌝ }
+    ensures bytes { λ r. ⌜ now (buf .exit) ≡ chainLeft f (now (bands .entry)) (now (coef .entry)) (now (chain .entry)) (now (buf .entry)) .buffer ⌝ }
 {
     let read = chains::read_chain(f, true, chain);
     let verdict = read.verdict;
@@ -122,10 +132,10 @@ fn make_start(f: Frame, coef: &[i64; COEFFICIENTS], chain: &[u8], buf: &mut [u8]
         Verdict::Accepted => {
             if f.n * f.d <= 4 {
                 let mut few = [0u8; FEW];
-                return write_start(f, coef, &read.edges, read.m, chain, &mut few, buf);
+                return write_start(f, bands, coef, &read.edges, read.m, chain, &mut few, buf);
             }
             let mut draft = [0u8; MOST];
-            write_start(f, coef, &read.edges, read.m, chain, &mut draft, buf)
+            write_start(f, bands, coef, &read.edges, read.m, chain, &mut draft, buf)
         }
     }
 }
@@ -140,7 +150,14 @@ pub fn start_make(plant: &[u8], chain: &[u8], buf: &mut [u8]) -> Written
     match verdict {
         Verdict::Refused(e) => buffers::refuse(e, buf),
         Verdict::Accepted => {
-            make_start(frames::framed(read.plant), &read.plant.coef, chain, buf)
+            let bands = frames::bands_of(read.plant);
+            make_start(
+                frames::framed(read.plant),
+                &bands,
+                &read.plant.coef,
+                chain,
+                buf,
+            )
         }
     }
 }

@@ -4,15 +4,16 @@
 // Neither test divides. Everything is lent, so that a call copies only small numbers.
 use crate::boxes;
 use crate::division;
+use crate::frames::BANDS;
 use crate::images;
 use crate::images::Span;
 use crate::levels;
 use crate::levels::ROOM;
 use crate::levels::WIDE;
-use crate::limits::BAND;
 use crate::limits::GOAL;
-use crate::limits::MARKS;
-use crate::limits::SAFE;
+use crate::limits::LIMITS;
+use crate::limits::MARK;
+use crate::limits::SPAN;
 use meaning::COEFFICIENTS;
 ghost use mathlib.Core.Path.{_≡_};
 ghost use mathlib.Core.Bool.{true, false};
@@ -22,11 +23,11 @@ ghost use lib.IntN.{natAbs, pos};
 ghost use Rattle.laws.specs.Lists.{at, tab};
 ghost use Rattle.meaning.specs.Boxes.{side, sidesOf, covers};
 ghost use Rattle.meaning.specs.Defined.{firstMode};
-ghost use Rattle.meaning.specs.Plants.{edgeLimit, bandLimit};
+ghost use Rattle.meaning.specs.Plants.{edgeLimit};
 ghost use Rattle.tables.specs.Boxes.{Small};
 ghost use Rattle.tables.specs.Images.{RowSound, Extremes};
 ghost use Rattle.tables.specs.Levels.{wide, room, sideIn, boxIn, Beside};
-ghost use Rattle.tables.specs.Limits.{addLimit, bandAt, marksAt, mostModes, sumSide, sumsAt, covered, staysLent, landsLent, imageLent, landing, dividedIn, Within, RowsSound, lastEntries, Marked};
+ghost use Rattle.tables.specs.Limits.{addLimit, markAt, mostModes, mostLimits, sumSide, sumsAt, covered, staysLent, landsLent, imageLent, landing, dividedIn, Within, RowsSound, BandsSound, lastEntries, Marked};
 ghost use Rattle.tables.specs.Search.{oneOf};
 
 // The least and the greatest of A·x + b over the box at `place`, by the row that starts at `start`.
@@ -52,8 +53,8 @@ fn sums(
 }
 
 // Whether sums lie in side i of the limits at `base`.
-fn inside(limits: &[i64; ROOM], base: usize, i: usize, least: i64, greatest: i64) -> bool
-    requires { ⌜ (base + wide ≤ room) × (i < 4) ⌝ }
+fn inside(limits: &[i64; LIMITS], base: usize, i: usize, least: i64, greatest: i64) -> bool
+    requires { ⌜ (base + wide ≤ mostLimits) × (i < 4) ⌝ }
     ensures { λ r. ⌜ r ≡ covers (sideIn (now (limits .entry)) base i) (side least greatest) ⌝ }
 {
     let from = limits[base + i];
@@ -66,7 +67,7 @@ fn inside(limits: &[i64; ROOM], base: usize, i: usize, least: i64, greatest: i64
 fn stays(
     n: usize,
     coef: &[i64; COEFFICIENTS],
-    limits: &[i64; ROOM],
+    limits: &[i64; LIMITS],
     base: usize,
     u: usize,
     boxes: &[i64; ROOM],
@@ -74,7 +75,7 @@ fn stays(
     slo: &mut [i64; 4],
     shi: &mut [i64; 4],
 ) -> bool
-    requires rows { ⌜ RowsSound n (now coef) u × (base + wide ≤ room) ⌝ }
+    requires rows { ⌜ RowsSound n (now coef) u × (base + wide ≤ mostLimits) ⌝ }
     requires edges { ⌜ (place + wide ≤ room) × Small edgeLimit (boxIn n (now boxes) place) × (length (now slo) ≡ 4) × (length (now shi) ≡ 4) ⌝ }
     ensures stays { λ r. ⌜ r ≡ covered n (now (coef .entry)) (now (limits .entry)) base u (boxIn n (now (boxes .entry)) place) ⌝ }
     ensures sums { λ r. ⌜ (r ≡ true → sidesOf n (now (slo .exit)) (now (shi .exit)) ≡ tab (sumsAt n (now (coef .entry)) u (boxIn n (now (boxes .entry)) place)) n 0) ⌝ }
@@ -96,27 +97,29 @@ fn stays(
     true
 }
 
-// The sides of an image from its sums, put at `place`: with the band added, divided by q.
+// The sides of an image under mode u from its sums, put at `place`: with the band added, divided by q.
 fn divide(
     n: usize,
     q: usize,
-    limits: &[i64; ROOM],
+    bands: &[i64; BANDS],
+    u: usize,
     slo: &[i64; 4],
     shi: &[i64; 4],
     boxes: &mut [i64; ROOM],
     place: usize,
 )
-    requires step { ⌜ (n ≤ 4) × (1 ≤ q) × (q ≤ 10_000) × Small bandLimit (boxIn n (now limits) bandAt) ⌝ }
+    requires step { ⌜ (n ≤ 4) × (1 ≤ q) × (q ≤ 10_000) × BandsSound n (now bands) u ⌝ }
     requires sums { ⌜ Within addLimit n (now slo) (now shi) × (place + wide ≤ room) × (length (now boxes) ≡ room) ⌝ }
-    ensures sides { λ _. ⌜ boxIn n (now (boxes .exit)) place ≡ tab (dividedIn q (now (limits .entry)) (now (slo .entry)) (now (shi .entry))) n 0 ⌝ }
+    ensures sides { λ _. ⌜ boxIn n (now (boxes .exit)) place ≡ tab (dividedIn n q (now (bands .entry)) u (now (slo .entry)) (now (shi .entry))) n 0 ⌝ }
     ensures beside { λ _. ⌜ Beside place (now (boxes .entry)) (now (boxes .exit)) ⌝ }
 {
     let mut i: usize = 0;
     while i < n {
         let l = slo[i];
         let h = shi[i];
-        let wl = limits[BAND + i];
-        let wh = limits[BAND + 4 + i];
+        let band = images::band(n, u, i);
+        let wl = bands[band];
+        let wh = bands[band + 1];
         let low = division::ceiling(l + wl, q);
         let high = division::floor(h + wh, q);
         levels::put_side(boxes, place, i, low, high);
@@ -129,23 +132,34 @@ fn divide(
 pub fn step(
     n: usize,
     q: usize,
+    bands: &[i64; BANDS],
     coef: &[i64; COEFFICIENTS],
-    limits: &[i64; ROOM],
+    limits: &[i64; LIMITS],
     u: usize,
     boxes: &mut [i64; ROOM],
     place: usize,
 ) -> bool
-    requires step { ⌜ RowsSound n (now coef) u × (n ≤ 4) × (1 ≤ q) × (q ≤ 10_000) × Small bandLimit (boxIn n (now limits) bandAt) ⌝ }
+    requires step { ⌜ RowsSound n (now coef) u × (n ≤ 4) × (1 ≤ q) × (q ≤ 10_000) × BandsSound n (now bands) u × (u < mostModes) ⌝ }
     requires edges { ⌜ (place + wide + wide ≤ room) × Small edgeLimit (boxIn n (now boxes) place) × (length (now boxes) ≡ room) ⌝ }
     ensures stays { λ r. ⌜ r ≡ staysLent n (now (coef .entry)) (now (limits .entry)) u (boxIn n (now (boxes .entry)) place) ⌝ }
-    ensures image { λ r. ⌜ (r ≡ true → boxIn n (now (boxes .exit)) (place + wide) ≡ imageLent n q (now (coef .entry)) (now (limits .entry)) u (boxIn n (now (boxes .entry)) place)) ⌝ }
+    ensures image { λ r. ⌜ (r ≡ true → boxIn n (now (boxes .exit)) (place + wide) ≡ imageLent n q (now (bands .entry)) (now (coef .entry)) u (boxIn n (now (boxes .entry)) place)) ⌝ }
     ensures beside { λ r. ⌜ Beside (place + wide) (now (boxes .entry)) (now (boxes .exit)) ⌝ }
     ensures untouched { λ r. ⌜ (r ≡ false → now (boxes .exit) ≡ now (boxes .entry)) ⌝ }
 {
     let mut slo = [0i64; 4];
     let mut shi = [0i64; 4];
-    if stays(n, coef, limits, SAFE, u, boxes, place, &mut slo, &mut shi) {
-        divide(n, q, limits, &slo, &shi, boxes, place + WIDE);
+    if stays(
+        n,
+        coef,
+        limits,
+        SPAN * u,
+        u,
+        boxes,
+        place,
+        &mut slo,
+        &mut shi,
+    ) {
+        divide(n, q, bands, u, &slo, &shi, boxes, place + WIDE);
         return true;
     }
     false
@@ -155,17 +169,17 @@ pub fn step(
 fn shared(
     n: usize,
     coef: &[i64; COEFFICIENTS],
-    limits: &[i64; ROOM],
+    limits: &[i64; LIMITS],
     u: usize,
     e: Span,
     boxes: &[i64; ROOM],
     place: usize,
 ) -> Span
     requires row { ⌜ (u < mostModes) × (1 ≤ n) × RowsSound n (now coef) u × (place + wide ≤ room) × Small edgeLimit (boxIn n (now boxes) place) ⌝ }
-    requires kept { ⌜ ((at (now limits) (marksAt + u) ≡ pos 0 → ⊥) → Extremes (lastEntries n (now coef) u) (boxIn n (now boxes) place) (e .lo) (e .hi)) ⌝ }
+    requires kept { ⌜ ((at (now limits) (markAt u) ≡ pos 0 → ⊥) → Extremes (lastEntries n (now coef) u) (boxIn n (now boxes) place) (e .lo) (e .hi)) ⌝ }
     ensures { λ r. ⌜ Extremes (lastEntries n (now (coef .entry)) u) (boxIn n (now (boxes .entry)) place) (r .lo) (r .hi) ⌝ }
 {
-    let mark = limits[MARKS + u];
+    let mark = limits[SPAN * u + MARK];
     if mark == 0 {
         let start = images::row(n, u, n - 1);
         return levels::extremes(n, coef, start, boxes, place);
@@ -177,22 +191,23 @@ fn shared(
 fn lands(
     n: usize,
     coef: &[i64; COEFFICIENTS],
-    limits: &[i64; ROOM],
+    limits: &[i64; LIMITS],
     u: usize,
     e: Span,
     boxes: &[i64; ROOM],
     place: usize,
 ) -> bool
-    requires row { ⌜ (1 ≤ n) × RowsSound n (now coef) u × (place + wide ≤ room) × Small edgeLimit (boxIn n (now boxes) place) ⌝ }
+    requires row { ⌜ (u < mostModes) × (1 ≤ n) × RowsSound n (now coef) u × (place + wide ≤ room) × Small edgeLimit (boxIn n (now boxes) place) ⌝ }
     requires last { ⌜ Extremes (lastEntries n (now coef) u) (boxIn n (now boxes) place) (e .lo) (e .hi) ⌝ }
     ensures { λ r. ⌜ r ≡ landsLent n (now (coef .entry)) (now (limits .entry)) u (boxIn n (now (boxes .entry)) place) ⌝ }
 {
     let start = images::row(n, u, n - 1);
     let offset = coef[start + n];
-    if inside(limits, GOAL, n - 1, e.lo + offset, e.hi + offset) {
+    let base = SPAN * u + GOAL;
+    if inside(limits, base, n - 1, e.lo + offset, e.hi + offset) {
         let mut slo = [0i64; 4];
         let mut shi = [0i64; 4];
-        return stays(n, coef, limits, GOAL, u, boxes, place, &mut slo, &mut shi);
+        return stays(n, coef, limits, base, u, boxes, place, &mut slo, &mut shi);
     }
     false
 }
@@ -202,7 +217,7 @@ pub fn last(
     n: usize,
     count: usize,
     coef: &[i64; COEFFICIENTS],
-    limits: &[i64; ROOM],
+    limits: &[i64; LIMITS],
     boxes: &[i64; ROOM],
     place: usize,
 ) -> usize

@@ -3,6 +3,7 @@
 // An image that lies in S is a box of small edges again, so the next one is in range.
 use crate::boxes;
 use crate::boxes::Bx;
+use crate::frames::BANDS;
 use crate::frames::Counts;
 use crate::images;
 use meaning::COEFFICIENTS;
@@ -17,22 +18,21 @@ ghost use Rattle.tables.specs.Tiles.{patternOf, Pattern};
 // The first k modes of us, tried on box b. Leaving S is told before missing R.
 pub fn tile_rule(
     f: Counts,
-    edges: &[[i64; 4]; 8],
+    edges: &[[i64; 4]; 6],
+    bands: &[i64; BANDS],
     coef: &[i64; COEFFICIENTS],
     k: usize,
     us: [usize; 6],
     b: Bx,
 ) -> Tried
-    requires plant { ⌜ FrameSound (frameFrom f (now edges)) (now coef) × Small edgeLimit (boxOf (f .n) b) ⌝ }
+    requires plant { ⌜ FrameSound (frameFrom f (now edges)) (now bands) (now coef) × Small edgeLimit (boxOf (f .n) b) ⌝ }
     requires pattern { ⌜ Pattern (f .modes) k us ⌝ }
-    ensures { λ r. ⌜ r ≡ rule (rulesIn (frameFrom f (now (edges .entry))) (now (coef .entry))) (boxOf (f .n) b) (patternOf k us) ⌝ }
+    ensures { λ r. ⌜ r ≡ rule (rulesIn (frameFrom f (now (edges .entry))) (now (bands .entry)) (now (coef .entry))) (boxOf (f .n) b) (patternOf k us) ⌝ }
 {
     let glo = edges[2];
     let ghi = edges[3];
     let slo = edges[4];
     let shi = edges[5];
-    let wlo = edges[6];
-    let whi = edges[7];
     let goal = Bx { lo: glo, hi: ghi };
     let safe = Bx { lo: slo, hi: shi };
     let mut c = b;
@@ -41,7 +41,7 @@ pub fn tile_rule(
         let u = us[i];
         let lo = c.lo;
         let hi = c.hi;
-        c = images::image(f.n, f.q, &wlo, &whi, coef, u, &lo, &hi);
+        c = images::image(f.n, f.q, bands, coef, u, &lo, &hi);
         if boxes::within(f.n, c, safe) {
             i += 1;
         } else {

@@ -4,6 +4,7 @@
 // stands behind it.
 use crate::boxes;
 use crate::boxes::Bx;
+use crate::frames::BANDS;
 use crate::frames::Counts;
 use crate::modes;
 use crate::refusals;
@@ -24,7 +25,8 @@ ghost use Rattle.tables.specs.Walks.{judgeBy, walkBy};
 // The tile at `at`, whose k modes begin at `from`: all of them are read before an image is tested. A fault of the pattern is told at the tile.
 fn tile(
     f: Counts,
-    edges: &[[i64; 4]; 8],
+    edges: &[[i64; 4]; 6],
+    bands: &[i64; BANDS],
     coef: &[i64; COEFFICIENTS],
     judged: bool,
     table: &[u8],
@@ -33,9 +35,9 @@ fn tile(
     from: usize,
     b: Bx,
 ) -> Walk
-    requires frame { ⌜ FrameSound (frameFrom f (now edges)) (now coef) × Small edgeLimit (boxOf (f .n) b) ⌝ }
+    requires frame { ⌜ FrameSound (frameFrom f (now edges)) (now bands) (now coef) × Small edgeLimit (boxOf (f .n) b) ⌝ }
     requires size { ⌜ k ≤ f .k ⌝ }
-    ensures { λ r. ⌜ r ≡ onModes (modesAt (f .modes) k (now (table .entry)) from) at (judgeBy judged (rulesIn (frameFrom f (now (edges .entry))) (now (coef .entry))) (boxOf (f .n) b)) ⌝ }
+    ensures { λ r. ⌜ r ≡ onModes (modesAt (f .modes) k (now (table .entry)) from) at (judgeBy judged (rulesIn (frameFrom f (now (edges .entry))) (now (bands .entry)) (now (coef .entry))) (boxOf (f .n) b)) ⌝ }
 {
     let read = modes::read_modes(f.modes, k, table, from);
     let past = read.answer;
@@ -44,7 +46,7 @@ fn tile(
         Walk::Next(next) => {
             if judged {
                 let us = read.us;
-                match tiles::tile_rule(f, edges, coef, k, us, b) {
+                match tiles::tile_rule(f, edges, bands, coef, k, us, b) {
                     Tried::Works => Walk::Next(next),
                     Tried::Leaves(i) => Walk::Refused(refusals::leaves(at, i)),
                     Tried::Misses(i) => Walk::Refused(refusals::misses(at, i)),
@@ -59,7 +61,8 @@ fn tile(
 // The tree at `at`, over box b with depth d left: the place behind it, or the first fault in file order.
 pub fn walk(
     f: Counts,
-    edges: &[[i64; 4]; 8],
+    edges: &[[i64; 4]; 6],
+    bands: &[i64; BANDS],
     coef: &[i64; COEFFICIENTS],
     judged: bool,
     table: &[u8],
@@ -67,8 +70,8 @@ pub fn walk(
     at: usize,
     b: Bx,
 ) -> Walk
-    requires { ⌜ FrameSound (frameFrom f (now edges)) (now coef) × Small edgeLimit (boxOf (f .n) b) ⌝ }
-    ensures { λ r. ⌜ r ≡ walkBy judged (rulesIn (frameFrom f (now (edges .entry))) (now (coef .entry))) d (now (table .entry)) at (boxOf (f .n) b) ⌝ }
+    requires { ⌜ FrameSound (frameFrom f (now edges)) (now bands) (now coef) × Small edgeLimit (boxOf (f .n) b) ⌝ }
+    ensures { λ r. ⌜ r ≡ walkBy judged (rulesIn (frameFrom f (now (edges .entry))) (now (bands .entry)) (now (coef .entry))) d (now (table .entry)) at (boxOf (f .n) b) ⌝ }
 {
     let Number::Value(k, next) = numbers::number(table, at) else {
         return Walk::Refused(files::refusals::broken(at));
@@ -77,7 +80,7 @@ pub fn walk(
         return Walk::Refused(refusals::bad_table(at));
     }
     if 0 < k {
-        return tile(f, edges, coef, judged, table, at, k, next, b);
+        return tile(f, edges, bands, coef, judged, table, at, k, next, b);
     }
     if d == 0 {
         return Walk::Refused(refusals::bad_table(at));
@@ -91,7 +94,7 @@ pub fn walk(
     let mut c: usize = 0;
     while c < count {
         let child = boxes::child(n, b, c);
-        let past = walk(f, edges, coef, judged, table, d - 1, place, child);
+        let past = walk(f, edges, bands, coef, judged, table, d - 1, place, child);
         let Walk::Next(m) = past else {
             return past;
         };

@@ -37,9 +37,10 @@ use Rattle.tables.specs.declared.chains.ChainRead.{ChainRead}
 use Rattle.tables.specs.declared.frames.Frame.{Frame}
 use Rattle.tables.specs.Boxes.{boxOf, Small}
 use Rattle.tables.specs.Chains.{mostAbove, mostEdges, edgesAbove, valuesIn, noChain, chainWith, chainValues, chainRead, boxOn, bxAt, bxBelow, frameAt, keeps, FramesSound}
-use Rattle.tables.specs.Frames.{frameOf, rulesIn, FrameSound}
+use Rattle.tables.specs.Frames.{frameOf, rulesIn, FrameSound, OneBand}
 use Rattle.tables.proofs.boxes.Laws.{small-tab}
 use Rattle.tables.proofs.frames.Laws.{own-sound}
+use Rattle.tables.proofs.frames.OneBand.{ruled, own-steps}
 
 -- ---- edges and values: the e-th edge is the value e + 2
 
@@ -233,7 +234,7 @@ module _ (whole : Bool) (f : Frame) (s : List ℕ) (r : ChainRead) (q : r ≡ ch
 
     -- ---- its frames
 
-    module _ (coef : List ℤ) (g : FrameSound f coef) (in-safe : within root safe ≡ true) where
+    module _ (bands coef : List ℤ) (g : FrameSound f bands coef) (in-safe : within root safe ≡ true) where
       box-small : (i : ℕ) → i ≤ r .m → Small edgeLimit (boxAt n root (t .vs) i)
       box-small zero h = g .root
       box-small (suc i) h = small-tab (chainSide n (t .vs) i) n 0 (λ j a b. chain-range .sides i j (omega (arith, t .count)) (omega arith))
@@ -253,7 +254,7 @@ module _ (whole : Bool) (f : Frame) (s : List ℕ) (r : ChainRead) (q : r ≡ ch
       below-safe zero h = in-safe
       below-safe (suc i) h = box-safe i (omega arith)
 
-      pub frame-sound : (i : ℕ) → i ≤ r .m → FrameSound (frameAt f (r .edges) i) coef
+      pub frame-sound : (i : ℕ) → i ≤ r .m → FrameSound (frameAt f (r .edges) i) bands coef
       frame-sound i h =
           let box = box-same n (g .rooms) (r .edges) (t .vs) chain-edged (f .root) i in
           let below = below-same n (g .rooms) (r .edges) (t .vs) chain-edged (f .root) i in
@@ -278,8 +279,10 @@ module _ (whole : Bool) (f : Frame) (s : List ℕ) (r : ChainRead) (q : r ≡ ch
 -- ---- for a plant: its frame's rules over a box of the chain are meaning's rules of that box
 
 module _ (p : Plant) (rooms : p .n ≤ 4) (edges vs : List ℤ) (q : Edged edges vs) where
-  pub rules-at : (i : ℕ) → rulesIn (frameAt (frameOf p) edges i) (p .coef) ≡ boxRules p vs i
-  rules-at i = boxes-same (p .n) rooms edges vs q (frameOf p .root) (λ root goal. tableRules p root goal) i
+  pub rules-at : (bands : List ℤ) → OneBand (p .n) (p .wlo) (p .whi) bands → (i : ℕ) → rulesIn (frameAt (frameOf p) edges i) bands (p .coef) ≡ boxRules p vs i
+  rules-at bands o i =
+      ap (ruled p (boxOf (p .n) (frameAt (frameOf p) edges i .root)) (boxOf (p .n) (frameAt (frameOf p) edges i .goal))) (own-steps p bands rooms o)
+      ∙ boxes-same (p .n) rooms edges vs q (frameOf p .root) (λ root goal. tableRules p root goal) i
 
   -- and what is answered by them
   pub answers-at : {A : Type 0} (answer : List Side → List Side → A) (i : ℕ)
@@ -308,9 +311,9 @@ module _ (whole : Bool) (p : Plant) (g : Sound p) (f : Frame) (e : f ≡ frameOf
     pub plant-edged : Edged (r .edges) (t .vs)
     plant-edged = chain-edged whole (frameOf p) s r own t
 
-    pub plant-frames : FramesSound f (p .coef) (r .edges) (r .m)
-    plant-frames = rw e (record {
-      rooms = own-sound p g .rooms;
+    pub plant-frames : (bands : List ℤ) → OneBand (p .n) (p .wlo) (p .whi) bands → FramesSound f bands (p .coef) (r .edges) (r .m)
+    plant-frames bands o = rw e (record {
+      rooms = g .ranges .n-high;
       few = chain-few whole (frameOf p) s r own t;
-      each = λ i h. frame-sound whole (frameOf p) s r own t (p .coef) (own-sound p g) (own-sound p g .in-safe) i h;
+      each = λ i h. frame-sound whole (frameOf p) s r own t bands (p .coef) (own-sound p g bands o) (g .root-safe) i h;
     })

@@ -161,31 +161,31 @@ empty : {A : Type 0} (xs : List A) → length xs ≡ 0 → xs ≡ []
 empty [] e = refl
 empty (x ∷ xs) e = absurd (omega arith)
 
-module _ (f : Frame) (coef : List ℤ) (d : ℕ) (b : List Side) (size : ℕ) (us : List ℕ) (q : patternBy size us ≡ firstPattern (rulesIn f coef) b) (buf : List ℕ) (at : ℕ) where
-  pub node-tile : (size ≡ 0 → ⊥) → (next : ℕ) (out : List ℕ) → Put buf at (layout (tile (patternOf size us))) next out → Wrote (treeBytes (rulesIn f coef) d b) buf at (Grown.Next next) out
-  node-tile z next out t = rw (box-tile (rulesIn f coef) d b (patternOf size us) (sym q ∙ there size z)) t
+module _ (f : Frame) (bands coef : List ℤ) (d : ℕ) (b : List Side) (size : ℕ) (us : List ℕ) (q : patternBy size us ≡ firstPattern (rulesIn f bands coef) b) (buf : List ℕ) (at : ℕ) where
+  pub node-tile : (size ≡ 0 → ⊥) → (next : ℕ) (out : List ℕ) → Put buf at (layout (tile (patternOf size us))) next out → Wrote (treeBytes (rulesIn f bands coef) d b) buf at (Grown.Next next) out
+  node-tile z next out t = rw (box-tile (rulesIn f bands coef) d b (patternOf size us) (sym q ∙ there size z)) t
     where
       there : (k : ℕ) → (k ≡ 0 → ⊥) → patternBy k us ≡ some (patternOf k us)
       there zero z = absurd (z refl)
       there (suc k) z = refl
 
   module _ (z : size ≡ 0) where
-    nothing : firstPattern (rulesIn f coef) b ≡ none
+    nothing : firstPattern (rulesIn f bands coef) b ≡ none
     nothing = sym q ∙ rw z refl
 
-    pub node-deep : d ≡ 0 → Wrote (treeBytes (rulesIn f coef) d b) buf at Grown.Nothing buf
-    node-deep h = rw (box-deep (rulesIn f coef) d b nothing h) refl
+    pub node-deep : d ≡ 0 → Wrote (treeBytes (rulesIn f bands coef) d b) buf at Grown.Nothing buf
+    node-deep h = rw (box-deep (rulesIn f bands coef) d b nothing h) refl
 
-    pub node-stuck : length (children b) ≡ 0 → Wrote (treeBytes (rulesIn f coef) d b) buf at Grown.Nothing buf
-    node-stuck h = rw (box-stuck (rulesIn f coef) d b nothing (empty (children b) h)) refl
+    pub node-stuck : length (children b) ≡ 0 → Wrote (treeBytes (rulesIn f bands coef) d b) buf at Grown.Nothing buf
+    node-stuck h = rw (box-stuck (rulesIn f bands coef) d b nothing (empty (children b) h)) refl
 
     pub node-split : (d ≡ 0 → ⊥) → (length (children b) ≡ 0 → ⊥) → (place : ℕ) (mid : List ℕ) → Put buf at (bytesOf 0) place mid
-        → (a : Grown) (out : List ℕ) → Wrote (treesBytes (rulesIn f coef) (d - 1) (children b)) mid place a out → Wrote (treeBytes (rulesIn f coef) d b) buf at a out
+        → (a : Grown) (out : List ℕ) → Wrote (treesBytes (rulesIn f bands coef) (d - 1) (children b)) mid place a out → Wrote (treeBytes (rulesIn f bands coef) d b) buf at a out
     node-split h l place mid t a out w =
         let k : d ≡ suc (d - 1) = omega arith in
-        let e : treeBytes (rulesIn f coef) d b ≡ mapSome (λ ys. bytesOf 0 ++ ys) (treesBytes (rulesIn f coef) (d - 1) (children b)) =
-        ap (λ (i : ℕ). treeBytes (rulesIn f coef) i b) k ∙ box-split (rulesIn f coef) (d - 1) b nothing (λ n. l (ap length n)) in
-        rw e (wrote-behind t (treesBytes (rulesIn f coef) (d - 1) (children b)) a out w)
+        let e : treeBytes (rulesIn f bands coef) d b ≡ mapSome (λ ys. bytesOf 0 ++ ys) (treesBytes (rulesIn f bands coef) (d - 1) (children b)) =
+        ap (λ (i : ℕ). treeBytes (rulesIn f bands coef) i b) k ∙ box-split (rulesIn f bands coef) (d - 1) b nothing (λ n. l (ap length n)) in
+        rw e (wrote-behind t (treesBytes (rulesIn f bands coef) (d - 1) (children b)) a out w)
 
 -- ---- the whole table: form 1, n, then the tree of the box that is tiled
 
@@ -252,19 +252,19 @@ module _ (r : Rules) where
       go (some t) e = let q : tableOf r t ≡ bytes = cc in ap good q
 
 -- the bytes of a frame's defined table, at most
-defined-length : (f : Frame) (coef : List ℤ) → FrameSound f coef → (t : Tree) → definedTree (rulesIn f coef) ≡ some t → length (tableOf (rulesIn f coef) t) ≤ 2 + most (2 ^ f .n) 7 (f .d)
-defined-length f coef g t e =
-    table-length (f .n) (f .modes) (f .k) (f .d) (boxOf (f .n) (f .root)) (boxOf (f .n) (f .goal)) (boxOf (f .n) (f .safe)) (stepIn f coef)
-    (g .rooms) (omega (arith, g .modes)) (g .longest) (length-tab (sideAt (f .root .lo) (f .root .hi)) (f .n) 0) t (defined-works (rulesIn f coef) t e)
+defined-length : (f : Frame) (bands coef : List ℤ) → FrameSound f bands coef → (t : Tree) → definedTree (rulesIn f bands coef) ≡ some t → length (tableOf (rulesIn f bands coef) t) ≤ 2 + most (2 ^ f .n) 7 (f .d)
+defined-length f bands coef g t e =
+    table-length (f .n) (f .modes) (f .k) (f .d) (boxOf (f .n) (f .root)) (boxOf (f .n) (f .goal)) (boxOf (f .n) (f .safe)) (stepIn f bands coef)
+    (g .rooms) (omega (arith, g .modes)) (g .longest) (length-tab (sideAt (f .root .lo) (f .root .hi)) (f .n) 0) t (defined-works (rulesIn f bands coef) t e)
 
 -- a draft that has room for a frame's table
-module _ (f : Frame) (coef : List ℤ) (g : FrameSound f coef) (draft : List ℕ) (l : 2 + most (2 ^ f .n) 7 (f .d) ≤ length draft)
-    (a : Grown) (out : List ℕ) (w : Wrote (definedBytes (rulesIn f coef)) draft 0 a out) (size : ℕ) (z : a ≡ Grown.Next size) where
-  room : (t : Tree) → definedTree (rulesIn f coef) ≡ some t → length (tableOf (rulesIn f coef) t) ≤ length draft
-  room t e = omega (arith, defined-length f coef g t e, l)
+module _ (f : Frame) (bands coef : List ℤ) (g : FrameSound f bands coef) (draft : List ℕ) (l : 2 + most (2 ^ f .n) 7 (f .d) ≤ length draft)
+    (a : Grown) (out : List ℕ) (w : Wrote (definedBytes (rulesIn f bands coef)) draft 0 a out) (size : ℕ) (z : a ≡ Grown.Next size) where
+  room : (t : Tree) → definedTree (rulesIn f bands coef) ≡ some t → length (tableOf (rulesIn f bands coef) t) ≤ length draft
+  room t e = omega (arith, defined-length f bands coef g t e, l)
 
   pub fits : size ≤ length out
-  fits = fits-by (rulesIn f coef) draft a out w size z room
+  fits = fits-by (rulesIn f bands coef) draft a out w size z room
 
-  pub front : definedBytes (rulesIn f coef) ≡ some (take size out)
-  front = front-by (rulesIn f coef) draft a out w size z room
+  pub front : definedBytes (rulesIn f bands coef) ≡ some (take size out)
+  front = front-by (rulesIn f bands coef) draft a out w size z room

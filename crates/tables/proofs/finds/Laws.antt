@@ -51,9 +51,9 @@ tile-found us m from k w next q g = ap (λ (v : Walk). tileFound (told v us) fro
 
 -- ---- a node
 
-module _ (f : Frame) (coef : List ℤ) (x : List ℤ) where
+module _ (f : Frame) (bands coef : List ℤ) (x : List ℤ) where
   abbrev rules : Rules
-  rules = rulesIn f coef
+  rules = rulesIn f bands coef
 
   -- the look among the children of the box b of a split at `node`, c of them passed, w the place behind them
   abbrev pub lookFrom : ℕ → List ℕ → ℕ → List Side → ℕ → ℕ → Found

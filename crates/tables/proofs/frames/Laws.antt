@@ -13,20 +13,21 @@ use Rattle.tables.specs.declared.frames.Frame.{Frame}
 use Rattle.tables.specs.declared.frames.Counts.{Counts}
 use Rattle.tables.specs.Boxes.{boxOf, Small}
 use Rattle.tables.specs.Images.{RowSound, StepSound}
-use Rattle.tables.specs.Frames.{frameOf, countsOf, edgesOf, frameFrom, FrameSound}
+use Rattle.tables.specs.Frames.{frameOf, countsOf, edgesOf, frameFrom, FrameSound, OneBand}
 use Rattle.promises.specs.files.Sound.{Edges, Ranges, Sound}
 use Rattle.tables.proofs.boxes.Laws.{small-tab}
+use Rattle.tables.proofs.frames.OneBand.{own-band, own-wide}
 
 -- ---- what a sound frame gives
 
-pub step-in : (f : Frame) (coef : List ℤ) → FrameSound f coef → (u : ℕ) → u < f .modes → StepSound (f .n) (f .q) (f .band .lo) (f .band .hi) coef u
-step-in f coef g u h = record { rooms = g .rooms; least = g .least; most = g .most; bands = g .band; rows = λ i k. g .rows u i h k }
+pub step-in : (f : Frame) (bands coef : List ℤ) → FrameSound f bands coef → (u : ℕ) → u < f .modes → StepSound (f .n) (f .q) bands coef u
+step-in f bands coef g u h = record { rooms = g .rooms; least = g .least; most = g .most; band = λ i k. g .band u i h k; rows = λ i k. g .rows u i h k }
 
 -- ---- a frame taken apart: what is asked of it over the box that it tiles, and what is answered for it, are those of the frame
 
 module _ (f : Frame) (c : Counts) (edges : List (List ℤ)) (p : c ≡ countsOf f) (q : edges ≡ edgesOf f) where
-  pub lent-sound : (coef : List ℤ) → FrameSound f coef → FrameSound (frameFrom c edges) coef × Small edgeLimit (boxOf (c .n) (f .root))
-  lent-sound coef g = rw (p, q) (g, g .root)
+  pub lent-sound : (bands coef : List ℤ) → FrameSound f bands coef → FrameSound (frameFrom c edges) bands coef × Small edgeLimit (boxOf (c .n) (f .root))
+  lent-sound bands coef g = rw (p, q) (g, g .root)
 
   pub lent-is : frameFrom c edges ≡ f
   lent-is = rw (p, q) refl
@@ -62,24 +63,26 @@ module _ (p : Plant) (g : Sound p) where
     offset = g .offsets u i h k;
   }
 
-  pub own-sound : FrameSound (frameOf p) (p .coef)
-  own-sound = record {
-    some = r .n-low;
-    rooms = r .n-high;
-    longest = r .k-high;
-    least = r .q-low;
-    most = r .q-high;
-    modes = r .m-high;
-    depth = r .d-high;
-    tiles = r .nd-high;
-    root = edges-small (r .root);
-    goal = edges-small (r .root);
-    safe = edges-small (r .safe);
-    band = edges-small (r .band);
-    in-safe = g .root-safe;
-    wide = g .wide;
-    rows = row-sound;
-  }
+  -- of its bands
+  module _ (bands : List ℤ) (o : OneBand (p .n) (p .wlo) (p .whi) bands) where
+    pub own-sound : FrameSound (frameOf p) bands (p .coef)
+    own-sound = record {
+      some = r .n-low;
+      rooms = r .n-high;
+      longest = r .k-high;
+      least = r .q-low;
+      most = r .q-high;
+      modes = r .m-high;
+      depth = r .d-high;
+      tiles = r .nd-high;
+      root = edges-small (r .root);
+      goal = edges-small (r .root);
+      safe = edges-small (r .safe);
+      band = own-band p bands (r .n-high) o g;
+      in-safe = g .root-safe;
+      wide = λ u i h k. own-wide p bands (r .n-high) o g u i k;
+      rows = row-sound;
+    }
 
-  pub framed-sound : (f : Frame) → f ≡ frameOf p → FrameSound f (p .coef)
-  framed-sound f e = rw e own-sound
+    pub framed-sound : (f : Frame) → f ≡ frameOf p → FrameSound f bands (p .coef)
+    framed-sound f e = rw e own-sound

@@ -17,11 +17,11 @@ use Rattle.laws.specs.Tabs.{length-tab, tab-snoc, map-tab}
 use Rattle.laws.specs.Tests.{orders, all-tab}
 use Rattle.meaning.specs.Boxes.{Side, side, sideAt, covers, within}
 use Rattle.meaning.specs.Images.{Row, leastOf, greatestOf, extreme, imageSide, image}
-use Rattle.meaning.specs.Plants.{edgeLimit, entryLimit, mostCoefs}
+use Rattle.meaning.specs.Plants.{edgeLimit, bandLimit, entryLimit, mostCoefs}
 use Rattle.tables.specs.declared.frames.Frame.{Frame}
 use Rattle.tables.specs.Boxes.{boxOf, Small}
 use Rattle.promises.specs.files.Sound.{Bounded}
-use Rattle.tables.specs.Images.{positivePart, negativePart, termLimit, rowLimit, entryAt, entriesOf, rowFrom, stepFrom, RowSound, Extremes}
+use Rattle.tables.specs.Images.{positivePart, negativePart, termLimit, rowLimit, entryAt, entriesOf, bandStart, bandIn, rowFrom, stepFrom, RowSound, BandSound, Extremes}
 use Rattle.tables.specs.Frames.{FrameSound}
 use Rattle.tables.proofs.boxes.Laws.{small-at, small-tab, small-side, between, sides-stored, lies-tab}
 
@@ -157,6 +157,18 @@ module _ (n : ℕ) (coef : List ℤ) (start : ℕ) (ss : ℕ → Side) where
     pub sums-asked : (lo hi : ℤ) → Sums j lo hi → ((natAbs (entryAt coef start j) ≤ entryLimit) × Bounded edgeLimit (ss j)) × ((natAbs lo ≤ rowLimit) × (natAbs hi ≤ rowLimit))
     sums-asked lo hi w = let f = r .rooms in ((r .entries j h, bounded), (omega (arith, w .0 .small), omega (arith, w .1 .small)))
 
+-- ---- the band of mode u in dimension i, read at its place
+
+module _ (n : ℕ) (bands : List ℤ) (u i place : ℕ) (e : place ≡ bandStart n u i) where
+  abbrev pub bandHere : Side
+  bandHere = side (at bands place) (at bands (place + 1))
+
+  pub band-here : bandHere ≡ bandIn n bands u i
+  band-here = rw e refl
+
+  pub band-small : BandSound n bands u i → Bounded bandLimit bandHere
+  band-small g = rw e (g .ends)
+
 -- ---- the image, side by side
 
 -- one side, of what the calls answer
@@ -165,12 +177,12 @@ pub side-is : {es : List ℤ} {b : List Side} {lo hi : ℤ} (x y o wl wh : ℤ) 
 side-is x y o wl wh q e f g = rw (f, g, e .least, e .greatest) refl
 
 -- side i of the image of b
-abbrev pub imageSideAt : ℕ → ℕ → List ℤ → List ℤ → List ℤ → ℕ → List Side → ℕ → Side
-imageSideAt n q wlo whi coef u b i = imageSide q b (rowFrom n wlo whi coef u i)
+abbrev pub imageSideAt : ℕ → ℕ → List ℤ → List ℤ → ℕ → List Side → ℕ → Side
+imageSideAt n q bands coef u b i = imageSide q b (rowFrom n bands coef u i)
 
-pub image-tab : (n q : ℕ) (wlo whi : List ℤ) (coef : List ℤ) (u : ℕ) (b : List Side) → image (stepFrom n q wlo whi coef u) b ≡ tab (imageSideAt n q wlo whi coef u b) n 0
+pub image-tab : (n q : ℕ) (bands coef : List ℤ) (u : ℕ) (b : List Side) → image (stepFrom n q bands coef u) b ≡ tab (imageSideAt n q bands coef u b) n 0
 unfolding image
-image-tab n q wlo whi coef u b = map-tab (imageSide q b) (rowFrom n wlo whi coef u) n 0
+image-tab n q bands coef u b = map-tab (imageSide q b) (rowFrom n bands coef u) n 0
 
 -- one more side is stored
 pub image-more : (f : ℕ → Side) (lo hi : List ℤ) (i : ℕ) (x y : ℤ) → i < length lo → i < length hi → side x y ≡ f i → tab (sideAt lo hi) i 0 ≡ tab f i 0
@@ -223,24 +235,24 @@ inside-small a s b e o =
       order = o;
     }
 
-module _ (f : Frame) (coef : List ℤ) (g : FrameSound f coef) (u : ℕ) (b : List Side) (s : Small edgeLimit b) where
+module _ (f : Frame) (bands coef : List ℤ) (g : FrameSound f bands coef) (u : ℕ) (m : u < f .modes) (b : List Side) (s : Small edgeLimit b) where
   abbrev next : List Side
-  next = image (stepFrom (f .n) (f .q) (f .band .lo) (f .band .hi) coef u) b
+  next = image (stepFrom (f .n) (f .q) bands coef u) b
 
   pub small-image : within next (boxOf (f .n) (f .safe)) ≡ true → Small edgeLimit next
-  small-image e = rw (image-tab (f .n) (f .q) (f .band .lo) (f .band .hi) coef u b) (small-tab sides (f .n) 0 (λ j l h. at-side j (omega arith)))
+  small-image e = rw (image-tab (f .n) (f .q) bands coef u b) (small-tab sides (f .n) 0 (λ j l h. at-side j (omega arith)))
     where
       sides : ℕ → Side
-      sides = imageSideAt (f .n) (f .q) (f .band .lo) (f .band .hi) coef u b
+      sides = imageSideAt (f .n) (f .q) bands coef u b
 
       safe : ℕ → Side
       safe = sideAt (f .safe .lo) (f .safe .hi)
 
       inside : all (tab (λ j. covers (safe j) (sides j)) (f .n) 0) ≡ true
-      inside = sym (ap all (lies-tab sides safe (f .n) 0)) ∙ (rw (image-tab (f .n) (f .q) (f .band .lo) (f .band .hi) coef u b) at e)
+      inside = sym (ap all (lies-tab sides safe (f .n) 0)) ∙ (rw (image-tab (f .n) (f .q) bands coef u b) at e)
 
       at-side : (j : ℕ) → j < f .n → Bounded edgeLimit (sides j)
       at-side j h =
           inside-small (sides j) (safe j) (small-side (f .safe .lo) (f .safe .hi) (f .n) j (g .safe) h)
           (rw zero-add at (all-tab (λ j. covers (safe j) (sides j)) (f .n) 0 j h inside))
-          (side-order edgeLimit (f .q) b (rowFrom (f .n) (f .band .lo) (f .band .hi) coef u j) s (g .least) (g .wide j h))
+          (side-order edgeLimit (f .q) b (rowFrom (f .n) bands coef u j) s (g .least) (g .wide u j m h))

@@ -1,9 +1,9 @@
--- Laws for the proof of module limits: limits fit the machine's words; the array is laid dimension by dimension, and marked mode by mode.
+-- Laws for the proof of module limits: limits fit the machine's words; the array is laid and marked mode by mode.
 -- Assumes nothing.
 use Prim.Native.Nat.{ℕ, _+_, _-_, _≤_, _<_}
 use mathlib.Core.Path.{_≡_, refl, ap, _∙_}
 use mathlib.Core.List.{List}
-use mathlib.Core.Logic.{inl, inr}
+use mathlib.Core.Logic.{inl}
 use native.Mathlib.Omega.{arith}
 use native.Mathlib.Decide.{ℕ-discrete}
 use lib.ListN.{length, set}
@@ -15,9 +15,10 @@ use Rattle.laws.specs.Expressions.{Ex, var, lit, _⊕_, _⊝_, _⊗_, bound, si
 use Rattle.meaning.specs.Boxes.{Side, side}
 use Rattle.meaning.specs.Plants.{edgeLimit, bandLimit}
 use Rattle.promises.specs.files.Sound.{Bounded}
-use Rattle.tables.specs.Levels.{room, sideIn, stored}
-use Rattle.tables.specs.Limits.{limitSide, safeAt, goalAt, bandAt, marksAt, lastEntries, Laid, Marked}
-use Rattle.tables.proofs.levels.Laws.{at-other, length-stored, stored-other, stored-more}
+use Rattle.tables.specs.Images.{bandIn}
+use Rattle.tables.specs.Levels.{wide, sideIn, Beside}
+use Rattle.tables.specs.Limits.{limitSide, safeAt, goalAt, markAt, lastEntries, LaidAt, Laid, Marked}
+use Rattle.tables.proofs.levels.Laws.{at-other}
 
 -- ---- what the machine holds of a side: itself, of a small one and of its limits
 
@@ -43,55 +44,42 @@ module _ (q : ℕ) (w s : Side) (h : q ≤ 10_000) (g : Bounded bandLimit w) (e 
       ap held {x = t} {y = limitSide q w s} (k ∙ ap (λ (v : Side). limitSide q v (held s)) (band-held w g) ∙ ap (λ (v : Side). limitSide q w v) (edge-held s e))
       ∙ rw (exact (var (limitSide q w s .lo) (bound from) (size from)) tt, exact (var (limitSide q w s .hi) (bound to) (size to)) tt) refl
 
--- ---- the array, dimension by dimension
+-- ---- the array, mode by mode
 
-module _ (q : ℕ) (goal safe band : ℕ → Side) where
-  pub laid-none : (l : List ℤ) → Laid 0 q goal safe band l
-  laid-none l = record { in-safe = λ i h. absurd (omega arith); in-goal = λ i h. absurd (omega arith); in-band = λ i h. absurd (omega arith) }
+module _ (n q : ℕ) (rooms : n ≤ 4) (goal safe : ℕ → Side) (bands : List ℤ) where
+  -- mode u behind u of them: x is the array with its limits of S, y with those of the goal too
+  pub laid-more : (u : ℕ) (l x y : List ℤ) → Beside (safeAt u) l x → ((i : ℕ) → i < n → sideIn x (safeAt u) i ≡ limitSide q (bandIn n bands u i) (safe i))
+      → Beside (goalAt u) x y → ((i : ℕ) → i < n → sideIn y (goalAt u) i ≡ limitSide q (bandIn n bands u i) (goal i)) → Laid n u q goal safe bands l → Laid n (u + 1) q goal safe bands y
+  laid-more u l x y bs es bg eg old v o = go (ℕ-discrete v u)
+    where
+      before : (base i : ℕ) → base + wide ≤ safeAt u → i < 4 → sideIn y base i ≡ sideIn l base i
+      before base i f k = bg .others base i k (inl (omega arith)) ∙ bs .others base i k (inl f)
 
-  -- dimension i behind i of them
-  module _ (i : ℕ) (l : List ℤ) (s r w : Side) (z : length l ≡ room) (h : i < 4) where
-    abbrev first : List ℤ
-    first = stored l safeAt i s
+      go : Dec (v ≡ u) → LaidAt n q goal safe bands y v
+      go (yes e) = rw e record { in-safe = λ i k. bg .others (safeAt u) i (omega arith) (inl (omega arith)) ∙ es i k; in-goal = eg }
+      go (no e) =
+          let h : v < u = omega arith in
+          record {
+            in-safe = λ i k. before (safeAt v) i (omega arith) (omega arith) ∙ old v h .in-safe i k;
+            in-goal = λ i k. before (goalAt v) i (omega arith) (omega arith) ∙ old v h .in-goal i k;
+          }
 
-    abbrev second : List ℤ
-    second = stored first goalAt i r
+  -- a mark is of no box
+  pub laid-beside : (modes : ℕ) (l : List ℤ) (m : ℕ) (z : ℤ) → Laid n modes q goal safe bands l → Laid n modes q goal safe bands (set l (markAt m) z)
+  laid-beside modes l m z g u h = record {
+    in-safe = λ i k. same (safeAt u) i (λ e. absurd (omega arith)) (λ e. absurd (omega arith)) ∙ g u h .in-safe i k;
+    in-goal = λ i k. same (goalAt u) i (λ e. absurd (omega arith)) (λ e. absurd (omega arith)) ∙ g u h .in-goal i k;
+  }
+    where
+      same : (base i : ℕ) → (base + i ≡ markAt m → ⊥) → (base + 4 + i ≡ markAt m → ⊥) → sideIn (set l (markAt m) z) base i ≡ sideIn l base i
+      same base i p r = rw (at-other l (markAt m) z (base + i) p, at-other l (markAt m) z (base + 4 + i) r) refl
 
-    laid-stored : s ≡ limitSide q (band i) (safe i) → r ≡ limitSide q (band i) (goal i) → w ≡ band i → Laid i q goal safe band l → Laid (i + 1) q goal safe band (stored second bandAt i w)
-    laid-stored es er ew g = record {
-      in-safe = λ j k. stored-other second bandAt i w h safeAt j (omega arith) (inl (omega arith)) ∙ stored-other first goalAt i r h safeAt j (omega arith) (inl (omega arith))
-          ∙ stored-more l safeAt i s h (λ j. limitSide q (band j) (safe j)) (omega arith) es (g .in-safe) j k;
-      in-goal = λ j k. stored-other second bandAt i w h goalAt j (omega arith) (inl (omega arith))
-          ∙ stored-more first goalAt i r h (λ j. limitSide q (band j) (goal j)) (omega (arith, length-stored l safeAt i s)) er (λ j k. stored-other l safeAt i s h goalAt j (omega arith) (inr (omega arith)) ∙ g .in-goal j k) j k;
-      in-band = stored-more second bandAt i w h band (omega (arith, length-stored first goalAt i r, length-stored l safeAt i s)) ew
-          (λ j k. stored-other first goalAt i r h bandAt j (omega arith) (inr (omega arith)) ∙ stored-other l safeAt i s h bandAt j (omega arith) (inr (omega arith)) ∙ g .in-band j k);
-    }
+-- ---- the marks
 
-    -- x, y and v are the array after each side that is set
-    pub laid-more : {x y v : List ℤ} → x ≡ stored l safeAt i s → y ≡ stored x goalAt i r → v ≡ stored y bandAt i w → s ≡ limitSide q (band i) (safe i) → r ≡ limitSide q (band i) (goal i) → w ≡ band i
-        → Laid i q goal safe band l → (length v ≡ room) × Laid (i + 1) q goal safe band v
-    laid-more ex ey ev es er ew g =
-        rw (ev, ey, ex) (length-stored second bandAt i w ∙ length-stored first goalAt i r ∙ length-stored l safeAt i s ∙ z, laid-stored es er ew g)
-
--- ---- behind the boxes, the marks
-
-pub laid-behind : {n q : ℕ} {goal safe band : ℕ → Side} {l : List ℤ} (k : ℕ) (z : ℤ) → n ≤ 4 → marksAt ≤ k → Laid n q goal safe band l → Laid n q goal safe band (set l k z)
-laid-behind {n} {q} {goal} {safe} {band} {l} k z h m g = record {
-  in-safe = λ i o. front safeAt i (omega arith) (omega arith) ∙ g .in-safe i o;
-  in-goal = λ i o. front goalAt i (omega arith) (omega arith) ∙ g .in-goal i o;
-  in-band = λ i o. front bandAt i (omega arith) (omega arith) ∙ g .in-band i o;
-}
-  where
-    front : (base i : ℕ) → base ≤ bandAt → i < 4 → sideIn (set l k z) base i ≡ sideIn l base i
-    front base i f o = rw (at-other l k z (base + i) (λ e. absurd (omega arith)), at-other l k z (base + 4 + i) (λ e. absurd (omega arith))) refl
-
-pub marked-none : (n : ℕ) (coef l : List ℤ) → Marked n 0 coef l
-marked-none n coef l u h = absurd (omega arith)
-
-pub marked-more : (n : ℕ) (coef l : List ℤ) (m : ℕ) (z : ℤ) → marksAt + m < length l → ((z ≡ pos 0 → ⊥) → (1 ≤ m) × (lastEntries n coef (m - 1) ≡ lastEntries n coef m)) → Marked n m coef l
-    → Marked n (m + 1) coef (set l (marksAt + m) z)
+pub marked-more : (n : ℕ) (coef l : List ℤ) (m : ℕ) (z : ℤ) → markAt m < length l → ((z ≡ pos 0 → ⊥) → (1 ≤ m) × (lastEntries n coef (m - 1) ≡ lastEntries n coef m)) → Marked n m coef l
+    → Marked n (m + 1) coef (set l (markAt m) z)
 marked-more n coef l m z h new old u o k = go (ℕ-discrete u m)
   where
     go : Dec (u ≡ m) → (1 ≤ u) × (lastEntries n coef (u - 1) ≡ lastEntries n coef u)
-    go (yes q) = rw q (new (λ e. k (rw q (at-stored l (marksAt + m) z h ∙ e))))
-    go (no q) = old u (omega arith) (λ e. k (at-other l (marksAt + m) z (marksAt + u) (λ p. absurd (omega arith)) ∙ e))
+    go (yes q) = rw q (new (λ e. k (rw q (at-stored l (markAt m) z h ∙ e))))
+    go (no q) = old u (omega arith) (λ e. k (at-other l (markAt m) z (markAt u) (λ p. absurd (omega arith)) ∙ e))

@@ -40,11 +40,11 @@ module _ (try : ℕ → Option (List ℕ)) (N v : ℕ) where
     pub modes-miss : try v ≡ none → firstMode try (N - v) v ≡ firstMode try (N - (v + 1)) (v + 1)
     modes-miss e = modes-next ∙ rw e refl
 
--- the same answers, the same first
-pub first-same : (f g : ℕ → Option (List ℕ)) → ((u : ℕ) → f u ≡ g u) → (m v : ℕ) → firstMode f m v ≡ firstMode g m v
+-- the same answers of the modes that are tried, the same first
+pub first-same : (f g : ℕ → Option (List ℕ)) (m v : ℕ) → ((u : ℕ) → u < v + m → f u ≡ g u) → firstMode f m v ≡ firstMode g m v
 unfolding firstMode
-first-same f g e zero v = refl
-first-same f g e (suc m) v = rw (e v, first-same f g e m (suc v)) refl
+first-same f g zero v e = refl
+first-same f g (suc m) v e = rw (e v (omega arith), first-same f g m (suc v) (λ u h. e u (omega arith))) refl
 
 -- ---- the levels of a path: one turn each
 

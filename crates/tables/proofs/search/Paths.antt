@@ -50,14 +50,14 @@ module _ (us : List ℕ) (N l u : ℕ) where
   entered-behind : l + 1 < length us → modeAt entered (l + 1) ≡ N
   entered-behind h = getD-set-same (set us l u) (l + 1) N 0 (omega (arith, length-set us l u))
 
-module _ (n N q : ℕ) (coef limits : List ℤ) where
+module _ (n N q : ℕ) (bands coef limits : List ℤ) where
   -- at first none stands
-  pub standing-none : (boxes : List ℤ) → length boxes ≡ room → Standing n N q coef limits boxes (replicate longestPattern N)
+  pub standing-none : (boxes : List ℤ) → length boxes ≡ room → Standing n N q bands coef limits boxes (replicate longestPattern N)
   standing-none boxes e = record { roomy = e; long = refl; stands = λ j o h. absurd (omega (arith, getD-replicate longestPattern j N 0 (omega arith))) }
 
   -- a level that is made stands, and those behind it no longer do
-  module _ (h : n ≤ 4) (boxes₀ : List ℤ) (us : List ℕ) (g : Standing n N q coef limits boxes₀ us) (l u : ℕ) (k : suc l < longestPattern) (boxes : List ℤ) (s : Beside (wide * l + wide) boxes₀ boxes) where
-    pub standing-new : staysLent n coef limits u (levelIn n boxes₀ l) ≡ true → levelIn n boxes (suc l) ≡ imageLent n q coef limits u (levelIn n boxes₀ l) → Standing n N q coef limits boxes (entered us N l u)
+  module _ (h : n ≤ 4) (boxes₀ : List ℤ) (us : List ℕ) (g : Standing n N q bands coef limits boxes₀ us) (l u : ℕ) (k : suc l < longestPattern) (boxes : List ℤ) (s : Beside (wide * l + wide) boxes₀ boxes) where
+    pub standing-new : staysLent n coef limits u (levelIn n boxes₀ l) ≡ true → levelIn n boxes (suc l) ≡ imageLent n q bands coef u (levelIn n boxes₀ l) → Standing n N q bands coef limits boxes (entered us N l u)
     standing-new e i = record {
       roomy = s .long ∙ g .roomy;
       long = length-set (set us l u) (l + 1) N ∙ length-set us l u ∙ g .long;
@@ -66,7 +66,7 @@ module _ (n N q : ℕ) (coef limits : List ℤ) where
       where
         go : (j : ℕ) → suc j < longestPattern → modeAt (entered us N l u) j < N → Dec (j ≡ l) → Dec (j ≡ l + 1)
             → (staysLent n coef limits (modeAt (entered us N l u) j) (levelIn n boxes j) ≡ true)
-            × (levelIn n boxes (suc j) ≡ imageLent n q coef limits (modeAt (entered us N l u) j) (levelIn n boxes j))
+            × (levelIn n boxes (suc j) ≡ imageLent n q bands coef (modeAt (entered us N l u) j) (levelIn n boxes j))
         go j o m (yes y) z =
             let a = entered-here us N l u (omega (arith, g .long)) in
             let b = level-other n h l boxes₀ boxes s l (λ w. absurd (omega arith)) in
@@ -86,16 +86,16 @@ module _ (n N q : ℕ) (coef limits : List ℤ) where
     pub deep : l ≤ m
     pub top : u ≤ N
     pub fresh : l ≡ m → u < N → u ≡ 0
-    pub standing : Standing n N q coef limits boxes us
+    pub standing : Standing n N q bands coef limits boxes us
     pub small : Small edgeLimit (levelIn n boxes l)
     pub below : Open N (levelsBelow n boxes us l)
-    pub to-find : rest (movesLent n N q coef limits) (m - l) (levelIn n boxes l) u (levelsBelow n boxes us l) ≡ whole
+    pub to-find : rest (movesLent n N q bands coef limits) (m - l) (levelIn n boxes l) u (levelsBelow n boxes us l) ≡ whole
 
   abbrev pub turnsAlong : ℕ → List ℤ → List ℕ → ℕ → ℕ → ℕ
   turnsAlong m boxes us l u = turnsLeft N (m - l) u (levelsBelow n boxes us l)
 
   module _ (m : ℕ) (boxes : List ℤ) (us : List ℕ) where
-    pub along-start : Standing n N q coef limits boxes us → Small edgeLimit (levelIn n boxes 0) → Along m (sought (movesLent n N q coef limits) m (levelIn n boxes 0)) boxes us 0 0
+    pub along-start : Standing n N q bands coef limits boxes us → Small edgeLimit (levelIn n boxes 0) → Along m (sought (movesLent n N q bands coef limits) m (levelIn n boxes 0)) boxes us 0 0
     unfolding levelsBelow Open
     along-start g s = record {
       deep = omega arith;
@@ -104,14 +104,14 @@ module _ (n N q : ℕ) (coef limits : List ℤ) where
       standing = g;
       small = s;
       below = tt;
-      to-find = let z : m - 0 ≡ m = omega arith in rw z (rest-all (movesLent n N q coef limits) m (levelIn n boxes 0));
+      to-find = let z : m - 0 ≡ m = omega arith in rw z (rest-all (movesLent n N q bands coef limits) m (levelIn n boxes 0));
     }
 
     module _ (whole : Option (List ℕ)) where
       -- the first level is done
       pub along-done : (l u : ℕ) → l ≡ 0 → N ≤ u → Along m whole boxes us l u → whole ≡ none
       unfolding levelsBelow
-      along-done zero u z h a = sym (a .to-find) ∙ rest-done (movesLent n N q coef limits) (m - 0) (levelIn n boxes 0) u h
+      along-done zero u z h a = sym (a .to-find) ∙ rest-done (movesLent n N q bands coef limits) (m - 0) (levelIn n boxes 0) u h
       along-done (suc i) u z h a = absurd (omega arith)
 
       -- another one is, and the level below it goes on behind its mode
@@ -128,7 +128,7 @@ module _ (n N q : ℕ) (coef limits : List ℤ) where
           standing = a .standing;
           small = a .below .0;
           below = a .below .2;
-          to-find = rw under (sym (rest-over (movesLent n N q coef limits) (m - suc i) (levelIn n boxes (suc i)) u h (level (levelIn n boxes i) (modeAt us i)) (levelsBelow n boxes us i)) ∙ a .to-find);
+          to-find = rw under (sym (rest-over (movesLent n N q bands coef limits) (m - suc i) (levelIn n boxes (suc i)) u h (level (levelIn n boxes i) (modeAt us i)) (levelsBelow n boxes us i)) ∙ a .to-find);
         }
 
         fewer : turnsAlong m boxes us i (modeAt us i + 1) < turnsAlong m boxes us (suc i) u
@@ -142,21 +142,21 @@ module _ (n N q : ℕ) (coef limits : List ℤ) where
 
       -- the last level: v is its first mode that lands, or N
       module _ (l u v : ℕ) (z : l ≡ m) (a : Along m whole boxes us l u) (h : u < N) (e : oneOf N v ≡ firstMode (landing n coef limits (levelIn n boxes l)) N 0) where
-        landed : oneOf N v ≡ firstMode (behind (movesLent n N q coef limits) 0 (levelIn n boxes l)) N 0
+        landed : oneOf N v ≡ firstMode (behind (movesLent n N q bands coef limits) 0 (levelIn n boxes l)) N 0
         unfolding behind
-        landed = e ∙ first-same _ _ (λ w. refl) N 0
+        landed = e ∙ first-same _ _ N 0 (λ w o. refl)
 
         last : m - l ≡ 0
         last = omega arith
 
-        from-first : rest (movesLent n N q coef limits) 0 (levelIn n boxes l) 0 (levelsBelow n boxes us l) ≡ whole
+        from-first : rest (movesLent n N q bands coef limits) 0 (levelIn n boxes l) 0 (levelsBelow n boxes us l) ≡ whole
         from-first = let y : u ≡ 0 = a .fresh z h in rw (last, y) at (a .to-find)
 
         pub along-found : l < longestPattern → v < N → some (patternOf (m + 1) (set us l v)) ≡ whole
         along-found few k =
             ap (λ (i : ℕ). some (patternOf (i + 1) (set us l v))) (sym z)
             ∙ ap some (sym (pattern-behind n boxes us l v (omega (arith, a .standing .long))))
-            ∙ sym (rest-found (movesLent n N q coef limits) (levelIn n boxes l) v landed (levelsBelow n boxes us l) k) ∙ from-first
+            ∙ sym (rest-found (movesLent n N q bands coef limits) (levelIn n boxes l) v landed (levelsBelow n boxes us l) k) ∙ from-first
 
         pub along-none : N ≤ v → v ≤ N → Along m whole boxes us l v × (turnsAlong m boxes us l v < turnsAlong m boxes us l u)
         along-none k o = (
@@ -167,14 +167,14 @@ module _ (n N q : ℕ) (coef limits : List ℤ) where
             standing = a .standing;
             small = a .small;
             below = a .below;
-            to-find = rw last (sym (rest-none (movesLent n N q coef limits) (levelIn n boxes l) v landed (levelsBelow n boxes us l) k) ∙ from-first);
+            to-find = rw last (sym (rest-none (movesLent n N q bands coef limits) (levelIn n boxes l) v landed (levelsBelow n boxes us l) k) ∙ from-first);
           },
           let y : u ≡ 0 = a .fresh z h in rw (last, y) (turns-last N v (levelsBelow n boxes us l) (omega arith) k),
         )
 
   -- mode u on level l: the arrays are those behind `search::descend`, which leaves level l and what is below it
   module _ (m : ℕ) (whole : Option (List ℕ)) (boxes₀ : List ℤ) (us₀ : List ℕ) (l u : ℕ) (a : Along m whole boxes₀ us₀ l u) (h : u < N) (k : l ≡ m → ⊥)
-      (boxes : List ℤ) (us : List ℕ) (s : SameTo n l boxes₀ us₀ boxes us) (g : Standing n N q coef limits boxes us) where
+      (boxes : List ℤ) (us : List ℕ) (s : SameTo n l boxes₀ us₀ boxes us) (g : Standing n N q bands coef limits boxes us) where
     below-is : levelsBelow n boxes us l ≡ levelsBelow n boxes₀ us₀ l
     below-is = below-same n boxes₀ us₀ l boxes us s
 
@@ -197,22 +197,22 @@ module _ (n N q : ℕ) (coef limits : List ℤ) where
         below = rw below-is (a .below);
         to-find =
             rw (here-is, below-is)
-            (sym (rest-pass (movesLent n N q coef limits) (m - l) (levelIn n boxes₀ l) u h (levelsBelow n boxes₀ us₀ l) (rw (more, ← e) refl)) ∙ a .to-find);
+            (sym (rest-pass (movesLent n N q bands coef limits) (m - l) (levelIn n boxes₀ l) u h (levelsBelow n boxes₀ us₀ l) (rw (more, ← e) refl)) ∙ a .to-find);
       }
 
       pub along-on : Along m whole boxes us l (u + 1) × (turnsAlong m boxes us l (u + 1) < turnsAlong m boxes₀ us₀ l u)
       along-on = (on, rw below-is (turns-pass N (m - l) u (levelsBelow n boxes₀ us₀ l) h))
 
     -- its image stays, and stands at level l + 1
-    module _ (e : true ≡ staysLent n coef limits u (levelIn n boxes₀ l)) (i : modeAt us l ≡ u) (j : levelIn n boxes (suc l) ≡ imageLent n q coef limits u (levelIn n boxes₀ l)) where
+    module _ (e : true ≡ staysLent n coef limits u (levelIn n boxes₀ l)) (i : modeAt us l ≡ u) (j : levelIn n boxes (suc l) ≡ imageLent n q bands coef u (levelIn n boxes₀ l)) where
       path-is : levelsBelow n boxes us (l + 1) ≡ level (levelIn n boxes₀ l) u ∷ levelsBelow n boxes₀ us₀ l
       unfolding levelsBelow
       path-is = rw (add-one, here-is, i, below-is) refl
 
-      top-is : levelIn n boxes (l + 1) ≡ imageLent n q coef limits u (levelIn n boxes₀ l)
+      top-is : levelIn n boxes (l + 1) ≡ imageLent n q bands coef u (levelIn n boxes₀ l)
       top-is = rw add-one j
 
-      down : Lent n N q coef limits → Along m whole boxes us (l + 1) 0
+      down : Lent n N q bands coef limits → Along m whole boxes us (l + 1) 0
       unfolding Open
       down t = record {
         deep = let d = a .deep in omega arith;
@@ -223,8 +223,8 @@ module _ (n N q : ℕ) (coef limits : List ℤ) where
         below = rw path-is (a .small, h, a .below);
         to-find =
             rw (top-is, path-is)
-            (sym (rest-enter (movesLent n N q coef limits) (m - (l + 1)) (levelIn n boxes₀ l) u h (levelsBelow n boxes₀ us₀ l) (sym e)) ∙ (rw more at (a .to-find)));
+            (sym (rest-enter (movesLent n N q bands coef limits) (m - (l + 1)) (levelIn n boxes₀ l) u h (levelsBelow n boxes₀ us₀ l) (sym e)) ∙ (rw more at (a .to-find)));
       }
 
-      pub along-down : Lent n N q coef limits → Along m whole boxes us (l + 1) 0 × (turnsAlong m boxes us (l + 1) 0 < turnsAlong m boxes₀ us₀ l u)
+      pub along-down : Lent n N q bands coef limits → Along m whole boxes us (l + 1) 0 × (turnsAlong m boxes us (l + 1) 0 < turnsAlong m boxes₀ us₀ l u)
       along-down t = (down t, rw (path-is, more) (turns-enter N (m - (l + 1)) u (levelsBelow n boxes₀ us₀ l) h (levelIn n boxes₀ l)))

@@ -18,11 +18,12 @@ use Rattle.meaning.specs.declared.Written.{Written}
 use Rattle.meaning.specs.Refusals.{noTable, short}
 use Rattle.meaning.specs.Buffers.{refusedWith, left}
 use Rattle.meaning.specs.Defined.{mapSome}
-use Rattle.meaning.specs.Files.{Judged, good, bad}
+use Rattle.meaning.specs.Files.{Judged, good, bad, valuesOf}
 use Rattle.meaning.specs.Numbers.{bytesOf}
 use Rattle.meaning.specs.Rules.{Rules}
-use Rattle.meaning.specs.Plants.{plantJudged}
-use Rattle.meaning.specs.Starts.{chainForm, above, partsOf, tableWith, tableBefore, tablesFrom, startBytes, startMade, startLeft}
+use Rattle.meaning.specs.Images.{Step}
+use Rattle.meaning.specs.Plants.{plantJudged, rootOf, safeOf}
+use Rattle.meaning.specs.Starts.{chainForm, above, boxAt, boxBelow, onChain, partsOf, tableWith, tableBefore, tablesFrom, startBytes, startMade, startLeft}
 use Rattle.meaning.specs.Tables.{rulesFrom, definedTable}
 use Rattle.promises.specs.files.Buffers.{left-short}
 use Rattle.promises.specs.files.Files.{file-writes}
@@ -32,10 +33,11 @@ use Rattle.tables.specs.declared.frames.Frame.{Frame}
 use Rattle.tables.specs.Boxes.{boxOf}
 use Rattle.tables.specs.Chains.{chainRead}
 use Rattle.tables.specs.Drafts.{Wrote, definedBytes}
-use Rattle.tables.specs.Frames.{frameOf, stepIn}
+use Rattle.tables.specs.Frames.{frameOf, stepIn, OneBand}
 use Rattle.tables.specs.StartMakes.{withLength, partBytes, WroteParts, framesRules, framesTables, behindChain, valuesRules, chainLeft}
 use Rattle.tables.proofs.chains.Laws.{boxes-same, Chained, chain-refused, chain-edged, chain-goes}
 use Rattle.tables.proofs.drafts.Laws.{table-none, table-some}
+use Rattle.tables.proofs.frames.OneBand.{ruled, own-steps}
 
 -- ---- a table behind its length
 
@@ -155,11 +157,11 @@ tables-same r s e (suc m) i =
     ap (λ (x : Rules). tableBefore (definedTable i x) λ _. tablesFrom r m (suc i)) (e i)
     ∙ ap (λ (j : Judged (List (List ℕ))). tableBefore (definedTable i (s i)) λ _. j) (tables-same r s e m (suc i))
 
-module _ (f : Frame) (coef : List ℤ) (chain buf : List ℕ) (r : ChainRead) (q : r ≡ chainRead true f chain) where
+module _ (f : Frame) (bands coef : List ℤ) (chain buf : List ℕ) (r : ChainRead) (q : r ≡ chainRead true f chain) where
   abbrev rest : List ℤ → ℕ → Judged (List ℕ)
-  rest vs next = startBytes (f .n) vs (tablesFrom (valuesRules f coef vs) (above vs + 1) 0)
+  rest vs next = startBytes (f .n) vs (tablesFrom (valuesRules f bands coef vs) (above vs + 1) 0)
 
-  pub chain-bad : (e : Refusal) → r .verdict ≡ Verdict.Refused e → refusedWith e buf ≡ chainLeft f coef chain buf
+  pub chain-bad : (e : Refusal) → r .verdict ≡ Verdict.Refused e → refusedWith e buf ≡ chainLeft f bands coef chain buf
   chain-bad e h = ap (λ (j : Judged (List ℕ)). left j buf) (chain-refused true f chain r q e h bad rest)
 
   module _ (t : Chained true f chain r) (rooms : f .n ≤ 4) where
@@ -168,20 +170,20 @@ module _ (f : Frame) (coef : List ℤ) (chain buf : List ℕ) (r : ChainRead) (q
     written (bad e) = refl
     written (good ts) = ap (λ (s : List ℕ). good (s ++ partsOf ts)) (sym (file-writes (chainForm (f .n)) chain (t .values) .2))
 
-    tables : framesTables f coef (r .edges) (r .m) ≡ tablesFrom (valuesRules f coef (t .vs)) (above (t .vs) + 1) 0
+    tables : framesTables f bands coef (r .edges) (r .m) ≡ tablesFrom (valuesRules f bands coef (t .vs)) (above (t .vs) + 1) 0
     tables =
-        ap (λ (m : ℕ). framesTables f coef (r .edges) m) (t .count)
-        ∙ tables-same (framesRules f coef (r .edges)) (valuesRules f coef (t .vs)) same (above (t .vs) + 1) 0
+        ap (λ (m : ℕ). framesTables f bands coef (r .edges) m) (t .count)
+        ∙ tables-same (framesRules f bands coef (r .edges)) (valuesRules f bands coef (t .vs)) same (above (t .vs) + 1) 0
       where
-        same : (i : ℕ) → framesRules f coef (r .edges) i ≡ valuesRules f coef (t .vs) i
+        same : (i : ℕ) → framesRules f bands coef (r .edges) i ≡ valuesRules f bands coef (t .vs) i
         same i =
             boxes-same (f .n) rooms (r .edges) (t .vs) (chain-edged true f chain r q t) (f .root)
-            (λ root goal. rulesFrom (f .n) (f .modes) (f .k) (f .d) root goal (boxOf (f .n) (f .safe)) (stepIn f coef)) i
+            (λ root goal. rulesFrom (f .n) (f .modes) (f .k) (f .d) root goal (boxOf (f .n) (f .safe)) (stepIn f bands coef)) i
 
-    pub chain-good : left (behindChain chain (framesTables f coef (r .edges) (r .m))) buf ≡ chainLeft f coef chain buf
+    pub chain-good : left (behindChain chain (framesTables f bands coef (r .edges) (r .m))) buf ≡ chainLeft f bands coef chain buf
     chain-good =
         ap (λ (j : Judged (List ℕ)). left j buf)
-        (ap (behindChain chain) tables ∙ written (tablesFrom (valuesRules f coef (t .vs)) (above (t .vs) + 1) 0) ∙ chain-goes true f chain r q t bad rest)
+        (ap (behindChain chain) tables ∙ written (tablesFrom (valuesRules f bands coef (t .vs)) (above (t .vs) + 1) 0) ∙ chain-goes true f chain r q t bad rest)
 
 -- ---- for a plant: its own frame's
 
@@ -190,6 +192,12 @@ module _ (plant chain buf : List ℕ) where
   unfolding startLeft startMade
   start-bad e h = rw h refl
 
-  pub start-own : (p : Plant) → plantJudged plant ≡ good p → (f : Frame) → f ≡ frameOf p → chainLeft f (p .coef) chain buf ≡ startLeft plant chain buf
+  pub start-own : (p : Plant) → plantJudged plant ≡ good p → p .n ≤ 4 → (bands : List ℤ) → OneBand (p .n) (p .wlo) (p .whi) bands → (f : Frame) → f ≡ frameOf p
+      → chainLeft f bands (p .coef) chain buf ≡ startLeft plant chain buf
   unfolding startLeft startMade
-  start-own p h f e = rw (h, e) refl
+  start-own p h rooms bands o f e = rw (h, e) (ap (λ (s : ℕ → Step). left (made p s) buf) (own-steps p bands rooms o))
+    where
+      made : Plant → (ℕ → Step) → Judged (List ℕ)
+      made p s =
+          onChain (p .n) (rootOf p) (safeOf p) (valuesOf (chainForm (p .n)) chain) bad λ vs _.
+          startBytes (p .n) vs (tablesFrom (λ i. ruled p (boxAt (p .n) (rootOf p) vs i) (boxBelow (p .n) (rootOf p) vs i) s) (above vs + 1) 0)

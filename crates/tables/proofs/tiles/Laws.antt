@@ -39,13 +39,13 @@ module _ (r : Rules) (us : ℕ → ℕ) (k i : ℕ) (c : Rules.Kept r) where
 
 -- ---- at the rules of a frame: c is the box that the code holds, d the one that it holds as the image
 
-module _ (f : Frame) (coef : List ℤ) (us : ℕ → ℕ) (k i : ℕ) (c d : List Side) (h : i < k) (q : d ≡ Rules.image (rulesIn f coef) (us i) c) where
-  pub tile-leaves : within d (boxOf (f .n) (f .safe)) ≡ false → ruleFrom (rulesIn f coef) i c (tab us (k - i) i) ≡ Leaves (i + 1)
-  tile-leaves e = rule-leaves (rulesIn f coef) us k i c h (rw q at e)
+module _ (f : Frame) (bands coef : List ℤ) (us : ℕ → ℕ) (k i : ℕ) (c d : List Side) (h : i < k) (q : d ≡ Rules.image (rulesIn f bands coef) (us i) c) where
+  pub tile-leaves : within d (boxOf (f .n) (f .safe)) ≡ false → ruleFrom (rulesIn f bands coef) i c (tab us (k - i) i) ≡ Leaves (i + 1)
+  tile-leaves e = rule-leaves (rulesIn f bands coef) us k i c h (rw q at e)
 
   module _ (e : within d (boxOf (f .n) (f .safe)) ≡ true) where
-    pub tile-more : ruleFrom (rulesIn f coef) i c (tab us (k - i) i) ≡ ruleFrom (rulesIn f coef) (i + 1) d (tab us (k - (i + 1)) (i + 1))
-    tile-more = rule-more (rulesIn f coef) us k i c h (rw q at e) ∙ ap (λ (b : List Side). ruleFrom (rulesIn f coef) (i + 1) b (tab us (k - (i + 1)) (i + 1))) (sym q)
+    pub tile-more : ruleFrom (rulesIn f bands coef) i c (tab us (k - i) i) ≡ ruleFrom (rulesIn f bands coef) (i + 1) d (tab us (k - (i + 1)) (i + 1))
+    tile-more = rule-more (rulesIn f bands coef) us k i c h (rw q at e) ∙ ap (λ (b : List Side). ruleFrom (rulesIn f bands coef) (i + 1) b (tab us (k - (i + 1)) (i + 1))) (sym q)
 
-    pub tile-small : FrameSound f coef → Small edgeLimit c → Small edgeLimit d
-    tile-small g s = subst (λ (b : List Side). Small edgeLimit b) (sym q) (small-image f coef g (us i) c s (rw q at e))
+    pub tile-small : FrameSound f bands coef → us i < f .modes → Small edgeLimit c → Small edgeLimit d
+    tile-small g m s = subst (λ (b : List Side). Small edgeLimit b) (sym q) (small-image f bands coef g (us i) m c s (rw q at e))

@@ -35,39 +35,39 @@ none : (bs : List (List Side)) → length bs ≡ 0 → bs ≡ []
 none [] h = refl
 none (b ∷ bs) h = absurd (omega arith)
 
-module _ (f : Frame) (coef : List ℤ) (judged : Bool) where
+module _ (f : Frame) (bands coef : List ℤ) (judged : Bool) where
   abbrev judge : List Side → List ℕ → Tried
-  judge = judgeBy judged (rulesIn f coef)
+  judge = judgeBy judged (rulesIn f bands coef)
 
   -- the walk over the tree at `at`, over box b with depth d left
   abbrev pub tree : ℕ → List ℕ → ℕ → List Side → Walk
-  tree d s at b = walkBy judged (rulesIn f coef) d s at b
+  tree d s at b = walkBy judged (rulesIn f bands coef) d s at b
 
   -- ---- a node
 
   module _ (d : ℕ) (s : List ℕ) (at : ℕ) (b : List Side) where
     pub tree-broken : numberAt s at ≡ Number.Broken → Walk.Refused (broken at) ≡ tree d s at b
-    tree-broken e = sym (walk-broken (rulesIn f coef) judge d s at b e)
+    tree-broken e = sym (walk-broken (rulesIn f bands coef) judge d s at b e)
 
     module _ (k m : ℕ) (e : numberAt s at ≡ Number.Value k m) where
       pub tree-over : f .k < k → Walk.Refused (badTable at) ≡ tree d s at b
-      tree-over h = sym (walk-over (rulesIn f coef) judge d s at b k m e h)
+      tree-over h = sym (walk-over (rulesIn f bands coef) judge d s at b k m e h)
 
       pub tree-tile : 0 < k → k ≤ f .k → onModes (modesAt (f .modes) k s m) at (judge b) ≡ tree d s at b
-      tree-tile h l = sym (walk-tile (rulesIn f coef) judge d s at b k m e (omega arith) l)
+      tree-tile h l = sym (walk-tile (rulesIn f bands coef) judge d s at b k m e (omega arith) l)
 
       module _ (z : k ≤ 0) where
         split : numberAt s at ≡ Number.Value 0 m
         split = let q : k ≡ 0 = omega arith in rw q at e
 
         pub tree-deep : d ≡ 0 → Walk.Refused (badTable at) ≡ tree d s at b
-        tree-deep h = sym (walk-deep (rulesIn f coef) judge d s at b m split h)
+        tree-deep h = sym (walk-deep (rulesIn f bands coef) judge d s at b m split h)
 
         pub tree-stuck : length (children b) ≡ 0 → Walk.Refused (badTable at) ≡ tree d s at b
-        tree-stuck h = sym (walk-stuck (rulesIn f coef) judge d s at b m split (none (children b) h))
+        tree-stuck h = sym (walk-stuck (rulesIn f bands coef) judge d s at b m split (none (children b) h))
 
         pub tree-split : (d ≡ 0 → ⊥) → (length (children b) ≡ 0 → ⊥) → each (tree (d - 1) s) (drop 0 (children b)) m ≡ tree d s at b
-        tree-split h l = sym (walk-split (rulesIn f coef) judge d s at b m (d - 1) split (omega arith) (λ q. l (ap length q)))
+        tree-split h l = sym (walk-split (rulesIn f bands coef) judge d s at b m (d - 1) split (omega arith) (λ q. l (ap length q)))
 
   -- ---- children in a loop: c of them are done, w is the place behind them
 

@@ -11,7 +11,7 @@ box-below-requires : tie.Need-box-below-requires
 box-below-requires c κs = search needs
 
 returns : tie.Need-returns
-returns c = rw (c .before .before .before .box-at .ensures, c .before .before .box-below .ensures) refl
+returns c = rw (c .before .before .box-at .ensures, c .before .box-below .ensures) refl
 
 pub frame-at-spec : {M : Type 1} → statement M
 frame-at-spec = tie.close (tie.spec box-at-requires box-below-requires returns)

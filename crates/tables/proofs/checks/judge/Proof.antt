@@ -13,7 +13,7 @@ use Rattle.tables.proofs.checks.judge.Tie as tie
 
 module _ (s : tie.Start) where
   abbrev rules : Rules
-  rules = rulesIn (s .args .f) (now (s .args .coef))
+  rules = rulesIn (s .args .f) (now (s .args .bands)) (now (s .args .coef))
 
   abbrev table : List ℕ
   table = now (s .args .table)

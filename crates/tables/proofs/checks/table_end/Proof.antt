@@ -16,7 +16,7 @@ use Rattle.tables.proofs.checks.table_end.Tie as tie
 
 module _ (s : tie.Start) where
   abbrev rules : Rules
-  rules = rulesIn (s .args .f) (now (s .args .coef))
+  rules = rulesIn (s .args .f) (now (s .args .bands)) (now (s .args .coef))
 
   abbrev table : List ℕ
   table = now (s .args .table)
@@ -41,7 +41,7 @@ walk-requires c κs =
     let s = c .before .before .before .before .before .before .before .before .before in
     let x = c .before .counts-of in
     let e = c .before .before .edges-of in
-    lent-sound (s .args .f) (x .result) (e .result) (x .ensures) (e .ensures) (now (s .args .coef)) (s .pre)
+    lent-sound (s .args .f) (x .result) (e .result) (x .ensures) (e .ensures) (now (s .args .bands)) (now (s .args .coef)) (s .pre)
 
 returns : tie.Need-returns
 returns c =
@@ -59,7 +59,7 @@ returns-2 c =
     let e = c .before .before .before .edges-of in
     c .walk .ensures
     ∙ lent-same (s .args .f) (x .result) (e .result) (x .ensures) (e .ensures)
-    (λ x e. walkBy true (rulesIn (frameFrom x e) (now (s .args .coef))) (s .args .f .d) (table s) (g .0 .0) (boxOf (x .n) (s .args .f .root)))
+    (λ x e. walkBy true (rulesIn (frameFrom x e) (now (s .args .bands)) (now (s .args .coef))) (s .args .f .d) (table s) (g .0 .0) (boxOf (x .n) (s .args .f .root)))
     ∙ tree-walked (rules s) (table s) (h .result) (h .ensures) (g .0 .0) (g .1)
 
 pub table-end-spec : {M : Type 1} → statement M

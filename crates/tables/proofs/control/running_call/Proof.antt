@@ -12,7 +12,7 @@ use Rattle.tables.proofs.control.running_call.Tie as tie
 
 module _ (s : tie.Start) where
   abbrev rules : Rules
-  rules = rulesIn (s .args .f) (now (s .args .coef))
+  rules = rulesIn (s .args .f) (now (s .args .bands)) (now (s .args .coef))
 
   abbrev bytes : List ℕ
   bytes = now (s .args .table)

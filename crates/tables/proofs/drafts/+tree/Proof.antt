@@ -36,25 +36,25 @@ use Rattle.tables.proofs.search.first.Reads as first-reads
 use Rattle.tables.proofs.drafts.+tree.{statement}
 use Rattle.tables.proofs.drafts.+tree.Tie.{close}
 
-abbrev μ-tree : Measures 4 tree-kinds.ps ℕ
-μ-tree κs a = a .1 .1 .1 .1 .0
+abbrev μ-tree : Measures 5 tree-kinds.ps ℕ
+μ-tree κs a = a .1 .1 .1 .1 .1 .0
 
-abbrev tree-at : ℕ → In 4 tree-kinds.ps
-tree-at t = and 4 tree-kinds.ps (is 4 tree-kinds.ps μ-tree t) tree.Pre
+abbrev tree-at : ℕ → In 5 tree-kinds.ps
+tree-at t = and 5 tree-kinds.ps (is 5 tree-kinds.ps μ-tree t) tree.Pre
 
-abbrev tree-below : ℕ → In 4 tree-kinds.ps
-tree-below t = and 4 tree-kinds.ps (falls 4 tree-kinds.ps _<_ μ-tree t) tree.Pre
+abbrev tree-below : ℕ → In 5 tree-kinds.ps
+tree-below t = and 5 tree-kinds.ps (falls 5 tree-kinds.ps _<_ μ-tree t) tree.Pre
 
 abbrev claims : ℕ → tree-lts.Claims
 claims t = (first-reads.Asked, first-reads.Learnt, put-tile-reads.Asked, put-tile-reads.Learnt, count-reads.Asked, count-reads.Learnt, put-number-reads.Asked, put-number-reads.Learnt, child-reads.Asked, child-reads.Learnt, tree-below t, tree.Post)
 
 abbrev tree-Inv-loop : tree-lts.InvT-loop
-tree-Inv-loop f edges coef limits d b buf₀ at n size count place₀ c₀ buf place c =
-    let r = rulesIn (frameFrom f edges) coef in
+tree-Inv-loop f edges bands coef limits d b buf₀ at n size count place₀ c₀ buf place c =
+    let r = rulesIn (frameFrom f edges) bands coef in
     (c ≤ count) × Growing buf₀ place₀ (treesBytes r (d - 1) (children (boxOf (f .n) b))) (treesBytes r (d - 1) (drop c (children (boxOf (f .n) b)))) place buf
 
 abbrev tree-μ-loop : tree-lts.MeasureT-loop
-tree-μ-loop f edges coef limits d b buf₀ at n size count place₀ c₀ buf place c = count - c
+tree-μ-loop f edges bands coef limits d b buf₀ at n size count place₀ c₀ buf place c = count - c
 
 -- a call with that much depth: at its start, with a pattern sought, with a split's number written, with a child's tree written
 abbrev Call : ℕ → Type 0
@@ -73,11 +73,14 @@ module _ (t : ℕ) (s : Call t) where
   abbrev frame : Frame
   frame = frameFrom (s .args .f) (now (s .args .edges))
 
+  abbrev bands : List ℤ
+  bands = now (s .args .bands)
+
   abbrev coef : List ℤ
   coef = now (s .args .coef)
 
   abbrev rules : Rules
-  rules = rulesIn frame coef
+  rules = rulesIn frame bands coef
 
   abbrev box : List Side
   box = boxOf (s .args .f .n) (s .args .b)
@@ -85,10 +88,10 @@ module _ (t : ℕ) (s : Call t) where
 -- what was sought is the first pattern of the box
 module _ (t : ℕ) (x : Sought t) where
   abbrev modes : List ℕ
-  modes = x .first .last .1 .1 .1 .1 .1 .1 .1 .0
+  modes = x .first .last .1 .1 .1 .1 .1 .1 .1 .1 .0
 
   pattern : let s = x .before .before .before in patternBy (x .first .result) modes ≡ firstPattern (rules t s) (box t s)
-  pattern = let s = x .before .before .before in x .first .ensures .0 ∙ shortest-is (frame t s) (coef t s) (now (s .args .limits)) (s .pre .1 .0) (s .args .f .k) 0 (box t s)
+  pattern = let s = x .before .before .before in x .first .ensures .0 ∙ shortest-is (frame t s) (bands t s) (coef t s) (now (s .args .limits)) (s .pre .1 .0) (s .args .f .k) 0 (box t s)
 
 -- whoever writes the children of a split has written its tree
 module _ (t : ℕ) (k : Split t) where
@@ -105,7 +108,7 @@ module _ (t : ℕ) (k : Split t) where
       → Wrote (treeBytes (rules t from) (from .args .d) (box t from)) (now (from .args .buf)) (from .args .at) a out
   goes a out w =
       let x = k .before .before .before .before .before .before .before .before in
-      node-split (frame t from) (coef t from) (from .args .d) (box t from) (x .first .result) (modes t x) (pattern t x) (now (from .args .buf)) (from .args .at) (k .before .before .before .before .before .before .before .if1 .left) (k .before .before .before .before .before .before .if2 .left)
+      node-split (frame t from) (bands t from) (coef t from) (from .args .d) (box t from) (x .first .result) (modes t x) (pattern t x) (now (from .args .buf)) (from .args .at) (k .before .before .before .before .before .before .before .if1 .left) (k .before .before .before .before .before .before .if2 .left)
       (λ z. k .before .before .before .before .if3 .left (k .before .before .before .before .before .count .ensures ∙ z)) (k .before .before .put-number .result) (k .before .before .put-number .last .0) (k .before .before .put-number .ensures) a out w
 
   same : length (k .before .before .put-number .last .0) ≡ length (now (from .args .buf))
@@ -120,7 +123,7 @@ module _ (t : ℕ) (w : Child t) where
   done = w .before .before .before .before .loop .c
 
   abbrev left : List ℕ
-  left = w .tree .last .1 .1 .1 .1 .1 .1 .0
+  left = w .tree .last .1 .1 .1 .1 .1 .1 .1 .0
 
   in-count : done < length (children (box t (from t parent)))
   in-count = in-box t parent (w .before .before .before .loop-test .taken)
@@ -144,7 +147,7 @@ module _ (t : ℕ) (w : Child t) where
 tree-first-requires : (t : ℕ) → tree-lts.Need-first-requires (claims t) (tree-at t) tree.Post tree-Inv-loop tree-μ-loop
 tree-first-requires t c κs =
     let s = c .before .before in
-    (lent (frame t s) (coef t s) (now (s .args .limits)) (s .pre .1 .0), s .pre .1 .0 .sound .longest, s .pre .1 .1)
+    (lent (frame t s) (bands t s) (coef t s) (now (s .args .limits)) (s .pre .1 .0), s .pre .1 .0 .sound .longest, s .pre .1 .1)
 
 tree-put-tile-requires : (t : ℕ) → tree-lts.Need-put-tile-requires (claims t) (tree-at t) tree.Post tree-Inv-loop tree-μ-loop
 tree-put-tile-requires t c κs = c .before .before .before .first .ensures .1 .0
@@ -157,13 +160,13 @@ tree-returns t c =
     let x = c .before .before .before .before .before .before in
     let s = x .before .before .before in
     let w = c .before .before .put-tile in
-    node-tile (frame t s) (coef t s) (s .args .d) (box t s) (x .first .result) (modes t x) (pattern t x) (now (s .args .buf)) (s .args .at) (c .before .before .before .before .before .if1 .taken) (w .result) (w .last .0) (w .ensures)
+    node-tile (frame t s) (bands t s) (coef t s) (s .args .d) (box t s) (x .first .result) (modes t x) (pattern t x) (now (s .args .buf)) (s .args .at) (c .before .before .before .before .before .if1 .taken) (w .result) (w .last .0) (w .ensures)
 
 tree-returns-2 : (t : ℕ) → tree-lts.Need-returns-2 (claims t) (tree-at t) tree.Post tree-Inv-loop tree-μ-loop
 tree-returns-2 t c =
     let x = c .before .before in
     let s = x .before .before .before in
-    node-deep (frame t s) (coef t s) (s .args .d) (box t s) (x .first .result) (modes t x) (pattern t x) (now (s .args .buf)) (s .args .at) (c .before .if1 .left) (c .if2 .taken)
+    node-deep (frame t s) (bands t s) (coef t s) (s .args .d) (box t s) (x .first .result) (modes t x) (pattern t x) (now (s .args .buf)) (s .args .at) (c .before .if1 .left) (c .if2 .taken)
 
 tree-count-requires : (t : ℕ) → tree-lts.Need-count-requires (claims t) (tree-at t) tree.Post tree-Inv-loop tree-μ-loop
 tree-count-requires t c κs = let s = c .before .before .before .before .before in s .pre .1 .0 .sound .rooms
@@ -172,7 +175,7 @@ tree-returns-3 : (t : ℕ) → tree-lts.Need-returns-3 (claims t) (tree-at t) tr
 tree-returns-3 t c =
     let x = c .before .before .before .before in
     let s = x .before .before .before in
-    node-stuck (frame t s) (coef t s) (s .args .d) (box t s) (x .first .result) (modes t x) (pattern t x) (now (s .args .buf)) (s .args .at) (c .before .before .before .if1 .left) (sym (c .before .count .ensures) ∙ c .if3 .taken)
+    node-stuck (frame t s) (bands t s) (coef t s) (s .args .d) (box t s) (x .first .result) (modes t x) (pattern t x) (now (s .args .buf)) (s .args .at) (c .before .before .before .if1 .left) (sym (c .before .count .ensures) ∙ c .if3 .taken)
 
 tree-put-number-requires : (t : ℕ) → tree-lts.Need-put-number-requires (claims t) (tree-at t) tree.Post tree-Inv-loop tree-μ-loop
 tree-put-number-requires t c κs = tt

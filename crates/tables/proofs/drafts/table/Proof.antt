@@ -40,7 +40,7 @@ tree-requires : tie.Need-tree-requires
 tree-requires c κs =
     let x = c .before .before .before in
     let a = from x .args in
-    subst (λ (f : Frame). LimitsLaid f (now (a .coef)) (x .before .before .before .before .before .before .before .before .before .before .before .before .lay .result .of) × Small edgeLimit (boxOf (f .n) (a .f .root))) (sym (whole x)) (x .before .before .before .before .before .before .before .before .before .before .before .before .lay .ensures, from x .pre .root)
+    subst (λ (f : Frame). LimitsLaid f (now (a .bands)) (now (a .coef)) (x .before .before .before .before .before .before .before .before .before .before .before .lay .last .1 .1 .1 .0) × Small edgeLimit (boxOf (f .n) (a .f .root))) (sym (whole x)) (x .before .before .before .before .before .before .before .before .before .before .before .lay .ensures, from x .pre .root)
 
 same-length : tie.Need-same-length
 same-length c = search needs
@@ -51,8 +51,8 @@ returns c =
     let a = from x .args in
     let w = c .before .before .tree in
     let v = c .before .before .before .before .before .before .before .before .before .put-number2 in
-    table-wrote (rulesIn (a .f) (now (a .coef))) (c .before .before .before .before .before .before .before .before .before .before .before .before .before .put-number .ensures) (v .ensures) (w .result) (w .last .1 .1 .1 .1 .1 .1 .0)
-    (subst (λ (f : Frame). Wrote (treeBytes (rulesIn f (now (a .coef))) (a .f .d) (boxOf (f .n) (a .f .root))) (v .last .0) (v .result) (w .result) (w .last .1 .1 .1 .1 .1 .1 .0)) (whole x) (w .ensures))
+    table-wrote (rulesIn (a .f) (now (a .bands)) (now (a .coef))) (c .before .before .before .before .before .before .before .before .before .before .before .before .before .put-number .ensures) (v .ensures) (w .result) (w .last .1 .1 .1 .1 .1 .1 .1 .0)
+    (subst (λ (f : Frame). Wrote (treeBytes (rulesIn f (now (a .bands)) (now (a .coef))) (a .f .d) (boxOf (f .n) (a .f .root))) (v .last .0) (v .result) (w .result) (w .last .1 .1 .1 .1 .1 .1 .1 .0)) (whole x) (w .ensures))
 
 pub table-spec : {M : Type 1} → statement M
 table-spec =

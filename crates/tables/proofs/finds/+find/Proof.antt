@@ -38,24 +38,24 @@ use Rattle.tables.proofs.walks.walk.Reads as walk-reads
 use Rattle.tables.proofs.finds.+find.{statement}
 use Rattle.tables.proofs.finds.+find.Tie.{close}
 
-abbrev μ-find : Measures 3 find-kinds.ps ℕ
-μ-find κs a = a .1 .1 .1 .1 .0
+abbrev μ-find : Measures 4 find-kinds.ps ℕ
+μ-find κs a = a .1 .1 .1 .1 .1 .0
 
-abbrev find-at : ℕ → In 3 find-kinds.ps
-find-at t = and 3 find-kinds.ps (is 3 find-kinds.ps μ-find t) reads.Pre
+abbrev find-at : ℕ → In 4 find-kinds.ps
+find-at t = and 4 find-kinds.ps (is 4 find-kinds.ps μ-find t) reads.Pre
 
-abbrev find-below : ℕ → In 3 find-kinds.ps
-find-below t = and 3 find-kinds.ps (falls 3 find-kinds.ps _<_ μ-find t) reads.Pre
+abbrev find-below : ℕ → In 4 find-kinds.ps
+find-below t = and 4 find-kinds.ps (falls 4 find-kinds.ps _<_ μ-find t) reads.Pre
 
 abbrev claims : ℕ → find-lts.Claims
 claims t = (number-reads.Asked, number-reads.Learnt, broken-reads.Asked, broken-reads.Learnt, bad-table-reads.Asked, bad-table-reads.Learnt, tile-reads.Asked, tile-reads.Learnt, count-reads.Asked, count-reads.Learnt, child-reads.Asked, child-reads.Learnt, missed-reads.Asked, missed-reads.Learnt, find-below t, reads.Post, walk-reads.Asked, walk-reads.Learnt)
 
 abbrev find-Inv-loop : find-lts.InvT-loop
-find-Inv-loop f edges coef table d at b x k next n count place₀ c₀ place c =
-    (c ≤ count) × (lookFrom (frameFrom f edges) coef x (d - 1) table at (boxOf (f .n) b) c place ≡ find (rulesIn (frameFrom f edges) coef) d table at (boxOf (f .n) b) x)
+find-Inv-loop f edges bands coef table d at b x k next n count place₀ c₀ place c =
+    (c ≤ count) × (lookFrom (frameFrom f edges) bands coef x (d - 1) table at (boxOf (f .n) b) c place ≡ find (rulesIn (frameFrom f edges) bands coef) d table at (boxOf (f .n) b) x)
 
 abbrev find-μ-loop : find-lts.MeasureT-loop
-find-μ-loop f edges coef table d at b x k next n count place₀ c₀ place c = count - c
+find-μ-loop f edges bands coef table d at b x k next n count place₀ c₀ place c = count - c
 
 abbrev Begin : ℕ → Type 0
 Begin t = find-lts.Start (claims t) (find-at t) reads.Post find-Inv-loop find-μ-loop
@@ -71,6 +71,9 @@ Looked t = find-lts.After-missed (claims t) (find-at t) reads.Post find-Inv-loop
 module _ {t : ℕ} (s : Begin t) where
   abbrev frame : Frame
   frame = frameFrom (s .args .f) (now (s .args .edges))
+
+  abbrev bands : List ℤ
+  bands = now (s .args .bands)
 
   abbrev coef : List ℤ
   coef = now (s .args .coef)
@@ -131,7 +134,7 @@ find-broken-requires t c κs = search needs
 find-returns : (t : ℕ) → find-lts.Need-returns (claims t) (find-at t) reads.Post find-Inv-loop find-μ-loop
 find-returns t c =
     let s = c .before .before .before .before .before in
-    ap Found.Refused (c .broken .ensures) ∙ node-broken (frame s) (coef s) (s .args .x) (s .args .d) (bytes s) (s .args .at) (box s (s .args .b)) (sym (c .before .before .before .number .ensures) ∙ c .before .enum-told .given .1)
+    ap Found.Refused (c .broken .ensures) ∙ node-broken (frame s) (bands s) (coef s) (s .args .x) (s .args .d) (bytes s) (s .args .at) (box s (s .args .b)) (sym (c .before .before .before .number .ensures) ∙ c .before .enum-told .given .1)
 
 find-bad-table-requires : (t : ℕ) → find-lts.Need-bad-table-requires (claims t) (find-at t) reads.Post find-Inv-loop find-μ-loop
 find-bad-table-requires t c κs = search needs
@@ -140,7 +143,7 @@ find-returns-2 : (t : ℕ) → find-lts.Need-returns-2 (claims t) (find-at t) re
 find-returns-2 t c =
     let z = c .before .before .before in
     let s = start z in
-    ap Found.Refused (c .bad-table .ensures) ∙ node-over (frame s) (coef s) (s .args .x) (s .args .d) (bytes s) (s .args .at) (box s (s .args .b)) (size z) (behind z) (number z) (c .before .if1 .taken)
+    ap Found.Refused (c .bad-table .ensures) ∙ node-over (frame s) (bands s) (coef s) (s .args .x) (s .args .d) (bytes s) (s .args .at) (box s (s .args .b)) (size z) (behind z) (number z) (c .before .if1 .taken)
 
 find-tile-requires : (t : ℕ) → find-lts.Need-tile-requires (claims t) (find-at t) reads.Post find-Inv-loop find-μ-loop
 find-tile-requires t c κs =
@@ -151,7 +154,7 @@ find-returns-3 : (t : ℕ) → find-lts.Need-returns-3 (claims t) (find-at t) re
 find-returns-3 t c =
     let z = c .before .before .before .before in
     let s = start z in
-    c .tile .ensures ∙ node-tile (frame s) (coef s) (s .args .x) (s .args .d) (bytes s) (s .args .at) (box s (s .args .b)) (size z) (behind z) (number z) (c .before .if2 .taken) (c .before .before .if1 .left)
+    c .tile .ensures ∙ node-tile (frame s) (bands s) (coef s) (s .args .x) (s .args .d) (bytes s) (s .args .at) (box s (s .args .b)) (size z) (behind z) (number z) (c .before .if2 .taken) (c .before .before .if1 .left)
 
 find-bad-table-requires-2 : (t : ℕ) → find-lts.Need-bad-table-requires-2 (claims t) (find-at t) reads.Post find-Inv-loop find-μ-loop
 find-bad-table-requires-2 t c κs = search needs
@@ -160,7 +163,7 @@ find-returns-4 : (t : ℕ) → find-lts.Need-returns-4 (claims t) (find-at t) re
 find-returns-4 t c =
     let z = c .before .before .before .before .before in
     let s = start z in
-    ap Found.Refused (c .bad-table2 .ensures) ∙ node-deep (frame s) (coef s) (s .args .x) (s .args .d) (bytes s) (s .args .at) (box s (s .args .b)) (size z) (behind z) (number z) (c .before .before .if2 .left) (c .before .if3 .taken)
+    ap Found.Refused (c .bad-table2 .ensures) ∙ node-deep (frame s) (bands s) (coef s) (s .args .x) (s .args .d) (bytes s) (s .args .at) (box s (s .args .b)) (size z) (behind z) (number z) (c .before .before .if2 .left) (c .before .if3 .taken)
 
 find-count-requires : (t : ℕ) → find-lts.Need-count-requires (claims t) (find-at t) reads.Post find-Inv-loop find-μ-loop
 find-count-requires t c κs = c .before .before .before .before .before .before .before .before .before .pre .1 .0 .rooms
@@ -169,7 +172,7 @@ find-loop-holds : (t : ℕ) → find-lts.Need-loop-holds (claims t) (find-at t) 
 find-loop-holds t c =
     let z = c .before .before .before .before .before in
     let s = start z in
-    (omega arith, node-split (frame s) (coef s) (s .args .x) (s .args .d) (bytes s) (s .args .at) (box s (s .args .b)) (size z) (behind z) (number z) (c .before .before .if2 .left) (c .before .if3 .left))
+    (omega arith, node-split (frame s) (bands s) (coef s) (s .args .x) (s .args .d) (bytes s) (s .args .at) (box s (s .args .b)) (size z) (behind z) (number z) (c .before .before .if2 .left) (c .before .if3 .left))
 
 find-child-requires : (t : ℕ) → find-lts.Need-child-requires (claims t) (find-at t) reads.Post find-Inv-loop find-μ-loop
 find-child-requires t c κs =
@@ -192,7 +195,7 @@ find-returns-5 t c =
     let y = c .before .before in
     let s = outset y in
     let l = y .before .before .before .loop in
-    c .find .ensures ∙ look-here (frame s) (coef s) (s .args .x) (s .args .d - 1) (bytes s) (s .args .at) (box s (s .args .b)) (l .c) (l .place) (below y) (box s (kid y)) (y .before .child .ensures) (holds-it y (c .before .if4 .taken)) ∙ l .inv .1
+    c .find .ensures ∙ look-here (frame s) (bands s) (coef s) (s .args .x) (s .args .d - 1) (bytes s) (s .args .at) (box s (s .args .b)) (l .c) (l .place) (below y) (box s (kid y)) (y .before .child .ensures) (holds-it y (c .before .if4 .taken)) ∙ l .inv .1
 
 find-sub-walk : (t : ℕ) → find-lts.Need-sub-walk (claims t) (find-at t) reads.Post find-Inv-loop find-μ-loop
 find-sub-walk t c = omega arith
@@ -210,7 +213,7 @@ find-returns-6 t c =
     let l = y .before .before .before .loop in
     let r = c .before .before .before .walk in
     let e = c .before .e .given in
-    look-refused (frame s) (coef s) (s .args .x) (s .args .d - 1) (bytes s) (s .args .at) (box s (s .args .b)) (l .c) (l .place) (below y) (box s (kid y)) (y .before .child .ensures) (misses-it y (c .before .before .before .before .if4 .left)) (r .result) (r .ensures) (e .0 .0) (e .1) ∙ l .inv .1
+    look-refused (frame s) (bands s) (coef s) (s .args .x) (s .args .d - 1) (bytes s) (s .args .at) (box s (s .args .b)) (l .c) (l .place) (below y) (box s (kid y)) (y .before .child .ensures) (misses-it y (c .before .before .before .before .if4 .left)) (r .result) (r .ensures) (e .0 .0) (e .1) ∙ l .inv .1
 
 find-enum-known-m : (t : ℕ) → find-lts.Need-enum-known-m (claims t) (find-at t) reads.Post find-Inv-loop find-μ-loop
 find-enum-known-m t c = search needs
@@ -228,7 +231,7 @@ find-loop-again t c =
     let l = y .before .before .before .loop in
     let r = c .before .before .before .walk in
     let m = c .before .m .given in
-    (omega (arith, y .before .before .loop-test .taken), look-more (frame s) (coef s) (s .args .x) (s .args .d - 1) (bytes s) (s .args .at) (box s (s .args .b)) (l .c) (l .place) (below y) (box s (kid y)) (y .before .child .ensures) (misses-it y (c .before .before .before .before .if4 .left)) (r .result) (r .ensures) (m .0 .0) (m .1) ∙ l .inv .1)
+    (omega (arith, y .before .before .loop-test .taken), look-more (frame s) (bands s) (coef s) (s .args .x) (s .args .d - 1) (bytes s) (s .args .at) (box s (s .args .b)) (l .c) (l .place) (below y) (box s (kid y)) (y .before .child .ensures) (misses-it y (c .before .before .before .before .if4 .left)) (r .result) (r .ensures) (m .0 .0) (m .1) ∙ l .inv .1)
 
 find-bad-table-requires-3 : (t : ℕ) → find-lts.Need-bad-table-requires-3 (claims t) (find-at t) reads.Post find-Inv-loop find-μ-loop
 find-bad-table-requires-3 t c κs = search needs
@@ -237,7 +240,7 @@ find-returns-7 : (t : ℕ) → find-lts.Need-returns-7 (claims t) (find-at t) re
 find-returns-7 t c =
     let s = c .before .before .before .before .before .before .before .before .before .before .before .before .before in
     let l = c .before .before .loop in
-    ap Found.Refused (c .bad-table3 .ensures) ∙ look-none (frame s) (coef s) (s .args .x) (s .args .d - 1) (bytes s) (s .args .at) (box s (s .args .b)) (l .c) (l .place) (omega (arith, c .before .loop-test .left, c .before .before .before .count .ensures)) ∙ l .inv .1
+    ap Found.Refused (c .bad-table3 .ensures) ∙ look-none (frame s) (bands s) (coef s) (s .args .x) (s .args .d - 1) (bytes s) (s .args .at) (box s (s .args .b)) (l .c) (l .place) (omega (arith, c .before .loop-test .left, c .before .before .before .count .ensures)) ∙ l .inv .1
 
 pub +find-spec : {M : Type 1} → statement M
 +find-spec = close μ-find λ t. find-lts.spec (claims t)

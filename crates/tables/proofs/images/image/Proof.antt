@@ -1,6 +1,6 @@
 -- `images::image`: the sides that are done are those of the image. Assumes nothing.
 use mathlib.Core.Path.{_≡_, refl, sym, _∙_}
-use Prim.Native.Nat.{ℕ, _≤_, _<_, _-_}
+use Prim.Native.Nat.{ℕ, _+_, _-_, _≤_, _<_}
 use native.Mathlib.Omega.{arith}
 use denote.Ref.{now}
 use lib.ListN.{length, length-set}
@@ -10,36 +10,40 @@ use Rattle.laws.specs.Lists.{at, tab}
 use Rattle.laws.specs.Expressions.{Ex, var, exact, under}
 use Rattle.meaning.specs.Boxes.{Side, sideAt, sidesOf}
 use Rattle.meaning.specs.Plants.{bandLimit, rowStart}
-use Rattle.promises.specs.files.Sound.{Bounded}
-use Rattle.tables.specs.Images.{RowSound}
-use Rattle.tables.proofs.boxes.Laws.{small-side}
-use Rattle.tables.proofs.images.Laws.{imageSideAt, image-tab, image-more, image-done}
+use Rattle.tables.specs.Images.{bandStart, RowSound, BandSound}
+use Rattle.tables.proofs.images.Laws.{band-small, imageSideAt, image-tab, image-more, image-done}
 use Rattle.tables.proofs.images.image.Statement.{statement}
 use Rattle.tables.proofs.images.image.Tie as tie
 
 abbrev Inv-loop : tie.InvT-loop
-Inv-loop n q wlo whi coef u lo hi least₀ greatest₀ i₀ least greatest i =
-    (i ≤ n) × (length least ≡ 4) × (length greatest ≡ 4) × (tab (sideAt least greatest) i 0 ≡ tab (imageSideAt n q wlo whi coef u (sidesOf n lo hi)) i 0)
+Inv-loop n q bands coef u lo hi least₀ greatest₀ i₀ least greatest i =
+    (i ≤ n) × (length least ≡ 4) × (length greatest ≡ 4) × (tab (sideAt least greatest) i 0 ≡ tab (imageSideAt n q bands coef u (sidesOf n lo hi)) i 0)
 
 abbrev μ-loop : tie.MeasureT-loop
-μ-loop n q wlo whi coef u lo hi least₀ greatest₀ i₀ least greatest i = n - i
+μ-loop n q bands coef u lo hi least₀ greatest₀ i₀ least greatest i = n - i
 
 -- side i of the image, its row and its band
 abbrev sides : tie.Start Inv-loop μ-loop → ℕ → Side
-sides s = let a = s .args in imageSideAt (a .n) (a .q) (now (a .wlo)) (now (a .whi)) (now (a .coef)) (a .u) (sidesOf (a .n) (now (a .lo)) (now (a .hi)))
+sides s = let a = s .args in imageSideAt (a .n) (a .q) (now (a .bands)) (now (a .coef)) (a .u) (sidesOf (a .n) (now (a .lo)) (now (a .hi)))
 
 module _ (s : tie.Start Inv-loop μ-loop) (i : ℕ) (h : i < s .args .n) where
   row : RowSound (s .args .n) (now (s .args .coef)) (rowStart (s .args .n) (s .args .u) i)
   row = s .pre .0 .rows i h
 
-  band : Bounded bandLimit (sideAt (now (s .args .wlo)) (now (s .args .whi)) i)
-  band = small-side (now (s .args .wlo)) (now (s .args .whi)) (s .args .n) i (s .pre .0 .bands) h
+  band : BandSound (s .args .n) (now (s .args .bands)) (s .args .u) i
+  band = s .pre .0 .band i h
 
-  abbrev low : Ex
-  low = var (at (now (s .args .wlo)) i) bandLimit (band .low)
+  -- of its band, which stands at `place`, both ends
+  module _ (place : ℕ) (e : place ≡ bandStart (s .args .n) (s .args .u) i) where
+    abbrev low : Ex
+    low = var (at (now (s .args .bands)) place) bandLimit (band-small (s .args .n) (now (s .args .bands)) (s .args .u) i place e band .low)
 
-  abbrev high : Ex
-  high = var (at (now (s .args .whi)) i) bandLimit (band .high)
+    abbrev high : Ex
+    high = var (at (now (s .args .bands)) (place + 1)) bandLimit (band-small (s .args .n) (now (s .args .bands)) (s .args .u) i place e band .high)
+
+-- the band that is read is that of the mode
+placed : (c : tie.After-band Inv-loop μ-loop) → c .band .result ≡ bandStart (c .before .before .before .args .n) (c .before .before .before .args .u) (c .before .before .loop .i)
+placed c = c .band .ensures .0
 
 loop-holds : tie.Need-loop-holds Inv-loop μ-loop
 unfolding tab
@@ -57,24 +61,31 @@ add-start-2 c = omega (arith, c .before .before .pre .0 .rooms)
 mul-start-2 : tie.Need-mul-start-2 Inv-loop μ-loop
 mul-start-2 c = omega (arith, row (c .before .before) (c .before .loop .i) (c .loop-test .taken) .inside)
 
+band-requires : tie.Need-band-requires Inv-loop μ-loop
+band-requires c κs = band (c .before .before) (c .before .loop .i) (c .loop-test .taken) .inside
+
 mul-wl : tie.Need-mul-wl Inv-loop μ-loop
-mul-wl c = omega arith
+mul-wl c = omega (arith, c .band .ensures .1)
 
 element-copy-out-wl : tie.Need-element-copy-out-wl Inv-loop μ-loop
-element-copy-out-wl c = omega arith
+element-copy-out-wl c = omega (arith, c .band .ensures .1)
+
+add-wh : tie.Need-add-wh Inv-loop μ-loop
+add-wh c = omega (arith, c .before .band .ensures .1)
 
 mul-wh : tie.Need-mul-wh Inv-loop μ-loop
-mul-wh c = omega arith
+mul-wh c = omega (arith, c .before .band .ensures .1)
 
 element-copy-out-wh : tie.Need-element-copy-out-wh Inv-loop μ-loop
-element-copy-out-wh c = omega arith
+element-copy-out-wh c = c .before .band .ensures .1
 
 image-side-requires : tie.Need-image-side-requires Inv-loop μ-loop
 image-side-requires c κs =
-    let s = c .before .before .before .before in
-    let i = c .before .before .before .loop .i in
-    let h = c .before .before .loop-test .taken in
-    ((s .pre .0 .least, s .pre .0 .most, under (low s i h) bandLimit tt, under (high s i h) bandLimit tt), (row s i h, s .pre .1))
+    let s = c .before .before .before .before .before in
+    let i = c .before .before .before .before .loop .i in
+    let h = c .before .before .before .loop-test .taken in
+    let b = c .before .before in
+    ((s .pre .0 .least, s .pre .0 .most, under (low s i h (b .band .result) (placed b)) bandLimit tt, under (high s i h (b .band .result) (placed b)) bandLimit tt), (row s i h, s .pre .1))
 
 mul-least : tie.Need-mul-least Inv-loop μ-loop
 mul-least c = omega arith
@@ -97,10 +108,11 @@ loop-less c = omega arith
 loop-again : tie.Need-loop-again Inv-loop μ-loop
 loop-again c =
     let e = c .before .before .image-side in
-    let l = c .before .before .before .before .before .before .loop in
-    let s = c .before .before .before .before .before .before .before in
+    let l = c .before .before .before .before .before .before .before .loop in
+    let s = c .before .before .before .before .before .before .before .before in
     let h : l .i < s .args .n = omega arith in
-    let g = rw (exact (low s (l .i) h) tt, exact (high s (l .i) h) tt) at (e .ensures) in (
+    let b = c .before .before .before .before .before in
+    let g = rw (exact (low s (l .i) h (b .band .result) (placed b)) tt, exact (high s (l .i) h (b .band .result) (placed b)) tt, placed b) at (e .ensures) in (
       omega arith,
       simp length-set (l .inv .1),
       simp length-set (l .inv .2),
@@ -113,7 +125,7 @@ returns c =
     let l = c .before .loop in
     let s = c .before .before in
     let a = s .args in
-    image-done (sides s) (l .least) (l .greatest) (a .n) (l .i) (omega arith) (l .inv .3) ∙ sym (image-tab (a .n) (a .q) (now (a .wlo)) (now (a .whi)) (now (a .coef)) (a .u) (sidesOf (a .n) (now (a .lo)) (now (a .hi))))
+    image-done (sides s) (l .least) (l .greatest) (a .n) (l .i) (omega arith) (l .inv .3) ∙ sym (image-tab (a .n) (a .q) (now (a .bands)) (now (a .coef)) (a .u) (sidesOf (a .n) (now (a .lo)) (now (a .hi))))
 
 pub image-spec : {M : Type 1} → statement M
 image-spec =
@@ -126,8 +138,10 @@ image-spec =
     add-start
     add-start-2
     mul-start-2
+    band-requires
     mul-wl
     element-copy-out-wl
+    add-wh
     mul-wh
     element-copy-out-wh
     image-side-requires

@@ -1,5 +1,5 @@
 -- `limits::lay`: the marks that are set are those of their modes, and the boxes stay as they were laid. Assumes nothing.
-use Prim.Native.Nat.{_+_, _-_, _≤_, _<_}
+use Prim.Native.Nat.{_-_, _≤_, _<_}
 use mathlib.Core.Path.{_≡_, _∙_}
 use native.Mathlib.Omega.{arith}
 use lib.ListN.{length, length-set}
@@ -7,44 +7,50 @@ use denote.Ref.{now}
 use mir.Facts.{toZ-ofZ}
 use Rattle.laws.specs.Integers.{ok64}
 use Rattle.meaning.specs.Boxes.{sideAt}
-use Rattle.tables.specs.Levels.{room}
-use Rattle.tables.specs.Limits.{marksAt, mostModes, Laid, Marked}
-use Rattle.tables.proofs.limits.Laws.{laid-behind, marked-none, marked-more}
+use Rattle.tables.specs.Limits.{mostModes, mostLimits, Laid, Marked}
+use Rattle.tables.proofs.limits.Laws.{laid-beside, marked-more}
 use Rattle.tables.proofs.limits.lay.Statement.{statement}
 use Rattle.tables.proofs.limits.lay.Tie as tie
 
 abbrev Inv-loop : tie.InvT-loop
-Inv-loop f coef of₀ u₀ of u =
-    (u ≤ mostModes) × (length of ≡ room) × Laid (f .n) (f .q) (sideAt (f .goal .lo) (f .goal .hi)) (sideAt (f .safe .lo) (f .safe .hi)) (sideAt (f .band .lo) (f .band .hi)) of × Marked (f .n) u coef of
+Inv-loop f bands coef limits₀ u₀ limits u =
+    (u ≤ mostModes) × (length limits ≡ mostLimits) × Laid (f .n) (f .modes) (f .q) (sideAt (f .goal .lo) (f .goal .hi)) (sideAt (f .safe .lo) (f .safe .hi)) bands limits × Marked (f .n) u coef limits
 
 abbrev μ-loop : tie.MeasureT-loop
-μ-loop f coef of₀ u₀ of u = f .modes - u
+μ-loop f bands coef limits₀ u₀ limits u = f .modes - u
 
-lay-boxes-requires : tie.Need-lay-boxes-requires Inv-loop μ-loop
-lay-boxes-requires c κs = let g = c .pre in ((g .rooms, g .most), (g .band, g .goal, g .safe))
+-- a round, and the call that it is in
+abbrev from : tie.Then1 Inv-loop μ-loop → tie.Start Inv-loop μ-loop
+from t = t .before .before .before .before .before
 
 few : (t : tie.Then1 Inv-loop μ-loop) → t .before .before .loop .u < mostModes
-few t = let h = t .if1 .taken in let k = t .before .before .before .before .before .pre .modes in omega arith
+few t = let h = t .if1 .taken in let k = from t .pre .0 .modes in omega arith
+
+lay-boxes-requires : tie.Need-lay-boxes-requires Inv-loop μ-loop
+lay-boxes-requires c κs = let g = c .before .pre .0 in ((g .rooms, g .most, g .modes, c .before .pre .1), (g .goal, g .safe, λ u h. λ i k. g .band u i h k))
 
 loop-holds : tie.Need-loop-holds Inv-loop μ-loop
-loop-holds c = let b = c .before in (omega arith, b .lay-boxes .ensures .1, b .lay-boxes .ensures .0, marked-none (b .before .args .f .n) (now (b .before .args .coef)) (b .lay-boxes .result .of))
+loop-holds c = let b = c .lay-boxes in (omega arith, b .ensures .1, b .ensures .0, λ u h. absurd (omega arith))
 
 mark-requires : tie.Need-mark-requires Inv-loop μ-loop
 mark-requires c κs =
-    let s = c .before .before .before .before .before in
+    let g = from c .pre .0 in
     let u = c .before .before .loop .u in
     let h = c .if1 .taken in
     let f = few c in
-    (s .pre .some, f, λ i l. s .pre .rows u i h l, λ k i l. s .pre .rows (u - 1) i (omega arith) l)
+    (g .some, f, λ i l. g .rows u i h l, λ k i l. g .rows (u - 1) i (omega arith) l)
 
-add-of : tie.Need-add-of Inv-loop μ-loop
-add-of c = let f = few (c .before) in omega arith
+mul-m : tie.Need-mul-m Inv-loop μ-loop
+mul-m c = let f = few (c .before) in omega arith
 
-mul-of : tie.Need-mul-of Inv-loop μ-loop
-mul-of c = let f = few (c .before) in omega arith
+add-m : tie.Need-add-m Inv-loop μ-loop
+add-m c = let f = few (c .before) in omega arith
 
-array-set-from-of : tie.Need-array-set-from-of Inv-loop μ-loop
-array-set-from-of c = let f = few (c .before) in omega arith
+mul-m-2 : tie.Need-mul-m-2 Inv-loop μ-loop
+mul-m-2 c = let f = few (c .before) in omega arith
+
+element-set-from-m : tie.Need-element-set-from-m Inv-loop μ-loop
+element-set-from-m c = let f = few (c .before) in omega arith
 
 add-u : tie.Need-add-u Inv-loop μ-loop
 add-u c = let f = few (c .before) in omega arith
@@ -55,19 +61,20 @@ loop-less c = let h = c .before .if1 .taken in omega arith
 loop-again : tie.Need-loop-again Inv-loop μ-loop
 loop-again c =
     let l = c .before .before .before .loop in
-    let s = c .before .before .before .before .before .before in
-    let f = few (c .before) in
+    let s = from (c .before) in
+    let f = s .args .f in
+    let h = few (c .before) in
     let k = toZ-ofZ (ok64 (c .mark .result) (c .mark .ok)) in (
       omega arith,
       simp length-set (l .inv .1),
-      laid-behind (marksAt + l .u) _ (s .pre .rooms) (omega arith) (l .inv .2),
-      marked-more (s .args .f .n) (now (s .args .coef)) (l .of) (l .u) _ (omega (arith, l .inv .1)) (λ z. c .mark .ensures (λ e. z (k ∙ e))) (l .inv .3),
+      laid-beside (f .n) (f .q) (s .pre .0 .rooms) (sideAt (f .goal .lo) (f .goal .hi)) (sideAt (f .safe .lo) (f .safe .hi)) (now (s .args .bands)) (f .modes) (l .limits) (l .u) _ (l .inv .2),
+      marked-more (f .n) (now (s .args .coef)) (l .limits) (l .u) _ (omega (arith, l .inv .1)) (λ z. c .mark .ensures (λ e. z (k ∙ e))) (l .inv .3),
     )
 
 returns : tie.Need-returns Inv-loop μ-loop
 returns c =
     let l = c .before .before .loop in
-    record { sound = c .before .before .before .before .before .pre; laid = l .inv .2; marked = λ u h. l .inv .3 u (omega (arith, c .if1 .left)) }
+    record { sound = c .before .before .before .before .before .pre .0; laid = l .inv .2; marked = λ u h. l .inv .3 u (omega (arith, c .if1 .left)) }
 
 pub lay-spec : {M : Type 1} → statement M
 lay-spec =
@@ -78,9 +85,10 @@ lay-spec =
     lay-boxes-requires
     loop-holds
     mark-requires
-    add-of
-    mul-of
-    array-set-from-of
+    mul-m
+    add-m
+    mul-m-2
+    element-set-from-m
     add-u
     loop-less
     loop-again

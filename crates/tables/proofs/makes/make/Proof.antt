@@ -5,6 +5,7 @@ use mathlib.Core.Path.{_≡_, ap, _∙_}
 use mathlib.Core.List.{List}
 use native.Mathlib.Omega.{arith}
 use denote.Ref.{now}
+use lib.IntN.{ℤ}
 use borrow.Author.Needs.{needs}
 use Rattle.meaning.specs.declared.Plant.{Plant}
 use Rattle.meaning.specs.Buffers.{Left}
@@ -25,25 +26,28 @@ use Rattle.tables.proofs.makes.make.Tie as tie
 -- the plant was taken apart
 module _ (x : tie.After-framed) where
   abbrev file : List ℕ
-  file = now (x .before .before .before .before .before .before .before .args .plant)
+  file = now (x .before .before .before .before .before .before .before .before .before .args .plant)
 
   abbrev buffer : List ℕ
-  buffer = now (x .before .before .before .before .before .before .before .args .buf)
+  buffer = now (x .before .before .before .before .before .before .before .before .before .args .buf)
 
   abbrev plant : Plant
-  plant = x .before .before .before .before .read-plant .result .plant
+  plant = x .before .before .before .before .before .before .read-plant .result .plant
 
   abbrev frame : Frame
   frame = x .framed .result
 
   good-plant : plantJudged file ≡ good plant
-  good-plant = let y = x .before .before .before .before .read-plant in read-good (plantJudged file) (y .result) (y .ensures) (x .before .before .enum-told .given .1)
+  good-plant = let y = x .before .before .before .before .before .before .read-plant in read-good (plantJudged file) (y .result) (y .ensures) (x .before .before .before .before .enum-told .given .1)
 
-  sound : FrameSound frame (plant .coef)
-  sound = framed-sound plant (judged-sound file plant good-plant) frame (x .framed .ensures)
+  abbrev bands : List ℤ
+  bands = x .before .before .bands-of .result
 
-  own : definedLeft (rulesIn frame (plant .coef)) buffer ≡ makerLeft file buffer
-  own = left-own file buffer plant good-plant frame (x .framed .ensures)
+  sound : FrameSound frame bands (plant .coef)
+  sound = framed-sound plant (judged-sound file plant good-plant) bands (x .before .before .bands-of .ensures) frame (x .framed .ensures)
+
+  own : definedLeft (rulesIn frame bands (plant .coef)) buffer ≡ makerLeft file buffer
+  own = left-own file buffer plant good-plant (judged-sound file plant good-plant .ranges .n-high) bands (x .before .before .bands-of .ensures) frame (x .framed .ensures)
 
 read-plant-requires : tie.Need-read-plant-requires
 read-plant-requires c κs = search needs
@@ -57,6 +61,14 @@ refuse-requires c κs = search needs
 enum-told : tie.Need-enum-told
 enum-told c = search needs
 
+bands-of-requires : tie.Need-bands-of-requires
+bands-of-requires c κs =
+    let t = c .before in
+    let y = t .before .before .read-plant in
+    let file = now (t .before .before .before .before .before .args .plant) in
+    let r = judged-sound file (y .result .plant) (read-good (plantJudged file) (y .result) (y .ensures) (t .enum-told .given .1)) .ranges in
+    (r .n-low, r .n-high)
+
 framed-requires : tie.Need-framed-requires
 framed-requires c κs = search needs
 
@@ -69,9 +81,9 @@ slice-aggregate-write-table c = search needs
 
 write-table-requires : tie.Need-write-table-requires
 write-table-requires c κs =
-    let x = c .before .before .before .before .before .before in
+    let x = c .before .before .before .before .before .before .before in
     let g = sound x in
-    (g, omega (arith, cap-few (frame x .n) (frame x .d) (g .some) (g .rooms) (c .before .before .before .before .if1 .taken)))
+    (g, omega (arith, cap-few (frame x .n) (frame x .d) (g .some) (g .rooms) (c .before .before .before .before .before .if1 .taken)))
 
 same-length : tie.Need-same-length
 same-length c = search needs
@@ -79,7 +91,7 @@ same-length c = search needs
 returns : tie.Need-returns
 returns c =
     let w = c .before .before .before .write-table in
-    let e = own (c .before .before .before .before .before .before .before .before .before .before) in
+    let e = own (c .before .before .before .before .before .before .before .before .before .before .before) in
     (w .ensures .0 ∙ ap (λ (l : Left). l .answer) e, w .ensures .1 ∙ ap (λ (l : Left). l .buffer) e)
 
 slice-aggregate-write-table-2 : tie.Need-slice-aggregate-write-table-2
@@ -87,7 +99,7 @@ slice-aggregate-write-table-2 c = search needs
 
 write-table-requires-2 : tie.Need-write-table-requires-2
 write-table-requires-2 c κs =
-    let x = c .before .before .before .before .before .before in
+    let x = c .before .before .before .before .before .before .before in
     let g = sound x in
     (g, omega (arith, cap (frame x .n) (frame x .d) (g .some) (g .rooms) (g .depth) (g .tiles)))
 
@@ -109,7 +121,7 @@ same-length-3 c = search needs
 returns-3 : tie.Need-returns-3
 returns-3 c =
     let w = c .before .before .before .write-table2 in
-    let e = own (c .before .before .before .before .before .before .before .before .before .before) in
+    let e = own (c .before .before .before .before .before .before .before .before .before .before .before) in
     (w .ensures .0 ∙ ap (λ (l : Left). l .answer) e, w .ensures .1 ∙ ap (λ (l : Left). l .buffer) e)
 
 pub make-spec : {M : Type 1} → statement M
@@ -120,6 +132,7 @@ make-spec =
     enum-known-verdict
     refuse-requires
     enum-told
+    bands-of-requires
     framed-requires
     mul-if1
     slice-aggregate-write-table

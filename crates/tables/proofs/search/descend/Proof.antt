@@ -34,7 +34,7 @@ step-requires c κs =
     let s = c .before .before .before in
     let t = s .pre .0 .0 in
     let h = s .pre .0 .1 in
-    ((t .rows (s .args .u) (s .pre .0 .2), t .rooms, t .least, t .most, t .band), (omega arith, s .pre .1 .1, s .pre .1 .0 .roomy))
+    ((t .rows (s .args .u) (s .pre .0 .2), t .rooms, t .least, t .most, t .band (s .args .u) (s .pre .0 .2), omega (arith, t .few, s .pre .0 .2)), (omega arith, s .pre .1 .1, s .pre .1 .0 .roomy))
 
 mul-us : tie.Need-mul-us
 mul-us c = search needs
@@ -60,13 +60,13 @@ returns-2 c =
     let g = s .pre .1 .0 in
     let h = s .pre .0 .1 in
     let e = k .step .ensures in
-    let boxes = k .step .last .1 .1 .1 .1 .1 .0 in
+    let boxes = k .step .last .1 .1 .1 .1 .1 .1 .0 in
     let q : wide * a .l + wide ≡ wide * suc (a .l) = omega arith in
-    let i : levelIn (a .n) boxes (suc (a .l)) ≡ imageLent (a .n) (a .q) (now (a .coef)) (now (a .limits)) (a .u) (levelIn (a .n) (now (a .boxes)) (a .l)) = rw q at (e .1 .0 (c .if2 .taken)) in
+    let i : levelIn (a .n) boxes (suc (a .l)) ≡ imageLent (a .n) (a .q) (now (a .bands)) (now (a .coef)) (a .u) (levelIn (a .n) (now (a .boxes)) (a .l)) = rw q at (e .1 .0 (c .if2 .taken)) in
     let stays = sym (e .0) ∙ c .if2 .taken in (
       sym (c .if2 .taken) ∙ e .0,
       (
-        standing-new (a .n) (a .count) (a .q) (now (a .coef)) (now (a .limits)) (t .rooms) (now (a .boxes)) (now (a .us)) g (a .l) (a .u) h boxes (e .1 .1 .0) stays i,
+        standing-new (a .n) (a .count) (a .q) (now (a .bands)) (now (a .coef)) (now (a .limits)) (t .rooms) (now (a .boxes)) (now (a .us)) g (a .l) (a .u) h boxes (e .1 .1 .0) stays i,
         (
           same-to (a .n) (t .rooms) (a .l) (now (a .boxes)) boxes (e .1 .1 .0) (now (a .us)) (entered (now (a .us)) (a .count) (a .l) (a .u))
               (λ j o. entered-below (now (a .us)) (a .count) (a .l) (a .u) j (λ z. absurd (omega arith)) (λ z. absurd (omega arith))),

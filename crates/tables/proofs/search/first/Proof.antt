@@ -20,23 +20,23 @@ use Rattle.tables.proofs.search.first.Statement.{statement}
 use Rattle.tables.proofs.search.first.Tie as tie
 
 abbrev Inv-loop : tie.InvT-loop
-Inv-loop n count q k coef limits us₀ boxes₀ size₀ m l₀ u₀ us boxes size l u =
-    (size ≡ 0) × (levelIn n boxes 0 ≡ levelIn n boxes₀ 0) × Along n count q coef limits m (sought (movesLent n count q coef limits) m (levelIn n boxes₀ 0)) boxes us l u
+Inv-loop n count q k bands coef limits us₀ boxes₀ size₀ m l₀ u₀ us boxes size l u =
+    (size ≡ 0) × (levelIn n boxes 0 ≡ levelIn n boxes₀ 0) × Along n count q bands coef limits m (sought (movesLent n count q bands coef limits) m (levelIn n boxes₀ 0)) boxes us l u
 
 abbrev μ-loop : tie.MeasureT-loop
-μ-loop n count q k coef limits us₀ boxes₀ size₀ m l₀ u₀ us boxes size l u = turnsAlong n count q coef limits m boxes us l u
+μ-loop n count q k bands coef limits us₀ boxes₀ size₀ m l₀ u₀ us boxes size l u = turnsAlong n count q bands coef limits m boxes us l u
 
 abbrev Inv-search : tie.InvT-search
-Inv-search n count q k coef limits us₀ boxes₀ size₀ m₀ us boxes size m =
-    (m ≤ k) × (size ≡ 0) × Standing n count q coef limits boxes us × (levelIn n boxes 0 ≡ levelIn n boxes₀ 0)
-    × (soughtFrom (movesLent n count q coef limits) (k - m) m (levelIn n boxes₀ 0) ≡ shortestLent n count q coef limits k (levelIn n boxes₀ 0))
+Inv-search n count q k bands coef limits us₀ boxes₀ size₀ m₀ us boxes size m =
+    (m ≤ k) × (size ≡ 0) × Standing n count q bands coef limits boxes us × (levelIn n boxes 0 ≡ levelIn n boxes₀ 0)
+    × (soughtFrom (movesLent n count q bands coef limits) (k - m) m (levelIn n boxes₀ 0) ≡ shortestLent n count q bands coef limits k (levelIn n boxes₀ 0))
 
 abbrev μ-search : tie.MeasureT-search
-μ-search n count q k coef limits us₀ boxes₀ size₀ m₀ us boxes size m = k - m
+μ-search n count q k bands coef limits us₀ boxes₀ size₀ m₀ us boxes size m = k - m
 
 -- what the modes do in a call
 abbrev moves : tie.Start Inv-loop μ-loop Inv-search μ-search → Moves
-moves s = let a = s .args in movesLent (a .n) (a .count) (a .q) (now (a .coef)) (now (a .limits))
+moves s = let a = s .args in movesLent (a .n) (a .count) (a .q) (now (a .bands)) (now (a .coef)) (now (a .limits))
 
 -- a length is tried: the call, and the box as it stands in front
 module _ (o : tie.At-search Inv-loop μ-loop Inv-search μ-search) where
@@ -72,8 +72,8 @@ module _ (c : tie.At-loop Inv-loop μ-loop Inv-search μ-search) where
       let a = from .args in
       let m = outer .search .m in
       let v = c .loop in
-      Along (a .n) (a .count) (a .q) (now (a .coef)) (now (a .limits)) m whole boxes us l u
-      × (turnsAlong (a .n) (a .count) (a .q) (now (a .coef)) (now (a .limits)) m boxes us l u < turnsAlong (a .n) (a .count) (a .q) (now (a .coef)) (now (a .limits)) m (v .boxes) (v .us) (v .l) (v .u))
+      Along (a .n) (a .count) (a .q) (now (a .bands)) (now (a .coef)) (now (a .limits)) m whole boxes us l u
+      × (turnsAlong (a .n) (a .count) (a .q) (now (a .bands)) (now (a .coef)) (now (a .limits)) m boxes us l u < turnsAlong (a .n) (a .count) (a .q) (now (a .bands)) (now (a .coef)) (now (a .limits)) m (v .boxes) (v .us) (v .l) (v .u))
 
 -- a level that is done, not the first
 module _ (c : tie.Else2 Inv-loop μ-loop Inv-search μ-search) where
@@ -85,7 +85,7 @@ module _ (c : tie.Else2 Inv-loop μ-loop Inv-search μ-search) where
       let a = from turn1 .args in
       let l = turn1 .loop in
       let e = c .before .if1 .taken in
-      along-up (a .n) (a .count) (a .q) (now (a .coef)) (now (a .limits)) (outer turn1 .search .m) (l .boxes) (l .us) (whole turn1) (l .l) (l .u) (c .if2 .left) (omega arith) (l .inv .2)
+      along-up (a .n) (a .count) (a .q) (now (a .bands)) (now (a .coef)) (now (a .limits)) (outer turn1 .search .m) (l .boxes) (l .us) (whole turn1) (l .l) (l .u) (c .if2 .left) (omega arith) (l .inv .2)
 
 -- the last level
 module _ (c : tie.After-last Inv-loop μ-loop Inv-search μ-search) where
@@ -104,10 +104,10 @@ module _ (c : tie.After-descend Inv-loop μ-loop Inv-search μ-search) where
   turn3 = c .before .before .before .before .before
 
   abbrev us-after : List ℕ
-  us-after = c .descend .last .1 .1 .1 .1 .1 .1 .1 .0
+  us-after = c .descend .last .1 .1 .1 .1 .1 .1 .1 .1 .0
 
   abbrev boxes-after : List ℤ
-  boxes-after = c .descend .last .1 .1 .1 .1 .1 .1 .1 .1 .0
+  boxes-after = c .descend .last .1 .1 .1 .1 .1 .1 .1 .1 .1 .0
 
   below-last : turn3 .loop .u < from turn3 .args .count
   below-last = let h = turn3 .loop .inv .2 .top in let z = c .before .before .before .before .if1 .left in omega arith
@@ -121,7 +121,7 @@ search-holds c =
     let a = d .before .before .args in (
       omega arith,
       refl,
-      standing-none (a .n) (a .count) (a .q) (now (a .coef)) (now (a .limits)) _ (d .begin .ensures .1),
+      standing-none (a .n) (a .count) (a .q) (now (a .bands)) (now (a .coef)) (now (a .limits)) _ (d .begin .ensures .1),
       refl,
       lengths-all (moves (d .before .before)) (a .k) _,
     )
@@ -130,7 +130,7 @@ loop-holds : tie.Need-loop-holds Inv-loop μ-loop Inv-search μ-search
 loop-holds c =
     let o = c .before in
     let a = call o .args in
-    (o .search .inv .1, refl, along-start (a .n) (a .count) (a .q) (now (a .coef)) (now (a .limits)) (o .search .m) (o .search .boxes) (o .search .us) (o .search .inv .2) (small o))
+    (o .search .inv .1, refl, along-start (a .n) (a .count) (a .q) (now (a .bands)) (now (a .coef)) (now (a .limits)) (o .search .m) (o .search .boxes) (o .search .us) (o .search .inv .2) (small o))
 
 sub-l : tie.Need-sub-l Inv-loop μ-loop Inv-search μ-search
 sub-l c = let z = c .if2 .left in omega arith
@@ -177,7 +177,7 @@ none-lands c =
     let t = turn2 d in
     let a = from t .args in
     let l = t .loop in
-    along-none (a .n) (a .count) (a .q) (now (a .coef)) (now (a .limits)) (outer t .search .m) (l .boxes) (l .us) (whole t) (l .l) (l .u) (found d) (d .before .before .if3 .taken) (l .inv .2) (not-done d) (d .last .ensures .0) (c .if4 .left) (d .last .ensures .1)
+    along-none (a .n) (a .count) (a .q) (now (a .bands)) (now (a .coef)) (now (a .limits)) (outer t .search .m) (l .boxes) (l .us) (whole t) (l .l) (l .u) (found d) (d .before .before .if3 .taken) (l .inv .2) (not-done d) (d .last .ensures .0) (c .if4 .left) (d .last .ensures .1)
 
 loop-less-2 : tie.Need-loop-less-2 Inv-loop μ-loop Inv-search μ-search
 loop-less-2 c = none-lands c .1
@@ -205,7 +205,7 @@ module _ (c : tie.After-descend Inv-loop μ-loop Inv-search μ-search) where
       let l = t .loop in
       let d = c .descend .ensures in
       let new = d .1 .1 .1 e in
-      along-down (a .n) (a .count) (a .q) (now (a .coef)) (now (a .limits)) (outer t .search .m) (whole t) (l .boxes) (l .us) (l .l) (l .u) (l .inv .2) (below-last c) (c .before .before .before .if3 .left) (boxes-after c) (us-after c) (d .1 .1 .0) (d .1 .0)
+      along-down (a .n) (a .count) (a .q) (now (a .bands)) (now (a .coef)) (now (a .limits)) (outer t .search .m) (whole t) (l .boxes) (l .us) (l .l) (l .u) (l .inv .2) (below-last c) (c .before .before .before .if3 .left) (boxes-after c) (us-after c) (d .1 .1 .0) (d .1 .0)
       (sym e ∙ d .0) (new .0) (new .1) (from t .pre .0)
 
   on : c .descend .result ≡ false → Turned (turn3 c) (boxes-after c) (us-after c) (turn3 c .loop .l) (turn3 c .loop .u + 1)
@@ -214,7 +214,7 @@ module _ (c : tie.After-descend Inv-loop μ-loop Inv-search μ-search) where
       let a = from t .args in
       let l = t .loop in
       let d = c .descend .ensures in
-      along-on (a .n) (a .count) (a .q) (now (a .coef)) (now (a .limits)) (outer t .search .m) (whole t) (l .boxes) (l .us) (l .l) (l .u) (l .inv .2) (below-last c) (c .before .before .before .if3 .left) (boxes-after c) (us-after c) (d .1 .1 .0) (d .1 .0)
+      along-on (a .n) (a .count) (a .q) (now (a .bands)) (now (a .coef)) (now (a .limits)) (outer t .search .m) (whole t) (l .boxes) (l .us) (l .l) (l .u) (l .inv .2) (below-last c) (c .before .before .before .if3 .left) (boxes-after c) (us-after c) (d .1 .1 .0) (d .1 .0)
       (sym e ∙ d .0)
 
   front-same : levelIn (from (turn3 c) .args .n) (boxes-after c) 0 ≡ levelIn (from (turn3 c) .args .n) (outer (turn3 c) .search .boxes) 0
@@ -253,7 +253,7 @@ search-again c =
     let m = o .search .m in
     let h = t .before .search-test .taken in
     let e = c .before .if1 .taken in
-    let none-there = along-done (a .n) (a .count) (a .q) (now (a .coef)) (now (a .limits)) m (l .boxes) (l .us) (whole t) (l .l) (l .u) (c .if2 .taken) (omega arith) (l .inv .2) in (
+    let none-there = along-done (a .n) (a .count) (a .q) (now (a .bands)) (now (a .coef)) (now (a .limits)) m (l .boxes) (l .us) (whole t) (l .l) (l .u) (c .if2 .taken) (omega arith) (l .inv .2) in (
       omega arith,
       l .inv .0,
       l .inv .2 .standing,
@@ -283,7 +283,7 @@ returns-2 c =
     let h = few t in
     let e = o .before .before .begin .ensures .0 in
     let there =
-    along-found (a .n) (a .count) (a .q) (now (a .coef)) (now (a .limits)) m (l .boxes) (l .us) (whole t) (l .l) (l .u) (found d) q (l .inv .2) (not-done d) (d .last .ensures .0) (omega arith) (c .if4 .taken) in (
+    along-found (a .n) (a .count) (a .q) (now (a .bands)) (now (a .coef)) (now (a .limits)) m (l .boxes) (l .us) (whole t) (l .l) (l .u) (found d) q (l .inv .2) (not-done d) (d .last .ensures .0) (omega arith) (c .if4 .taken) in (
       rw (add-one, ← e) (lengths-found (moves (from t)) (a .k) _ m _ (o .search .inv .4) (t .before .search-test .taken) _ (rw (add-one, o .search .inv .3) at (sym there))),
       (omega arith, length-set (l .us) (l .l) (found d) ∙ l .inv .2 .standing .long),
     )

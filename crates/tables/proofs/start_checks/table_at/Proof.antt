@@ -1,5 +1,5 @@
 -- `start_checks::table_at`: the length, the table within it, and that it ends there. Assumes nothing.
-use Prim.Native.Nat.{ℕ, _+_, _≤_}
+use Prim.Native.Nat.{ℕ, _+_, _≤_, _<_, _^_}
 use mathlib.Core.Path.{_≡_, sym, ap, _∙_}
 use mathlib.Core.List.{List}
 use native.Mathlib.Omega.{arith}
@@ -18,6 +18,9 @@ use Rattle.tables.proofs.start_checks.Laws.{length-stopped, table-refus
 use Rattle.tables.proofs.start_checks.table_at.Statement.{statement}
 use Rattle.tables.proofs.start_checks.table_at.Tie as tie
 
+short : (s : tie.Start) → length (now (s .args .start)) < 2 ^ 64
+short s = omega arith
+
 -- the table was found
 module _ (x : tie.After-first) where
   abbrev start : tie.Start
@@ -27,7 +30,7 @@ module _ (x : tie.After-first) where
   file = now (start .args .start)
 
   abbrev rules : Rules
-  rules = rulesIn (start .args .f) (now (start .args .coef))
+  rules = rulesIn (start .args .f) (now (start .args .bands)) (now (start .args .coef))
 
   abbrev first : ℕ
   first = x .first .given .0 .0
@@ -81,7 +84,7 @@ moved-requires c κs =
     let y = c .before .before .before in
     let x = there y in
     let g = c .before .e2 .given in
-    movable (file x) (first x) (size x) (within x) (omega arith) (g .0 .0)
+    movable (file x) (first x) (size x) (within x) (short (start x)) (g .0 .0)
     (end-inside (rules x) (part (file x) (first x) (size x)) (start x .pre .longest) (g .0 .0) (sym (walked y) ∙ g .1))
 
 enum-known-next : tie.Need-enum-known-next
@@ -95,7 +98,7 @@ returns c =
     let s = c .before .before .before .before .before in
     let p = c .before .before .before .part-at in
     let g = c .before .e .given in
-    length-stopped (rulesIn (s .args .f) (now (s .args .coef))) (now (s .args .start)) (s .args .at) (p .result) (p .ensures) (g .0 .0) (g .1)
+    length-stopped (rulesIn (s .args .f) (now (s .args .bands)) (now (s .args .coef))) (now (s .args .start)) (s .args .at) (p .result) (p .ensures) (g .0 .0) (g .1)
 
 returns-2 : tie.Need-returns-2
 returns-2 c =

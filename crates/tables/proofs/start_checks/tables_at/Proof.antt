@@ -14,25 +14,25 @@ use Rattle.tables.proofs.start_checks.tables_at.Statement.{statement}
 use Rattle.tables.proofs.start_checks.tables_at.Tie as tie
 
 abbrev Inv-loop : tie.InvT-loop
-Inv-loop f edges coef start m at place₀ i₀ place i =
-    (i ≤ m + 1) × (tablesAt (rulesAt f edges coef) start (m + 1 - i) i place ≡ tablesAt (rulesAt f edges coef) start (m + 1) 0 at)
+Inv-loop f edges bands coef start m at place₀ i₀ place i =
+    (i ≤ m + 1) × (tablesAt (rulesAt f edges bands coef) start (m + 1 - i) i place ≡ tablesAt (rulesAt f edges bands coef) start (m + 1) 0 at)
 
 abbrev μ-loop : tie.MeasureT-loop
-μ-loop f edges coef start m at place₀ i₀ place i = m + 1 - i
+μ-loop f edges bands coef start m at place₀ i₀ place i = m + 1 - i
 
 -- what the call says of table i
 told : (c : tie.After-table-at Inv-loop μ-loop) → (let l = c .before .before .before in let a = l .before .before .args in
-    c .table-at .result ≡ tableAt (rulesAt (a .f) (now (a .edges)) (now (a .coef)) (l .loop .i)) (now (a .start)) (l .loop .place))
+    c .table-at .result ≡ tableAt (rulesAt (a .f) (now (a .edges)) (now (a .bands)) (now (a .coef)) (l .loop .i)) (now (a .start)) (l .loop .place))
 told c =
     let l = c .before .before .before in
     let a = l .before .before .args in
-    c .table-at .ensures ∙ ap (λ (g : Frame). tableAt (rulesIn g (now (a .coef))) (now (a .start)) (l .loop .place)) (c .before .frame-at .ensures)
+    c .table-at .ensures ∙ ap (λ (g : Frame). tableAt (rulesIn g (now (a .bands)) (now (a .coef))) (now (a .start)) (l .loop .place)) (c .before .frame-at .ensures)
 
 loop-holds : tie.Need-loop-holds Inv-loop μ-loop
 loop-holds c =
     let a = c .before .args in
     let z : a .m + 1 - 0 ≡ a .m + 1 = omega arith in
-    (omega arith, ap (λ (k : ℕ). tablesAt (rulesAt (a .f) (now (a .edges)) (now (a .coef))) (now (a .start)) k 0 (a .at)) z)
+    (omega arith, ap (λ (k : ℕ). tablesAt (rulesAt (a .f) (now (a .edges)) (now (a .bands)) (now (a .coef))) (now (a .start)) k 0 (a .at)) z)
 
 frame-at-requires : tie.Need-frame-at-requires Inv-loop μ-loop
 frame-at-requires c κs = let s = c .before .before .before in (s .pre .rooms, omega (arith, s .pre .few))
@@ -41,7 +41,7 @@ table-at-requires : tie.Need-table-at-requires Inv-loop μ-loop
 table-at-requires c κs =
     let l = c .before .before in
     let s = l .before .before in
-    subst (λ (g : Frame). FrameSound g (now (s .args .coef))) (sym (c .frame-at .ensures)) (s .pre .each (l .loop .i) (omega arith))
+    subst (λ (g : Frame). FrameSound g (now (s .args .bands)) (now (s .args .coef))) (sym (c .frame-at .ensures)) (s .pre .each (l .loop .i) (omega arith))
 
 enum-known-e : tie.Need-enum-known-e Inv-loop μ-loop
 enum-known-e c = search needs
@@ -52,7 +52,7 @@ returns c =
     let l = y .before .before .before in
     let a = l .before .before .args in
     let g = c .before .e .given in
-    tables-stopped (rulesAt (a .f) (now (a .edges)) (now (a .coef))) (now (a .start)) (a .m) (l .loop .i) (l .loop .place) (omega arith) (y .table-at .result) (told y) (g .0 .0) (g .1)
+    tables-stopped (rulesAt (a .f) (now (a .edges)) (now (a .bands)) (now (a .coef))) (now (a .start)) (a .m) (l .loop .i) (l .loop .place) (omega arith) (y .table-at .result) (told y) (g .0 .0) (g .1)
     ∙ l .loop .inv .1
 
 enum-known-next : tie.Need-enum-known-next Inv-loop μ-loop
@@ -71,7 +71,7 @@ loop-again c =
     let a = l .before .before .args in
     let g = c .before .next .given in (
       omega arith,
-      tables-more (rulesAt (a .f) (now (a .edges)) (now (a .coef))) (now (a .start)) (a .m) (l .loop .i) (l .loop .place) (omega arith) (y .table-at .result) (told y) (g .0 .0) (g .1) ∙ l .loop .inv .1,
+      tables-more (rulesAt (a .f) (now (a .edges)) (now (a .bands)) (now (a .coef))) (now (a .start)) (a .m) (l .loop .i) (l .loop .place) (omega arith) (y .table-at .result) (told y) (g .0 .0) (g .1) ∙ l .loop .inv .1,
     )
 
 unfit-requires : tie.Need-unfit-requires Inv-loop μ-loop
@@ -81,14 +81,14 @@ returns-2 : tie.Need-returns-2 Inv-loop μ-loop
 returns-2 c =
     let l = c .before .before in
     let a = l .before .before .args in
-    tables-ended (rulesAt (a .f) (now (a .edges)) (now (a .coef))) (now (a .start)) (a .m) (l .loop .i) (l .loop .place) (omega arith) (c .if1 .taken) ∙ l .loop .inv .1
+    tables-ended (rulesAt (a .f) (now (a .edges)) (now (a .bands)) (now (a .coef))) (now (a .start)) (a .m) (l .loop .i) (l .loop .place) (omega arith) (c .if1 .taken) ∙ l .loop .inv .1
 
 returns-3 : tie.Need-returns-3 Inv-loop μ-loop
 returns-3 c =
     let l = c .before .before .before in
     let a = l .before .before .args in
     ap Verdict.Refused (c .unfit .ensures)
-    ∙ tables-over (rulesAt (a .f) (now (a .edges)) (now (a .coef))) (now (a .start)) (a .m) (l .loop .i) (l .loop .place) (omega arith) (c .before .if1 .left) ∙ l .loop .inv .1
+    ∙ tables-over (rulesAt (a .f) (now (a .edges)) (now (a .bands)) (now (a .coef))) (now (a .start)) (a .m) (l .loop .i) (l .loop .place) (omega arith) (c .before .if1 .left) ∙ l .loop .inv .1
 
 pub tables-at-spec : {M : Type 1} → statement M
 tables-at-spec =

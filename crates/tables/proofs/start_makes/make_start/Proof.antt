@@ -27,6 +27,9 @@ module _ (x : tie.After-read-chain) where
   abbrev frame : Frame
   frame = from .args .f
 
+  abbrev bands : List ℤ
+  bands = now (from .args .bands)
+
   abbrev coef : List ℤ
   coef = now (from .args .coef)
 
@@ -44,14 +47,14 @@ module _ (x : tie.After-read-chain) where
     taken : Chained true frame chain boxes
     taken = chain-taken true frame chain boxes (x .read-chain .ensures) h
 
-    sound : (boxes .m ≤ mostAbove) × FramesSound frame coef (boxes .edges) (boxes .m)
+    sound : (boxes .m ≤ mostAbove) × FramesSound frame bands coef (boxes .edges) (boxes .m)
     sound = (
       chain-few true frame chain boxes (x .read-chain .ensures) taken,
-      λ i k. frame-sound true frame chain boxes (x .read-chain .ensures) taken coef (from .pre .0) (from .pre .1) i k,
+      λ i k. frame-sound true frame chain boxes (x .read-chain .ensures) taken bands coef (from .pre .0) (from .pre .1) i k,
     )
 
-    made : left (behindChain chain (framesTables frame coef (boxes .edges) (boxes .m))) buffer ≡ chainLeft frame coef chain buffer
-    made = chain-good frame coef chain buffer boxes (x .read-chain .ensures) taken (from .pre .0 .rooms)
+    made : left (behindChain chain (framesTables frame bands coef (boxes .edges) (boxes .m))) buffer ≡ chainLeft frame bands coef chain buffer
+    made = chain-good frame bands coef chain buffer boxes (x .read-chain .ensures) taken (from .pre .0 .rooms)
 
 read-chain-requires : tie.Need-read-chain-requires
 read-chain-requires c κs = search needs
@@ -103,7 +106,7 @@ returns-2 c =
     let x = c .before .before .before .before .before .before .before in
     let g = c .before .before .before .before .before .verdict .given in
     let w = c .before .before .refuse in
-    let e = chain-bad (frame x) (coef x) (chain x) (buffer x) (boxes x) (x .read-chain .ensures) (g .0 .0) (g .1) in
+    let e = chain-bad (frame x) (bands x) (coef x) (chain x) (buffer x) (boxes x) (x .read-chain .ensures) (g .0 .0) (g .1) in
     (w .ensures .0 ∙ ap (λ (l : Left). l .answer) e, w .ensures .1 ∙ ap (λ (l : Left). l .buffer) e)
 
 same-length-3 : tie.Need-same-length-3

@@ -4,6 +4,7 @@ use mathlib.Core.Path.{_≡_, sym, ap, _∙_, subst}
 use mathlib.Core.Bool.{true}
 use mathlib.Core.List.{List}
 use denote.Ref.{now}
+use lib.IntN.{ℤ}
 use borrow.Author.Needs.{needs}
 use Rattle.meaning.specs.declared.Plant.{Plant}
 use Rattle.meaning.specs.Boxes.{within}
@@ -25,22 +26,25 @@ use Rattle.tables.proofs.start_makes.start_make.Tie as tie
 -- the plant was taken apart
 module _ (x : tie.After-framed) where
   abbrev from : tie.Start
-  from = x .before .before .before .before .before .before .before .before
+  from = x .before .before .before .before .before .before .before .before .before .before
 
   abbrev file : List ℕ
   file = now (from .args .plant)
 
   abbrev plant : Plant
-  plant = x .before .before .before .before .read-plant .result .plant
+  plant = x .before .before .before .before .before .before .read-plant .result .plant
 
   abbrev frame : Frame
   frame = x .framed .result
 
   good-plant : plantJudged file ≡ good plant
-  good-plant = let y = x .before .before .before .before .read-plant in read-good (plantJudged file) (y .result) (y .ensures) (x .before .before .enum-told .given .1)
+  good-plant = let y = x .before .before .before .before .before .before .read-plant in read-good (plantJudged file) (y .result) (y .ensures) (x .before .before .before .before .enum-told .given .1)
 
-  sound : FrameSound frame (plant .coef)
-  sound = framed-sound plant (judged-sound file plant good-plant) frame (x .framed .ensures)
+  abbrev bands : List ℤ
+  bands = x .before .before .bands-of .result
+
+  sound : FrameSound frame bands (plant .coef)
+  sound = framed-sound plant (judged-sound file plant good-plant) bands (x .before .before .bands-of .ensures) frame (x .framed .ensures)
 
   -- R is the box that its patterns end in, which lies in S
   in-safe : within (boxOf (frame .n) (frame .root)) (boxOf (frame .n) (frame .safe)) ≡ true
@@ -48,8 +52,8 @@ module _ (x : tie.After-framed) where
       subst (λ (f : Frame). within (boxOf (f .n) (f .root)) (boxOf (f .n) (f .safe)) ≡ true) (sym (x .framed .ensures))
       (subst (λ (f : Frame). within (boxOf (f .n) (f .goal)) (boxOf (f .n) (f .safe)) ≡ true) (x .framed .ensures) (sound .in-safe))
 
-  own : chainLeft frame (plant .coef) (now (from .args .chain)) (now (from .args .buf)) ≡ startLeft file (now (from .args .chain)) (now (from .args .buf))
-  own = start-own file (now (from .args .chain)) (now (from .args .buf)) plant good-plant frame (x .framed .ensures)
+  own : chainLeft frame bands (plant .coef) (now (from .args .chain)) (now (from .args .buf)) ≡ startLeft file (now (from .args .chain)) (now (from .args .buf))
+  own = start-own file (now (from .args .chain)) (now (from .args .buf)) plant good-plant (judged-sound file plant good-plant .ranges .n-high) bands (x .before .before .bands-of .ensures) frame (x .framed .ensures)
 
 read-plant-requires : tie.Need-read-plant-requires
 read-plant-requires c κs = search needs
@@ -63,11 +67,19 @@ refuse-requires c κs = search needs
 enum-told : tie.Need-enum-told
 enum-told c = search needs
 
+bands-of-requires : tie.Need-bands-of-requires
+bands-of-requires c κs =
+    let t = c .before in
+    let y = t .before .before .read-plant in
+    let file = now (t .before .before .before .before .before .before .args .plant) in
+    let r = judged-sound file (y .result .plant) (read-good (plantJudged file) (y .result) (y .ensures) (t .enum-told .given .1)) .ranges in
+    (r .n-low, r .n-high)
+
 framed-requires : tie.Need-framed-requires
 framed-requires c κs = search needs
 
 make-start-requires : tie.Need-make-start-requires
-make-start-requires c κs = let x = c .before .before .before in (sound x, in-safe x)
+make-start-requires c κs = let x = c .before .before .before .before in (sound x, in-safe x)
 
 same-length : tie.Need-same-length
 same-length c = search needs
@@ -87,7 +99,7 @@ same-length-2 c = search needs
 returns-2 : tie.Need-returns-2
 returns-2 c =
     let w = c .before .before .make-start in
-    let e = own (c .before .before .before .before .before .before) in
+    let e = own (c .before .before .before .before .before .before .before) in
     (w .ensures .0 ∙ ap (λ (l : Left). l .answer) e, w .ensures .1 ∙ ap (λ (l : Left). l .buffer) e)
 
 pub start-make-spec : {M : Type 1} → statement M
@@ -98,6 +110,7 @@ start-make-spec =
     enum-known-verdict
     refuse-requires
     enum-told
+    bands-of-requires
     framed-requires
     make-start-requires
     same-length

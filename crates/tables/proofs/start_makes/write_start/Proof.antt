@@ -20,10 +20,10 @@ module _ (x : tie.After-put-parts) where
   from = x .before .before .before .before .before .before .before .before .before .before
 
   abbrev tables : Judged (List (List ℕ))
-  tables = framesTables (from .args .f) (now (from .args .coef)) (now (from .args .edges)) (from .args .m)
+  tables = framesTables (from .args .f) (now (from .args .bands)) (now (from .args .coef)) (now (from .args .edges)) (from .args .m)
 
   abbrev out : List ℕ
-  out = x .put-parts .last .1 .1 .1 .1 .1 .0
+  out = x .put-parts .last .1 .1 .1 .1 .1 .1 .0
 
 put-bytes-requires : tie.Need-put-bytes-requires
 put-bytes-requires c κs = search needs

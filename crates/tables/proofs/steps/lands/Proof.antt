@@ -1,6 +1,6 @@
 -- `steps::lands`: where the last row leaves the limits the image does, and otherwise all rows are tried. Assumes nothing.
 use Prim.Native.Nat.{ℕ, _+_, _-_, _<_}
-use mathlib.Core.Path.{_≡_, sym, ap, _∙_}
+use mathlib.Core.Path.{_≡_, refl, sym, ap, _∙_}
 use mathlib.Core.Bool.{Bool}
 use native.Mathlib.Omega.{arith}
 use borrow.Author.Needs.{needs}
@@ -22,13 +22,13 @@ module _ (s : tie.Start) where
   index = s .args .n - 1
 
   inside-rows : index < s .args .n
-  inside-rows = let k = s .pre .0 .0 in omega arith
+  inside-rows = let k = s .pre .0 .1 in omega arith
 
   last-row : RowSound (s .args .n) (now (s .args .coef)) (rowStart (s .args .n) (s .args .u) index)
-  last-row = s .pre .0 .1 index inside-rows
+  last-row = s .pre .0 .2 index inside-rows
 
   abbrev tests : ℕ → Bool
-  tests = let a = s .args in coveredAt (a .n) (now (a .coef)) (now (a .limits)) goalAt (a .u) (boxIn (a .n) (now (a .boxes)) (a .place))
+  tests = let a = s .args in coveredAt (a .n) (now (a .coef)) (now (a .limits)) (goalAt (a .u)) (a .u) (boxIn (a .n) (now (a .boxes)) (a .place))
 
 -- the sums of the last row
 module _ (c : tie.After-row) where
@@ -56,6 +56,12 @@ mul-offset c = omega (arith, c .row .ensures, last-row (c .before) .inside)
 element-copy-out-offset : tie.Need-element-copy-out-offset
 element-copy-out-offset c = omega (arith, c .row .ensures, last-row (c .before) .inside)
 
+mul-base : tie.Need-mul-base
+mul-base c = search needs
+
+add-base : tie.Need-add-base
+add-base c = search needs
+
 sub-inside : tie.Need-sub-inside
 sub-inside c = search needs
 
@@ -69,7 +75,10 @@ inside-requires : tie.Need-inside-requires
 inside-requires c κs = let s = c .before .before .before .before .before .before in (omega arith, omega (arith, inside-rows s, last-row s .rooms))
 
 stays-requires : tie.Need-stays-requires
-stays-requires c κs = search needs
+stays-requires c κs =
+    let s = c .before .before .before .before .before .before .before .before .before .before in
+    let few = s .pre .0 .0 in
+    ((s .pre .0 .2, omega arith), (s .pre .0 .3, s .pre .0 .4, refl, refl))
 
 returns : tie.Need-returns
 returns c = search needs
@@ -82,7 +91,7 @@ tested c =
     let a = s .args in
     let sums : side (s .args .e .lo +ℤ offset t) (s .args .e .hi +ℤ offset t) ≡ sumsAt (a .n) (now (a .coef)) (a .u) (boxIn (a .n) (now (a .boxes)) (a .place)) (index s) =
     rw (t .row .ensures) (sides-are (s .pre .1) (at (now (a .coef)) (rowStart (a .n) (a .u) (index s) + a .n))) in
-    (rw (exact (least t) tt, exact (greatest t) tt) at (c .inside .ensures)) ∙ ap (λ (z : Side). covers (sideIn (now (a .limits)) goalAt (index s)) z) sums
+    (rw (exact (least t) tt, exact (greatest t) tt) at (c .inside .ensures)) ∙ ap (λ (z : Side). covers (sideIn (now (a .limits)) (goalAt (a .u)) (index s)) z) sums
 
 returns-2 : tie.Need-returns-2
 returns-2 c =
@@ -98,6 +107,8 @@ lands-spec =
     add-offset
     mul-offset
     element-copy-out-offset
+    mul-base
+    add-base
     sub-inside
     add-inside
     add-inside-2

@@ -48,7 +48,8 @@ lands-requires : tie.Need-lands-requires Inv-loop μ-loop
 lands-requires c κs =
     let t = c .before in
     let s = t .before .before in
-    ((s .pre .0 .0, s .pre .0 .1 (t .before .loop .u) (t .loop-test .taken), s .pre .1 .0, s .pre .1 .1), c .shared .ensures)
+    let few = s .pre .0 .2 in
+    ((omega (arith, t .loop-test .taken), s .pre .0 .0, s .pre .0 .1 (t .before .loop .u) (t .loop-test .taken), s .pre .1 .0, s .pre .1 .1), c .shared .ensures)
 
 returns : tie.Need-returns Inv-loop μ-loop
 returns c =

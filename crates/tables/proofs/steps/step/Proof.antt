@@ -7,12 +7,16 @@ use denote.Ref.{now}
 use Rattle.laws.specs.Tabs.{tab-same}
 use Rattle.laws.specs.Tests.{never}
 use Rattle.meaning.specs.Boxes.{Side, sideAt}
-use Rattle.tables.specs.Levels.{wide, sideIn, boxIn}
-use Rattle.tables.specs.Limits.{bandAt, divided, sumsAt, dividedIn, dividedAt}
+use Rattle.tables.specs.Images.{bandIn}
+use Rattle.tables.specs.Levels.{wide, boxIn}
+use Rattle.tables.specs.Limits.{divided, sumsAt, dividedIn, dividedAt}
 use Rattle.tables.proofs.levels.Laws.{beside-none}
 use Rattle.tables.proofs.steps.Laws.{tab-entry}
 use Rattle.tables.proofs.steps.step.Statement.{statement}
 use Rattle.tables.proofs.steps.step.Tie as tie
+
+mul-stays : tie.Need-mul-stays
+mul-stays c = search needs
 
 stays-requires : tie.Need-stays-requires
 stays-requires c κs = let s = c .before .before .before in ((s .pre .0 .0, omega arith), (omega (arith, s .pre .1 .0), s .pre .1 .1, refl, refl))
@@ -40,8 +44,8 @@ returns c =
       sym t ∙ k .stays .ensures .0,
       (
         λ e. c .divide .ensures .0
-            ∙ tab-same (dividedIn (a .q) (now (a .limits)) slo shi) (dividedAt (a .n) (a .q) (now (a .coef)) (now (a .limits)) (a .u) box) (a .n) 0
-            (λ i l h. ap (λ (z : Side). divided (a .q) (sideIn (now (a .limits)) bandAt i) z) (tab-entry (sideAt slo shi) (sumsAt (a .n) (now (a .coef)) (a .u) box) (a .n) i sums (omega arith))),
+            ∙ tab-same (dividedIn (a .n) (a .q) (now (a .bands)) (a .u) slo shi) (dividedAt (a .n) (a .q) (now (a .bands)) (now (a .coef)) (a .u) box) (a .n) 0
+            (λ i l h. ap (λ (z : Side). divided (a .q) (bandIn (a .n) (now (a .bands)) (a .u) i) z) (tab-entry (sideAt slo shi) (sumsAt (a .n) (now (a .coef)) (a .u) box) (a .n) i sums (omega arith))),
         (c .divide .ensures .1, λ e. never (sym e)),
       ),
     )
@@ -53,4 +57,4 @@ returns-2 c =
     (sym (c .if1 .left) ∙ k .stays .ensures .0, (λ e. never e, (beside-none (a .place + wide) (now (a .boxes)), λ e. refl)))
 
 pub step-spec : {M : Type 1} → statement M
-step-spec = tie.close (tie.spec stays-requires add-divide divide-requires returns returns-2)
+step-spec = tie.close (tie.spec mul-stays stays-requires add-divide divide-requires returns returns-2)

@@ -24,15 +24,18 @@ use Rattle.tables.proofs.tiles.tile_rule.Statement.{statement}
 use Rattle.tables.proofs.tiles.tile_rule.Tie as tie
 
 abbrev Inv-loop : tie.InvT-loop
-Inv-loop f edges coef k us wlo whi goal safe c₀ i₀ c i =
+Inv-loop f edges bands coef k us goal safe c₀ i₀ c i =
     (i ≤ k) × Small edgeLimit (boxOf (f .n) c)
-    × (ruleFrom (rulesIn (frameFrom f edges) coef) i (boxOf (f .n) c) (tab (modeAt us) (k - i) i) ≡ rule (rulesIn (frameFrom f edges) coef) (boxOf (f .n) c₀) (patternOf k us))
+    × (ruleFrom (rulesIn (frameFrom f edges) bands coef) i (boxOf (f .n) c) (tab (modeAt us) (k - i) i) ≡ rule (rulesIn (frameFrom f edges) bands coef) (boxOf (f .n) c₀) (patternOf k us))
 
 abbrev μ-loop : tie.MeasureT-loop
-μ-loop f edges coef k us wlo whi goal safe c₀ i₀ c i = k - i
+μ-loop f edges bands coef k us goal safe c₀ i₀ c i = k - i
 
 -- the rules, the pattern, a box, and the step of mode i
 module _ (s : tie.Start Inv-loop μ-loop) where
+  abbrev bands : List ℤ
+  bands = now (s .args .bands)
+
   abbrev coef : List ℤ
   coef = now (s .args .coef)
 
@@ -40,23 +43,23 @@ module _ (s : tie.Start Inv-loop μ-loop) where
   frame = frameFrom (s .args .f) (now (s .args .edges))
 
   abbrev rules : Rules
-  rules = rulesIn frame coef
+  rules = rulesIn frame bands coef
 
   abbrev modes : ℕ → ℕ
-  modes = modeAt (s .args .t5)
+  modes = modeAt (s .args .t6)
 
   abbrev box : Bx → List Side
   box b = boxOf (s .args .f .n) b
 
-  sound : (i : ℕ) → i < s .args .k → StepSound (frame .n) (frame .q) (frame .band .lo) (frame .band .hi) coef (modes i)
-  sound i h = step-in frame coef (s .pre .0 .0) (modes i) (s .pre .1 .each i h)
+  sound : (i : ℕ) → i < s .args .k → StepSound (frame .n) (frame .q) bands coef (modes i)
+  sound i h = step-in frame bands coef (s .pre .0 .0) (modes i) (s .pre .1 .each i h)
 
 -- where a round began: the call, and the loop's test
 abbrev start : tie.At-loop Inv-loop μ-loop → tie.Start Inv-loop μ-loop
-start l = l .before .before .before .before .before .before .before
+start l = l .before .before .before .before .before
 
 abbrev round : tie.After-image Inv-loop μ-loop → tie.In-loop Inv-loop μ-loop
-round c = c .before .before .before .before .before .before .before
+round c = c .before .before .before .before .before
 
 element-copy-out-glo : tie.Need-element-copy-out-glo Inv-loop μ-loop
 element-copy-out-glo c = search needs
@@ -70,16 +73,10 @@ element-copy-out-slo c = search needs
 element-copy-out-shi : tie.Need-element-copy-out-shi Inv-loop μ-loop
 element-copy-out-shi c = search needs
 
-element-copy-out-wlo : tie.Need-element-copy-out-wlo Inv-loop μ-loop
-element-copy-out-wlo c = search needs
-
-element-copy-out-whi : tie.Need-element-copy-out-whi Inv-loop μ-loop
-element-copy-out-whi c = search needs
-
 loop-holds : tie.Need-loop-holds Inv-loop μ-loop
 loop-holds c =
-    let s = c .before .before .before .before .before .before in
-    (omega arith, s .pre .0 .1, rw (tab-all (modeAt (s .args .t5)) (s .args .k)) refl)
+    let s = c .before .before .before .before in
+    (omega arith, s .pre .0 .1, rw (tab-all (modeAt (s .args .t6)) (s .args .k)) refl)
 
 mul-u : tie.Need-mul-u Inv-loop μ-loop
 mul-u c = omega (arith, start (c .before) .pre .1 .longest)
@@ -89,7 +86,7 @@ array-read-u c = omega (arith, start (c .before) .pre .1 .longest)
 
 image-requires : tie.Need-image-requires Inv-loop μ-loop
 image-requires c κs =
-    let t = c .before .before .before .before .before .before in
+    let t = c .before .before .before .before in
     let l = t .before .loop in
     (sound (start (t .before)) (l .i) (t .loop-test .taken), l .inv .1)
 
@@ -111,12 +108,12 @@ loop-again c =
     let h = t .loop-test .taken in
     let e = sym (c .before .within .ensures) ∙ c .if1 .taken in (
       omega arith,
-      tile-small (frame s) (coef s) (modes s) (s .args .k) (l .i) (box s (l .c)) (box s (g .image .result)) h (g .image .ensures) e (s .pre .0 .0) (l .inv .1),
-      sym (tile-more (frame s) (coef s) (modes s) (s .args .k) (l .i) (box s (l .c)) (box s (g .image .result)) h (g .image .ensures) e) ∙ l .inv .2,
+      tile-small (frame s) (bands s) (coef s) (modes s) (s .args .k) (l .i) (box s (l .c)) (box s (g .image .result)) h (g .image .ensures) e (s .pre .0 .0) (s .pre .1 .each (l .i) h) (l .inv .1),
+      sym (tile-more (frame s) (bands s) (coef s) (modes s) (s .args .k) (l .i) (box s (l .c)) (box s (g .image .result)) h (g .image .ensures) e) ∙ l .inv .2,
     )
 
-add-t44 : tie.Need-add-t44 Inv-loop μ-loop
-add-t44 c = let t = round (c .before .before) in let h = t .loop-test .taken in let k = start (t .before) .pre .1 .longest in omega arith
+add-t37 : tie.Need-add-t37 Inv-loop μ-loop
+add-t37 c = let t = round (c .before .before) in let h = t .loop-test .taken in let k = start (t .before) .pre .1 .longest in omega arith
 
 returns : tie.Need-returns Inv-loop μ-loop
 returns c =
@@ -125,7 +122,7 @@ returns c =
     let l = t .before .loop in
     let s = start (t .before) in
     let e = sym (c .before .within .ensures) ∙ c .if1 .left in
-    sym (tile-leaves (frame s) (coef s) (modes s) (s .args .k) (l .i) (box s (l .c)) (box s (g .image .result)) (t .loop-test .taken) (g .image .ensures) e) ∙ l .inv .2
+    sym (tile-leaves (frame s) (bands s) (coef s) (modes s) (s .args .k) (l .i) (box s (l .c)) (box s (g .image .result)) (t .loop-test .taken) (g .image .ensures) e) ∙ l .inv .2
 
 within-requires-2 : tie.Need-within-requires-2 Inv-loop μ-loop
 within-requires-2 c κs = let s = start (c .before) in s .pre .0 .0 .rooms
@@ -155,8 +152,6 @@ tile-rule-spec =
     element-copy-out-ghi
     element-copy-out-slo
     element-copy-out-shi
-    element-copy-out-wlo
-    element-copy-out-whi
     loop-holds
     mul-u
     array-read-u
@@ -165,7 +160,7 @@ tile-rule-spec =
     add-i
     loop-less
     loop-again
-    add-t44
+    add-t37
     returns
     within-requires-2
     returns-2

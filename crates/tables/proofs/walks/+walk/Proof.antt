@@ -36,24 +36,24 @@ use Rattle.tables.proofs.refusals.bad_table.Reads as bad-table-reads
 use Rattle.tables.proofs.walks.+walk.{statement}
 use Rattle.tables.proofs.walks.+walk.Tie.{close}
 
-abbrev μ-walk : Measures 3 walk-kinds.ps ℕ
-μ-walk κs a = a .1 .1 .1 .1 .1 .0
+abbrev μ-walk : Measures 4 walk-kinds.ps ℕ
+μ-walk κs a = a .1 .1 .1 .1 .1 .1 .0
 
-abbrev walk-at : ℕ → In 3 walk-kinds.ps
-walk-at t = and 3 walk-kinds.ps (is 3 walk-kinds.ps μ-walk t) walk.Pre
+abbrev walk-at : ℕ → In 4 walk-kinds.ps
+walk-at t = and 4 walk-kinds.ps (is 4 walk-kinds.ps μ-walk t) walk.Pre
 
-abbrev walk-below : ℕ → In 3 walk-kinds.ps
-walk-below t = and 3 walk-kinds.ps (falls 3 walk-kinds.ps _<_ μ-walk t) walk.Pre
+abbrev walk-below : ℕ → In 4 walk-kinds.ps
+walk-below t = and 4 walk-kinds.ps (falls 4 walk-kinds.ps _<_ μ-walk t) walk.Pre
 
 abbrev claims : ℕ → walk-lts.Claims
 claims t = (number-reads.Asked, number-reads.Learnt, broken-reads.Asked, broken-reads.Learnt, bad-table-reads.Asked, bad-table-reads.Learnt, tile-reads.Asked, tile-reads.Learnt, count-reads.Asked, count-reads.Learnt, child-reads.Asked, child-reads.Learnt, walk-below t, walk.Post)
 
 abbrev walk-Inv-loop : walk-lts.InvT-loop
-walk-Inv-loop f edges coef judged table d at b k next n count place₀ c₀ place c =
-    (c ≤ count) × (each (tree (frameFrom f edges) coef judged (d - 1) table) (drop c (children (boxOf (f .n) b))) place ≡ tree (frameFrom f edges) coef judged d table at (boxOf (f .n) b))
+walk-Inv-loop f edges bands coef judged table d at b k next n count place₀ c₀ place c =
+    (c ≤ count) × (each (tree (frameFrom f edges) bands coef judged (d - 1) table) (drop c (children (boxOf (f .n) b))) place ≡ tree (frameFrom f edges) bands coef judged d table at (boxOf (f .n) b))
 
 abbrev walk-μ-loop : walk-lts.MeasureT-loop
-walk-μ-loop f edges coef judged table d at b k next n count place₀ c₀ place c = count - c
+walk-μ-loop f edges bands coef judged table d at b k next n count place₀ c₀ place c = count - c
 
 -- a call with that measure: at its start, with its node's number read, with a child walked over
 abbrev Call : ℕ → Type 0
@@ -70,6 +70,9 @@ module _ (t : ℕ) (s : Call t) where
   abbrev frame : Frame
   frame = frameFrom (s .args .f) (now (s .args .edges))
 
+  abbrev bands : List ℤ
+  bands = now (s .args .bands)
+
   abbrev coef : List ℤ
   coef = now (s .args .coef)
 
@@ -83,7 +86,7 @@ module _ (t : ℕ) (s : Call t) where
   box = boxOf (s .args .f .n) (s .args .b)
 
   abbrev whole : Walk
-  whole = tree frame coef flag (s .args .d) table (s .args .at) box
+  whole = tree frame bands coef flag (s .args .d) table (s .args .at) box
 
 -- the node's number, and the laws of the node at it
 module _ (t : ℕ) (n : Node t) where
@@ -100,13 +103,13 @@ module _ (t : ℕ) (n : Node t) where
   value = sym (n .before .before .number .ensures) ∙ n .k .given .1
 
   over : frame t from .k < size → Walk.Refused (badTable (from .args .at)) ≡ whole t from
-  over h = tree-over (frame t from) (coef t from) (flag t from) (from .args .d) (table t from) (from .args .at) (box t from) size next value h
+  over h = tree-over (frame t from) (bands t from) (coef t from) (flag t from) (from .args .d) (table t from) (from .args .at) (box t from) size next value h
 
   deep : size ≤ 0 → from .args .d ≡ 0 → Walk.Refused (badTable (from .args .at)) ≡ whole t from
-  deep z h = tree-deep (frame t from) (coef t from) (flag t from) (from .args .d) (table t from) (from .args .at) (box t from) size next value z h
+  deep z h = tree-deep (frame t from) (bands t from) (coef t from) (flag t from) (from .args .d) (table t from) (from .args .at) (box t from) size next value z h
 
   stuck : size ≤ 0 → length (children (box t from)) ≡ 0 → Walk.Refused (badTable (from .args .at)) ≡ whole t from
-  stuck z h = tree-stuck (frame t from) (coef t from) (flag t from) (from .args .d) (table t from) (from .args .at) (box t from) size next value z h
+  stuck z h = tree-stuck (frame t from) (bands t from) (coef t from) (flag t from) (from .args .d) (table t from) (from .args .at) (box t from) size next value z h
 
 -- a child walked over: the loop it is in, and the laws of the children at it
 module _ (t : ℕ) (w : Child t) where
@@ -124,11 +127,11 @@ module _ (t : ℕ) (w : Child t) where
   in-count = let k = w .before .before .before .before .before .count .ensures in let h = w .before .before .loop-test .taken in rw (← k) h
 
   stopped : (e : Refusal) → w .walk .result ≡ Walk.Refused e → w .walk .result ≡ whole t parent
-  stopped e h = children-stopped (frame t parent) (coef t parent) (flag t parent) (parent .args .d - 1) (table t parent) (box t parent) done at-kid in-count (boxOf (parent .args .f .n) (w .before .child .result)) (w .before .child .ensures) (w .walk .result)
+  stopped e h = children-stopped (frame t parent) (bands t parent) (coef t parent) (flag t parent) (parent .args .d - 1) (table t parent) (box t parent) done at-kid in-count (boxOf (parent .args .f .n) (w .before .child .result)) (w .before .child .ensures) (w .walk .result)
       (w .walk .ensures) e h ∙ w .before .before .before .loop .inv .1
 
-  more : (m : ℕ) → w .walk .result ≡ Walk.Next m → each (tree (frame t parent) (coef t parent) (flag t parent) (parent .args .d - 1) (table t parent)) (drop (done + 1) (children (box t parent))) m ≡ whole t parent
-  more m h = children-more (frame t parent) (coef t parent) (flag t parent) (parent .args .d - 1) (table t parent) (box t parent) done at-kid in-count (boxOf (parent .args .f .n) (w .before .child .result)) (w .before .child .ensures) (w .walk .result)
+  more : (m : ℕ) → w .walk .result ≡ Walk.Next m → each (tree (frame t parent) (bands t parent) (coef t parent) (flag t parent) (parent .args .d - 1) (table t parent)) (drop (done + 1) (children (box t parent))) m ≡ whole t parent
+  more m h = children-more (frame t parent) (bands t parent) (coef t parent) (flag t parent) (parent .args .d - 1) (table t parent) (box t parent) done at-kid in-count (boxOf (parent .args .f .n) (w .before .child .result)) (w .before .child .ensures) (w .walk .result)
       (w .walk .ensures) m h ∙ w .before .before .before .loop .inv .1
 
 walk-number-requires : (t : ℕ) → walk-lts.Need-number-requires (claims t) (walk-at t) walk.Post walk-Inv-loop walk-μ-loop
@@ -147,7 +150,7 @@ walk-returns : (t : ℕ) → walk-lts.Need-returns (claims t) (walk-at t) walk.P
 walk-returns t c =
     let s = c .before .before .before .before .before in
     ap Walk.Refused (c .broken .ensures)
-    ∙ tree-broken (frame t s) (coef t s) (flag t s) (s .args .d) (table t s) (s .args .at) (box t s) (sym (c .before .before .before .number .ensures) ∙ c .before .enum-told .given .1)
+    ∙ tree-broken (frame t s) (bands t s) (coef t s) (flag t s) (s .args .d) (table t s) (s .args .at) (box t s) (sym (c .before .before .before .number .ensures) ∙ c .before .enum-told .given .1)
 
 walk-bad-table-requires : (t : ℕ) → walk-lts.Need-bad-table-requires (claims t) (walk-at t) walk.Post walk-Inv-loop walk-μ-loop
 walk-bad-table-requires t c κs = search needs
@@ -162,7 +165,7 @@ walk-returns-3 : (t : ℕ) → walk-lts.Need-returns-3 (claims t) (walk-at t) wa
 walk-returns-3 t c =
     let n = c .before .before .before .before .before in
     let s = from t n in
-    c .tile .ensures ∙ tree-tile (frame t s) (coef t s) (flag t s) (s .args .d) (table t s) (s .args .at) (box t s) (size t n) (next t n) (value t n) (c .before .if2 .taken) (c .before .before .if1 .left)
+    c .tile .ensures ∙ tree-tile (frame t s) (bands t s) (coef t s) (flag t s) (s .args .d) (table t s) (s .args .at) (box t s) (size t n) (next t n) (value t n) (c .before .if2 .taken) (c .before .before .if1 .left)
 
 walk-bad-table-requires-2 : (t : ℕ) → walk-lts.Need-bad-table-requires-2 (claims t) (walk-at t) walk.Post walk-Inv-loop walk-μ-loop
 walk-bad-table-requires-2 t c κs = search needs
@@ -185,7 +188,7 @@ walk-loop-holds t c =
     let n = c .before .before .before .before .before .before .before in
     let s = from t n in
     let some : length (children (box t s)) ≡ 0 → ⊥ = λ z. c .if4 .left (c .before .count .ensures ∙ z) in
-    (omega arith, tree-split (frame t s) (coef t s) (flag t s) (s .args .d) (table t s) (s .args .at) (box t s) (size t n) (next t n) (value t n) (c .before .before .before .if2 .left) (c .before .before .if3 .left) some)
+    (omega arith, tree-split (frame t s) (bands t s) (coef t s) (flag t s) (s .args .d) (table t s) (s .args .at) (box t s) (size t n) (next t n) (value t n) (c .before .before .before .if2 .left) (c .before .before .if3 .left) some)
 
 walk-child-requires : (t : ℕ) → walk-lts.Need-child-requires (claims t) (walk-at t) walk.Post walk-Inv-loop walk-μ-loop
 walk-child-requires t c κs =
@@ -230,7 +233,7 @@ walk-returns-7 t c =
     let l = c .before .loop in
     let k = c .before .before .before .count .ensures in
     let h = c .loop-test .left in
-    children-done (frame t s) (coef t s) (flag t s) (s .args .d - 1) (table t s) (box t s) (l .c) (l .place) (rw (← k) h) ∙ l .inv .1
+    children-done (frame t s) (bands t s) (coef t s) (flag t s) (s .args .d - 1) (table t s) (box t s) (l .c) (l .place) (rw (← k) h) ∙ l .inv .1
 
 pub +walk-spec : {M : Type 1} → statement M
 +walk-spec = close μ-walk λ t. walk-lts.spec (claims t)

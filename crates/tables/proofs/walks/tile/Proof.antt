@@ -36,7 +36,7 @@ module _ (c : tie.After-read-modes) where
   pattern = patternOf (from .args .k) (c .read-modes .result .us)
 
   abbrev judge : Bool → List ℕ → Tried
-  judge flag us = judgeBy flag (rulesIn (frameFrom (from .args .f) (now (from .args .edges))) (now (from .args .coef))) (boxOf (from .args .f .n) (from .args .b)) us
+  judge flag us = judgeBy flag (rulesIn (frameFrom (from .args .f) (now (from .args .edges))) (now (from .args .bands)) (now (from .args .coef))) (boxOf (from .args .f .n) (from .args .b)) us
 
   read-as : told (c .read-modes .result .answer) pattern ≡ modes
   read-as = c .read-modes .ensures

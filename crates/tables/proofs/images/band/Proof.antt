@@ -1,0 +1,22 @@
+-- `images::band`: the place is inside the array. Assumes nothing.
+use Prim.Native.Nat.{_+_, _*_}
+use native.Mathlib.Omega.{arith}
+use borrow.Author.Needs.{needs}
+use borrow.Author.Tests.{lt-ltb}
+use Rattle.tables.proofs.images.band.Statement.{statement}
+use Rattle.tables.proofs.images.band.Tie as tie
+
+mul-result : tie.Need-mul-result
+mul-result c = search needs
+
+add-result : tie.Need-add-result
+add-result c = search needs
+
+mul-result-2 : tie.Need-mul-result-2
+mul-result-2 c = search needs
+
+returns : tie.Need-returns
+returns c = (let h = c .pre in simp (lt-ltb (c .args .u * c .args .n + c .args .i) 64 (omega arith)), c .pre)
+
+pub band-spec : {M : Type 1} → statement M
+band-spec = tie.close (tie.spec mul-result add-result mul-result-2 returns)
