@@ -65,6 +65,7 @@ impl<'a> File<'a> {
     }
 
     /// The next signed number, which must lie in least ..= greatest: 1, then 3.
+    #[inline]
     pub fn signed_in(&mut self, least: i64, greatest: i64) -> Result<i64, Refusal> {
         let place = self.place();
         let (number, next) = read_signed(self.bytes, self.place)?;
