@@ -19,7 +19,7 @@ impl Chain {
     /// Form, m and the edges, box by box and in each by dimension lo, hi: 1,
     /// 2 and 3 number by number.
     pub fn read(plant: &Plant, file: &mut File) -> Result<Chain, Refusal> {
-        file.form()?;
+        file.form(&[1])?;
         let m = file.unsigned_in(0, MOST_BOXES as u64)? as usize;
         let mut chain = Chain { boxes: [plant.r(); MOST_BOXES + 1], m };
         for slot in &mut chain.boxes[1..=m] {

@@ -1,27 +1,22 @@
-//! The edges of R and S and the band w, which plant and sheet hold alike:
-//! "for each dimension R lo, R hi, S lo, S hi; for each dimension w lo, w
-//! hi"; "edges of R and S within +-1,000,000; w within +-1,000,000,000 ...
-//! Every lo <= its hi. R lies within S"; "w hi - w lo >= q - 1".
+//! The edges of R and S, which plant and sheet hold alike: "for each dimension
+//! R lo, R hi, S lo, S hi"; "edges of R and S within +-1,000,000 ... Every lo <=
+//! its hi. R lies within S".
 
 use crate::boxes::Box;
 use crate::file::{Draft, File};
-use crate::refusal::{Refusal, BAND_TOO_NARROW, R_NOT_IN_S};
+use crate::refusal::{Refusal, R_NOT_IN_S};
 use crate::MOST_ROOMS;
 
 /// Edges of R and S lie within this much of 0.
 pub const EDGE_LIMIT: i64 = 1_000_000;
-/// Ends of the band lie within this much of 0.
-pub const BAND_LIMIT: i64 = 1_000_000_000;
 
-/// R, S and w of each dimension; zeros beyond n.
+/// R and S of each dimension; zeros beyond n.
 #[derive(Clone, Copy, Debug, PartialEq, Eq, Default)]
 pub struct Edges {
     pub r_lo: [i64; MOST_ROOMS],
     pub r_hi: [i64; MOST_ROOMS],
     pub s_lo: [i64; MOST_ROOMS],
     pub s_hi: [i64; MOST_ROOMS],
-    pub w_lo: [i64; MOST_ROOMS],
-    pub w_hi: [i64; MOST_ROOMS],
 }
 
 /// A lo and its hi: 3 at lo where lo is out of range, 3 at hi where hi is out
@@ -33,15 +28,20 @@ pub fn read_pair(file: &mut File, limit: i64) -> Result<(i64, i64), Refusal> {
 }
 
 impl Edges {
-    /// The edges and bands of n dimensions, in file order.
+    /// All zeros.
+    pub const ZEROS: Edges = Edges {
+        r_lo: [0; MOST_ROOMS],
+        r_hi: [0; MOST_ROOMS],
+        s_lo: [0; MOST_ROOMS],
+        s_hi: [0; MOST_ROOMS],
+    };
+
+    /// The edges of n dimensions, in file order.
     pub fn read(file: &mut File, n: usize) -> Result<Edges, Refusal> {
-        let mut edges = Edges::default();
+        let mut edges = Edges::ZEROS;
         for i in 0..n {
             (edges.r_lo[i], edges.r_hi[i]) = read_pair(file, EDGE_LIMIT)?;
             (edges.s_lo[i], edges.s_hi[i]) = read_pair(file, EDGE_LIMIT)?;
-        }
-        for i in 0..n {
-            (edges.w_lo[i], edges.w_hi[i]) = read_pair(file, BAND_LIMIT)?;
         }
         Ok(edges)
     }
@@ -53,22 +53,13 @@ impl Edges {
                 draft.signed(edge);
             }
         }
-        for i in 0..n {
-            draft.signed(self.w_lo[i]);
-            draft.signed(self.w_hi[i]);
-        }
     }
 
-    /// 4 over all dimensions, then 5 over all, each at the first dimension.
-    pub fn judge(&self, n: usize, q: u64) -> Result<(), Refusal> {
+    /// 4 at the first dimension in which R is not in S.
+    pub fn judge(&self, n: usize) -> Result<(), Refusal> {
         for i in 0..n {
             if self.r_lo[i] < self.s_lo[i] || self.r_hi[i] > self.s_hi[i] {
                 return Err(Refusal::at(R_NOT_IN_S, i as u64));
-            }
-        }
-        for i in 0..n {
-            if self.w_hi[i] - self.w_lo[i] < q as i64 - 1 {
-                return Err(Refusal::at(BAND_TOO_NARROW, i as u64));
             }
         }
         Ok(())

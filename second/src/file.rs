@@ -4,7 +4,8 @@
 //! them".
 
 use crate::numbers::{groups_of, read_signed, read_unsigned, stored_of};
-use crate::refusal::{Refusal, BROKEN_NUMBER, FORM_NOT_ONE, OUT_OF_RANGE};
+use crate::refusal::{Refusal, BROKEN_NUMBER, FORM_NOT_KNOWN, OUT_OF_RANGE};
+use crate::LARGEST_PLANT;
 
 /// Bytes under judgement and the place of the next number in them. A file may
 /// stand inside another: its places are then those of the outer one, which
@@ -64,6 +65,7 @@ impl<'a> File<'a> {
     }
 
     /// The next signed number, which must lie in least ..= greatest: 1, then 3.
+    #[inline]
     pub fn signed_in(&mut self, least: i64, greatest: i64) -> Result<i64, Refusal> {
         let place = self.place();
         let (number, next) = read_signed(self.bytes, self.place)?;
@@ -74,13 +76,15 @@ impl<'a> File<'a> {
         Ok(number)
     }
 
-    /// The form, which must be 1: refused with 1, then 2, at its first byte.
-    pub fn form(&mut self) -> Result<(), Refusal> {
+    /// The form, which must be one of those known: refused with 1, then 2, at
+    /// its first byte.
+    pub fn form(&mut self, known: &[u64]) -> Result<u64, Refusal> {
         let place = self.place();
-        if self.unsigned()? != 1 {
-            return Err(Refusal::at(FORM_NOT_ONE, place));
+        let form = self.unsigned()?;
+        if !known.contains(&form) {
+            return Err(Refusal::at(FORM_NOT_KNOWN, place));
         }
-        Ok(())
+        Ok(form)
     }
 
     /// The next float, "8 bytes, low byte first": refused with 1 where it ends early.
@@ -104,34 +108,24 @@ impl<'a> File<'a> {
     }
 }
 
-/// Room for the longest draft: form, five header numbers, 24 edges and ends,
-/// 320 coefficients, none over 10 bytes; a sheet's draft is shorter.
-const DRAFT_BYTES: usize = 1 + 10 * (5 + 24 + 320);
-
 /// "The file it would be": values written out before they are judged, so a
 /// number in it may be out of range or over 5 bytes.
 pub struct Draft {
-    bytes: [u8; DRAFT_BYTES],
-    length: usize,
+    bytes: Vec<u8>,
 }
 
 impl Draft {
-    /// A draft holding the form, 1, alone ("its form right").
-    pub fn new() -> Draft {
-        let mut draft = Draft { bytes: [0; DRAFT_BYTES], length: 0 };
-        draft.unsigned(1);
+    /// A draft holding the form alone.
+    pub fn new(form: u64) -> Draft {
+        let mut draft = Draft { bytes: Vec::with_capacity(LARGEST_PLANT) };
+        draft.unsigned(form);
         draft
-    }
-
-    fn put(&mut self, bytes: &[u8]) {
-        self.bytes[self.length..self.length + bytes.len()].copy_from_slice(bytes);
-        self.length += bytes.len();
     }
 
     /// Adds a number.
     pub fn unsigned(&mut self, number: u64) {
         let (groups, length) = groups_of(number);
-        self.put(&groups[..length]);
+        self.bytes.extend_from_slice(&groups[..length]);
     }
 
     /// Adds a signed number.
@@ -141,17 +135,11 @@ impl Draft {
 
     /// Adds a float, its sign bit and all.
     pub fn float(&mut self, float: f64) {
-        self.put(&float.to_le_bytes());
+        self.bytes.extend_from_slice(&float.to_le_bytes());
     }
 
     /// The bytes so far.
     pub fn bytes(&self) -> &[u8] {
-        &self.bytes[..self.length]
-    }
-}
-
-impl Default for Draft {
-    fn default() -> Draft {
-        Draft::new()
+        &self.bytes
     }
 }

@@ -1,7 +1,8 @@
 //! "Image of a box under a mode: in dimension i the least and greatest of
 //! A*x + b over the box, each A_ij taking the low or high edge by its sign;
 //! add w lo to the least, w hi to the greatest; divide by q, rounding the low
-//! edge up and the high edge down."
+//! edge up and the high edge down." The band is that of the mode applied (request
+//! 2026-09).
 
 use crate::boxes::{Box, Side};
 use crate::plant::Plant;
@@ -21,12 +22,13 @@ pub fn ceil_div(value: i64, divisor: i64) -> i64 {
 pub fn image(plant: &Plant, mode: usize, from: &Box) -> Box {
     let n = plant.rooms();
     let q = plant.q as i64;
+    let band = &plant.bands[mode];
     let mut lo = [0; MOST_ROOMS];
     let mut hi = [0; MOST_ROOMS];
     for i in 0..n {
         let (least, greatest) = least_and_greatest(plant.row(mode, i), from.sides());
-        lo[i] = ceil_div(least + plant.edges.w_lo[i], q);
-        hi[i] = floor_div(greatest + plant.edges.w_hi[i], q);
+        lo[i] = ceil_div(least + band.lo[i], q);
+        hi[i] = floor_div(greatest + band.hi[i], q);
     }
     Box::new(&lo[..n], &hi[..n])
 }

@@ -1,12 +1,14 @@
 //! The independent second program of document 01 ("What the build includes
 //! and its rules"): plants, sheets, the table maker, the table checker, the
 //! controller and the listing, and of document 02's requests 2026-02, heaters
-//! that fade as the room warms, and 2026-03, start files for cold rooms. Written
-//! from those papers and from the readings of their open words alone. One module
-//! per subject, named in the papers' words.
+//! that fade as the room warms, 2026-03, start files for cold rooms, and
+//! 2026-09, a band for each mode. Written from those papers and from the
+//! readings of their open words alone. One module per subject, named in the
+//! papers' words.
 
 #![forbid(unsafe_code)]
 
+pub mod band;
 pub mod boxes;
 pub mod chain;
 pub mod checker;
@@ -37,8 +39,9 @@ pub const MOST_MODES: usize = 16;
 pub const LONGEST_PATTERN: usize = 6;
 /// "The mode coefficients of the largest plant, 320 numbers."
 pub const COEFFICIENTS: usize = 320;
-/// "Plant file ... At most 1,183 bytes."
-pub const LARGEST_PLANT: usize = 1_183;
+/// The largest plant file: 1,183 bytes in form 1; in form 2 fifteen bands more,
+/// each of eight ends of 5 bytes.
+pub const LARGEST_PLANT: usize = 1_183 + 15 * 8 * 5;
 /// "Table file ... At most 30,039 bytes."
 pub const LARGEST_TABLE: usize = 30_039;
 /// "A chain of boxes R = R0, R1, .. Rm (m up to 8)."

@@ -9,6 +9,7 @@ pub const MOST_BYTES: usize = 5;
 
 /// The number that starts at `place`, with the place after it. A place at or
 /// beyond the end is a number that ends early.
+#[inline]
 pub fn read_unsigned(bytes: &[u8], place: usize) -> Result<(u64, usize), Refusal> {
     let refusal = Refusal::at(BROKEN_NUMBER, place as u64);
     let rest = bytes.get(place..).unwrap_or(&[]);
@@ -24,6 +25,7 @@ pub fn read_unsigned(bytes: &[u8], place: usize) -> Result<(u64, usize), Refusal
 }
 
 /// The signed number that starts at `place`, with the place after it.
+#[inline]
 pub fn read_signed(bytes: &[u8], place: usize) -> Result<(i64, usize), Refusal> {
     let (stored, next) = read_unsigned(bytes, place)?;
     Ok((signed_of(stored), next))

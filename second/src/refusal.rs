@@ -1,11 +1,11 @@
-//! A refusal: the table "What each number says", with what request 2026-03
-//! adds to it. A refusal has a number, a place and a step; "a place or step not
-//! named is 0".
+//! A refusal: the table "What each number says", with what document 02's
+//! requests change in it and add to it. A refusal has a number, a place and a
+//! step; "a place or step not named is 0".
 
 /// A number or float ends early, is over 5 bytes, or not shortest.
 pub const BROKEN_NUMBER: u8 = 1;
-/// Form is not 1.
-pub const FORM_NOT_ONE: u8 = 2;
+/// Form is not known: not 1, or of a plant neither 1 nor 2.
+pub const FORM_NOT_KNOWN: u8 = 2;
 /// Plant or sheet number out of range, lo > hi, emitter kind over 2, or bytes
 /// left over; "also for m over 8, an edge out of range, bytes left over, or a
 /// byte length that passes the end or, in the checker, leaves bytes after its
@@ -13,7 +13,7 @@ pub const FORM_NOT_ONE: u8 = 2;
 pub const OUT_OF_RANGE: u8 = 3;
 /// R not in S.
 pub const R_NOT_IN_S: u8 = 4;
-/// Band too narrow.
+/// Band too narrow; "5's place is the mode, its step the dimension".
 pub const BAND_TOO_NARROW: u8 = 5;
 /// Table: n differs, node over K, mode not below N, a split too deep or not possible, bytes left over.
 pub const TABLE_RULE: u8 = 6;
@@ -45,7 +45,8 @@ pub struct Refusal {
     pub number: u8,
     /// What the row's "Place" column names, else 0.
     pub place: u64,
-    /// The step of a tile's pattern, from 1, in rows 7 and 8; else 0.
+    /// The step of a tile's pattern, from 1, in rows 7 and 8; the dimension in
+    /// row 5; else 0.
     pub step: u64,
 }
 
@@ -55,7 +56,7 @@ impl Refusal {
         Refusal { number, place, step: 0 }
     }
 
-    /// A refusal of a tile: its first byte and the step.
+    /// A refusal with a place and a step.
     pub const fn at_step(number: u8, place: u64, step: u64) -> Refusal {
         Refusal { number, place, step }
     }
@@ -71,7 +72,7 @@ pub fn row_words(number: u8) -> &'static str {
     match number {
         0 => "done",
         BROKEN_NUMBER => "a number or float ends early, is over 5 bytes, or not shortest",
-        FORM_NOT_ONE => "form is not 1",
+        FORM_NOT_KNOWN => "form is not known",
         OUT_OF_RANGE => {
             "plant or sheet number out of range, lo > hi, emitter kind over 2, or bytes left over"
         }

@@ -8,19 +8,23 @@
 //! v < q*(hi+1). Everything is kept doubled, so that the least and greatest of
 //! a row come from the box's middle and reach without asking for any sign:
 //! twice the least is 2b + A*(lo+hi) - |A|*(hi-lo), twice the greatest the same
-//! with +. Fixed memory: one box for each step of the beginning.
+//! with +. A mode's band is part of its rows: w lo + w hi is added to the middle,
+//! w hi - w lo to the reach, so that the limits are the same for every mode.
+//! Fixed memory: one box for each step of the beginning.
 
 use crate::boxes::Box;
 use crate::image::{ceil_div, floor_div};
 use crate::plant::Plant;
 use crate::{LONGEST_PATTERN, MOST_MODES};
 
-/// One row of a mode: A_i1..A_in, their sizes, and 2*b_i.
+/// One row of a mode: A_i1..A_in, their sizes, 2*b_i + w lo_i + w hi_i, and
+/// w hi_i - w lo_i.
 #[derive(Clone, Copy)]
 struct Row<const N: usize> {
     a: [i64; N],
     size: [i64; N],
-    twice_b: i64,
+    middle: i64,
+    reach: i64,
 }
 
 /// A box as lo+hi and hi-lo of each side.
@@ -30,8 +34,9 @@ struct Spread<const N: usize> {
     width: [i64; N],
 }
 
-/// Doubled A*x + b of a row lies above `above` and below `below` exactly when
-/// the image lies in the box these limits were made of.
+/// A row's doubled least and greatest, its band added, lie above `above` and
+/// below `below` exactly when the image lies in the box these limits were made
+/// of.
 #[derive(Clone, Copy)]
 struct Limits<const N: usize> {
     above: [i64; N],
@@ -44,8 +49,6 @@ pub struct Search<const N: usize> {
     mode_count: usize,
     longest: usize,
     q: i64,
-    w_lo: [i64; N],
-    w_hi: [i64; N],
     in_goal: Limits<N>,
     in_s: Limits<N>,
 }
@@ -53,14 +56,16 @@ pub struct Search<const N: usize> {
 impl<const N: usize> Search<N> {
     /// Lays a judged plant of N rooms out, for patterns that end in `goal`.
     pub fn new(plant: &Plant, goal: &Box) -> Search<N> {
-        let empty = Row { a: [0; N], size: [0; N], twice_b: 0 };
+        let empty = Row { a: [0; N], size: [0; N], middle: 0, reach: 0 };
         let mut modes = [[empty; N]; MOST_MODES];
         for (u, mode) in modes.iter_mut().enumerate().take(plant.modes as usize) {
             for (i, row) in mode.iter_mut().enumerate() {
                 let numbers = plant.row(u, i);
                 row.a.copy_from_slice(&numbers[..N]);
                 row.size = row.a.map(i64::abs);
-                row.twice_b = 2 * numbers[N];
+                let (w_lo, w_hi) = (plant.bands[u].lo[i], plant.bands[u].hi[i]);
+                row.middle = 2 * numbers[N] + w_lo + w_hi;
+                row.reach = w_hi - w_lo;
             }
         }
         Search {
@@ -68,10 +73,8 @@ impl<const N: usize> Search<N> {
             mode_count: plant.modes as usize,
             longest: plant.k as usize,
             q: plant.q as i64,
-            w_lo: std::array::from_fn(|i| plant.edges.w_lo[i]),
-            w_hi: std::array::from_fn(|i| plant.edges.w_hi[i]),
-            in_goal: limits(plant, goal),
-            in_s: limits(plant, &plant.s()),
+            in_goal: limits(plant.q, goal),
+            in_s: limits(plant.q, &plant.s()),
         }
     }
 
@@ -136,8 +139,8 @@ impl<const N: usize> Search<N> {
         }
         let mut next = Spread { sum: [0; N], width: [0; N] };
         for i in 0..N {
-            let lo = ceil_div(least[i] / 2 + self.w_lo[i], self.q);
-            let hi = floor_div(greatest[i] / 2 + self.w_hi[i], self.q);
+            let lo = ceil_div(least[i] / 2, self.q);
+            let hi = floor_div(greatest[i] / 2, self.q);
             next.sum[i] = lo + hi;
             next.width[i] = hi - lo;
         }
@@ -146,11 +149,12 @@ impl<const N: usize> Search<N> {
 }
 
 impl<const N: usize> Row<N> {
-    /// Twice the least and twice the greatest of the row over a box: both even.
+    /// Twice the least and twice the greatest of the row over a box, its band
+    /// added: both even.
     #[inline(always)]
     fn twice_least_and_greatest(&self, over: &Spread<N>) -> (i64, i64) {
-        let mut middle = self.twice_b;
-        let mut reach = 0;
+        let mut middle = self.middle;
+        let mut reach = self.reach;
         for j in 0..N {
             middle += self.a[j] * over.sum[j];
             reach += self.size[j] * over.width[j];
@@ -160,11 +164,10 @@ impl<const N: usize> Row<N> {
 }
 
 /// The doubled limits between which an image lies in `target`.
-fn limits<const N: usize>(plant: &Plant, target: &Box) -> Limits<N> {
-    let q = plant.q as i64;
+fn limits<const N: usize>(q: u64, target: &Box) -> Limits<N> {
     let sides = target.sides();
     Limits {
-        above: std::array::from_fn(|i| 2 * (q * (sides[i].lo - 1) - plant.edges.w_lo[i])),
-        below: std::array::from_fn(|i| 2 * (q * (sides[i].hi + 1) - plant.edges.w_hi[i])),
+        above: std::array::from_fn(|i| 2 * q as i64 * (sides[i].lo - 1)),
+        below: std::array::from_fn(|i| 2 * q as i64 * (sides[i].hi + 1)),
     }
 }

@@ -4,6 +4,7 @@
 //! ascending, j != i; then an emitter number ... Each emitter kind carries
 //! only its own values."
 
+use crate::band::Band;
 use crate::edges::Edges;
 use crate::file::{Draft, File};
 use crate::lent::{deliver, zero_if_refused};
@@ -50,6 +51,7 @@ pub struct Sheet {
     /// The depth.
     pub d: u64,
     pub edges: Edges,
+    pub band: Band,
     /// The sample time.
     pub time: f64,
     /// The outside temperature.
@@ -95,13 +97,14 @@ pub fn plant_of_sheet(sheet: &Sheet) -> Result<Plant, Refusal> {
 /// Everything but 14.
 fn judge_file(bytes: &[u8]) -> Result<Sheet, Refusal> {
     let mut file = File::new(bytes);
-    file.form()?;
+    file.form(&[1])?;
     let n = file.unsigned_in(1, MOST_ROOMS as u64)?;
     let r = file.unsigned_in(1, MOST_COUNTS)?;
     let q = file.unsigned_in(1, MOST_Q)?;
     let k = file.unsigned_in(1, LONGEST_PATTERN as u64)?;
     let d = file.unsigned_in(0, most_depth(n))?;
     let edges = Edges::read(&mut file, n as usize)?;
+    let band = Band::read(&mut file, n as usize)?;
     let time = float_where(&mut file, |time| time > 0.0)?;
     let outside = float_where(&mut file, |_| true)?;
     let mut rooms = [Room::ZEROS; MOST_ROOMS];
@@ -109,8 +112,9 @@ fn judge_file(bytes: &[u8]) -> Result<Sheet, Refusal> {
         *room = read_room(&mut file, n as usize)?;
     }
     file.end(OUT_OF_RANGE)?;
-    edges.judge(n as usize, q)?;
-    Ok(Sheet { n, r, q, k, d, edges, time, outside, rooms })
+    edges.judge(n as usize)?;
+    band.judge(0, n as usize, q)?;
+    Ok(Sheet { n, r, q, k, d, edges, band, time, outside, rooms })
 }
 
 /// A float that must be finite and as asked: 1, then 13, at its first byte.
@@ -149,11 +153,12 @@ fn read_room(file: &mut File, n: usize) -> Result<Room, Refusal> {
 /// The file any values would be; what they hold beyond n rooms is ignored.
 fn draft_sheet(sheet: &Sheet) -> Draft {
     let n = sheet.room_count();
-    let mut draft = Draft::new();
+    let mut draft = Draft::new(1);
     for number in [sheet.n, sheet.r, sheet.q, sheet.k, sheet.d] {
         draft.unsigned(number);
     }
     sheet.edges.draft(&mut draft, n);
+    sheet.band.draft(&mut draft, n);
     draft.float(sheet.time);
     draft.float(sheet.outside);
     for room in &sheet.rooms[..n] {

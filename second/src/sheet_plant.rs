@@ -8,7 +8,7 @@
 //! request 2026-02: "For a heater that is on, s gains p after the exchanges, so
 //! A depends on the mode. Steady emitters stay."
 
-use crate::edges::{Edges, BAND_LIMIT};
+use crate::band::{Band, BAND_LIMIT};
 use crate::nearest::nearest;
 use crate::plant::{Plant, A_LIMIT, B_LIMIT};
 use crate::refusal::{Refusal, SHEET_RESULT};
@@ -18,12 +18,15 @@ use crate::sheet::{Emitter, Room, Sheet};
 pub(crate) fn step_coefficients(sheet: &Sheet) -> Result<Plant, Refusal> {
     let n = sheet.room_count();
     let mut plant = Plant::ZEROS;
+    plant.form = 1;
     plant.n = sheet.n;
     plant.modes = 1 << sheet.rooms[..n].iter().filter(|room| has_emitter(room)).count();
     plant.q = sheet.q;
     plant.k = sheet.k;
     plant.d = sheet.d;
-    plant.edges = widened(&sheet.edges, n)?;
+    plant.edges = sheet.edges;
+    let band = widened(sheet)?;
+    plant.bands[..plant.modes as usize].fill(band);
     for mode in 0..plant.modes as usize {
         for i in 0..n {
             fill_row(sheet, mode, i, &mut plant)?;
@@ -37,21 +40,22 @@ fn has_emitter(room: &Room) -> bool {
     room.emitter != Emitter::None
 }
 
-/// The edges with each band widened at both ends; 14 at an end out of range.
-fn widened(edges: &Edges, n: usize) -> Result<Edges, Refusal> {
-    let of_s = edges.s_lo[..n].iter().chain(&edges.s_hi[..n]);
+/// The band widened at both ends; 14 at an end out of range.
+fn widened(sheet: &Sheet) -> Result<Band, Refusal> {
+    let n = sheet.room_count();
+    let of_s = sheet.edges.s_lo[..n].iter().chain(&sheet.edges.s_hi[..n]);
     let largest = of_s.map(|edge| edge.abs()).max().unwrap_or(0);
     // The ceiling of a whole number's half is the floor of one more's half.
     let by = (n as i64 * largest + 2) / 2;
-    let mut wide = *edges;
+    let mut wide = sheet.band;
     for i in 0..n {
-        wide.w_lo[i] -= by;
-        wide.w_hi[i] += by;
+        wide.lo[i] -= by;
+        wide.hi[i] += by;
         let place = (6 + 4 * n + 2 * i) as u64;
-        if wide.w_lo[i] < -BAND_LIMIT {
+        if wide.lo[i] < -BAND_LIMIT {
             return Err(Refusal::at(SHEET_RESULT, place));
         }
-        if wide.w_hi[i] > BAND_LIMIT {
+        if wide.hi[i] > BAND_LIMIT {
             return Err(Refusal::at(SHEET_RESULT, place + 1));
         }
     }

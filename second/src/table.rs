@@ -32,7 +32,7 @@ pub enum Node {
 
 /// The table's header: form (1, 2), then n (1, 6).
 pub fn read_header(plant: &Plant, file: &mut File) -> Result<(), Refusal> {
-    file.form()?;
+    file.form(&[1])?;
     let place = file.place();
     if file.unsigned()? != plant.n {
         return Err(Refusal::at(TABLE_RULE, place));

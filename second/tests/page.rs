@@ -106,14 +106,14 @@ fn field_values(fields: &[Field]) -> Vec<i128> {
 fn plant_numbers(plant: &Plant) -> Vec<i128> {
     let n = plant.rooms();
     let edges = &plant.edges;
-    let mut numbers = vec![1, plant.n as i128, plant.modes as i128, plant.q as i128, plant.k as i128, plant.d as i128];
+    let band = |mode: usize| (0..n).flat_map(move |i| [plant.bands[mode].lo[i], plant.bands[mode].hi[i]].map(i128::from));
+    let mut numbers = [plant.form, plant.n, plant.modes, plant.q, plant.k, plant.d].map(i128::from).to_vec();
     for i in 0..n {
         numbers.extend([edges.r_lo[i], edges.r_hi[i], edges.s_lo[i], edges.s_hi[i]].map(i128::from));
     }
-    for i in 0..n {
-        numbers.extend([edges.w_lo[i], edges.w_hi[i]].map(i128::from));
-    }
+    numbers.extend(band(0).filter(|_| plant.form == 1));
     for mode in 0..plant.modes as usize {
+        numbers.extend(band(mode).filter(|_| plant.form == 2));
         for i in 0..n {
             numbers.extend(plant.row(mode, i).iter().map(|entry| i128::from(*entry)));
         }
@@ -131,7 +131,7 @@ fn sheet_numbers(sheet: &Sheet) -> Vec<i128> {
         numbers.extend([edges.r_lo[i], edges.r_hi[i], edges.s_lo[i], edges.s_hi[i]].map(i128::from));
     }
     for i in 0..n {
-        numbers.extend([edges.w_lo[i], edges.w_hi[i]].map(i128::from));
+        numbers.extend([sheet.band.lo[i], sheet.band.hi[i]].map(i128::from));
     }
     numbers.extend([bits(sheet.time), bits(sheet.outside)]);
     for room in &sheet.rooms[..n] {

@@ -25,7 +25,7 @@ fn the_bytes_of_p() {
     assert_eq!((plant.n, plant.modes, plant.q, plant.k, plant.d), (1, 2, 10, 2, 1));
     assert_eq!((plant.edges.r_lo[0], plant.edges.r_hi[0]), (195, 225));
     assert_eq!((plant.edges.s_lo[0], plant.edges.s_hi[0]), (190, 230));
-    assert_eq!((plant.edges.w_lo[0], plant.edges.w_hi[0]), (-5, 4));
+    assert_eq!((plant.bands[0].lo[0], plant.bands[0].hi[0]), (-5, 4));
     assert_eq!(plant.coefficients[..4], [9, 100, 9, 300]);
     let mut buffer = marked(22);
     assert_eq!(write_plant(&plant, &mut buffer), Ok(22));
@@ -80,7 +80,7 @@ fn line_5() {
 #[test]
 fn line_6() {
     let mut plant = Plant { n: 1, modes: 1, q: 10, ..Plant::ZEROS };
-    (plant.edges.w_lo[0], plant.edges.w_hi[0]) = (-9, 0);
+    (plant.bands[0].lo[0], plant.bands[0].hi[0]) = (-9, 0);
     plant.coefficients[..2].copy_from_slice(&[7, 0]);
     assert_eq!(sides(&image(&plant, 0, &Box::new(&[-20], &[-11]))), [(-14, -8)]);
 }
@@ -88,7 +88,7 @@ fn line_6() {
 #[test]
 fn line_7() {
     let mut plant = Plant { n: 2, modes: 1, q: 2, ..Plant::ZEROS };
-    (plant.edges.w_lo, plant.edges.w_hi) = ([-1; 4], [0; 4]);
+    (plant.bands[0].lo, plant.bands[0].hi) = ([-1; 4], [0; 4]);
     plant.coefficients[..3].copy_from_slice(&[3, -2, 0]);
     let made = image(&plant, 0, &Box::new(&[10, 5], &[20, 8]));
     assert_eq!(sides(&made)[0], (7, 25));

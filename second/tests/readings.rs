@@ -95,11 +95,11 @@ fn reading_7_values_over_five_bytes() {
     assert_eq!(write(Plant { n: 0, ..p }), (3, 1, 0));
     assert_eq!(write(Plant { modes: u64::MAX, ..p }), (1, 2, 0));
     assert_eq!(write(Plant { q: u64::MAX, n: 4, modes: 16, ..p }), (1, 3, 0));
-    assert_eq!(write(Plant::ZEROS), (3, 1, 0));
+    assert_eq!(write(Plant { form: 1, ..Plant::ZEROS }), (3, 1, 0));
     // An earlier value's length moves a later one's place.
     let mut plant = p;
     plant.q = 10_000;
-    plant.edges.w_lo[0] = 1 << 34;
+    plant.bands[0].lo[0] = 1 << 34;
     assert_eq!(write(plant), (1, 15, 0));
     let mut plant = p;
     (plant.coefficients[0], plant.coefficients[1]) = (20_000, i64::MIN);
@@ -113,8 +113,8 @@ fn reading_8_beyond_n_and_modes() {
         edges[1..].fill(i64::MAX);
     }
     plant.edges.s_hi[1..].fill(i64::MIN);
-    plant.edges.w_lo[1..].fill(i64::MAX);
-    plant.edges.w_hi[1..].fill(i64::MIN);
+    plant.bands[0].lo[1..].fill(i64::MAX);
+    plant.bands[0].hi[1..].fill(i64::MIN);
     plant.coefficients[4..].fill(i64::MIN);
     let mut buffer = marked(22);
     assert_eq!(write_plant(&plant, &mut buffer), Ok(22));
@@ -202,17 +202,17 @@ fn mode_bits_count_rooms_with_emitters() {
 fn reading_12_m_is_one_number() {
     // Two rooms, S 190..230 and 180..231: M 231, widened by ceil(463/2) = 232 in both.
     let plant = plant_of_sheet(&sheet_values(&two_room_sheet(), 2)).expect("a plant");
-    assert_eq!(plant.edges.w_lo, [-236, -237, 0, 0]);
-    assert_eq!(plant.edges.w_hi, [235, 238, 0, 0]);
+    assert_eq!(plant.bands[0].lo, [-236, -237, 0, 0]);
+    assert_eq!(plant.bands[0].hi, [235, 238, 0, 0]);
     // M by a low edge: S -1000..230 in room 0: ceil(2001/2) = 1001.
     let fields = with(&two_room_sheet(), 8, S(-1000));
     let plant = plant_of_sheet(&sheet_values(&fields, 2)).expect("a plant");
-    assert_eq!((plant.edges.w_lo[1], plant.edges.w_hi[0]), (-1006, 1004));
+    assert_eq!((plant.bands[0].lo[1], plant.bands[0].hi[0]), (-1006, 1004));
     // n*M odd: one room, M 231, exactly 116; M 230, ceil(115.5) = 116.
     for (edge, by) in [(231, 116), (230, 116), (232, 117)] {
         let fields = with(&line_13(), 9, S(edge));
         let plant = plant_of_sheet(&sheet_values(&fields, 1)).expect("a plant");
-        assert_eq!((plant.edges.w_lo[0], plant.edges.w_hi[0]), (-4 - by, 3 + by));
+        assert_eq!((plant.bands[0].lo[0], plant.bands[0].hi[0]), (-4 - by, 3 + by));
     }
     // M 0: by ceil(1/2) = 1.
     let mut fields = line_13();
@@ -220,7 +220,7 @@ fn reading_12_m_is_one_number() {
         fields = with(&fields, index, S(0));
     }
     let plant = plant_of_sheet(&sheet_values(&fields, 1)).expect("a plant");
-    assert_eq!((plant.edges.w_lo[0], plant.edges.w_hi[0]), (-5, 4));
+    assert_eq!((plant.bands[0].lo[0], plant.bands[0].hi[0]), (-5, 4));
 }
 
 #[test]
@@ -348,7 +348,7 @@ fn reading_22_listings() {
 #[test]
 fn fact_images_reach_91_billion() {
     let mut plant = Plant { n: 4, modes: 1, q: 1, ..Plant::ZEROS };
-    (plant.edges.w_lo, plant.edges.w_hi) = ([-1_000_000_000; 4], [1_000_000_000; 4]);
+    (plant.bands[0].lo, plant.bands[0].hi) = ([-1_000_000_000; 4], [1_000_000_000; 4]);
     for row in plant.coefficients[..20].chunks_mut(5) {
         row.copy_from_slice(&[20_000, -20_000, 20_000, -20_000, 10_000_000_000]);
     }
@@ -442,7 +442,6 @@ fn fact_largest_plant() {
     fields.extend(row.repeat(64).into_iter().map(S));
     let bytes = file(&fields);
     assert_eq!(bytes.len(), 1_183);
-    assert_eq!(second::LARGEST_PLANT, 1_183);
     let plant = read_plant(&bytes).expect("the largest plant");
     assert_eq!(plant, plant_values(&fields, 4));
     let mut buffer = marked(1_184);
@@ -470,7 +469,7 @@ fn fact_largest_sheet() {
     assert_eq!(buffer, bytes);
     let plant = plant_of_sheet(&sheet).expect("a plant");
     // (4 * 1,000,000 + 1)/2 upwards is 2,000,001. Diagonal 1 - 0.25 * 2 = 0.5.
-    assert_eq!(plant.edges.w_lo, [-902_000_001; 4]);
+    assert_eq!(plant.bands[0].lo, [-902_000_001; 4]);
     assert_eq!(plant.modes, 16);
     assert_eq!(plant.coefficients[..5], [5_000, 1_250, 1_250, 1_250, 10_000_000]);
     // Mode 15, room 3: diagonal 1 - 0.25 * 2.5 = 0.375, c 1 + 0.25 * 20 = 6.

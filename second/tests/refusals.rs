@@ -172,15 +172,17 @@ fn row_1_values_over_five_bytes() {
 // ---- rows 2 and 3 ----
 
 #[test]
-fn row_2_form_is_not_1() {
+fn row_2_form_is_not_known() {
     for form in [0, 2, 3, 127, 128, 129, (1 << 35) - 1] {
-        assert_eq!(plant_told(&file(&with(&p_fields(), 0, U(form)))), (2, 0, 0));
+        if form != 2 {
+            assert_eq!(plant_told(&file(&with(&p_fields(), 0, U(form)))), (2, 0, 0));
+        }
         assert_eq!(sheet_told(&file(&with(&line_13(), 0, U(form)))), (2, 0, 0));
         let table = file(&[U(form), U(1), U(1), U(1)]);
         assert_eq!(told(check(&P, &table)), (2, 0, 0));
         assert_eq!(told(control(&P, &table, State { place: 1, left: 9 }, [0; 4])), (2, 0, 0));
     }
-    assert_eq!(plant_told(&[2]), (2, 0, 0));
+    assert_eq!(plant_told(&[3]), (2, 0, 0));
 }
 
 #[test]
@@ -318,18 +320,18 @@ fn row_5_band_too_narrow() {
     // q 4 needs a width of 3.
     for (lo, hi, dimension) in [(14, 15, 0), (16, 17, 1)] {
         let narrow = with(&with(&two_rooms(), lo, S(0)), hi, S(2));
-        assert_eq!(plant_told(&file(&narrow)), (5, dimension, 0));
+        assert_eq!(plant_told(&file(&narrow)), (5, 0, dimension));
         let values = plant_values(&narrow, 2);
-        assert_eq!(zeroed_by(|buffer| told(write_plant(&values, buffer))), (5, dimension, 0));
+        assert_eq!(zeroed_by(|buffer| told(write_plant(&values, buffer))), (5, 0, dimension));
         let enough = with(&with(&two_rooms(), lo, S(0)), hi, S(3));
         assert_eq!(told(read_plant(&file(&enough))), (0, 0, 0));
     }
     // The sheet's own band, q 8: the widened one would do.
     for (lo, hi, dimension) in [(14, 15, 0), (16, 17, 1)] {
         let narrow = with(&with(&two_room_sheet(), lo, S(0)), hi, S(6));
-        assert_eq!(sheet_told(&file(&narrow)), (5, dimension, 0));
+        assert_eq!(sheet_told(&file(&narrow)), (5, 0, dimension));
         let values = sheet_values(&narrow, 2);
-        assert_eq!(zeroed_by(|buffer| told(write_sheet(&values, buffer))), (5, dimension, 0));
+        assert_eq!(zeroed_by(|buffer| told(write_sheet(&values, buffer))), (5, 0, dimension));
         let enough = with(&with(&two_room_sheet(), lo, S(0)), hi, S(7));
         assert_eq!(told(read_sheet(&file(&enough))), (0, 0, 0));
     }
@@ -340,7 +342,7 @@ fn files_are_judged_in_order() {
     let (p, _) = encode(&p_fields());
     // A number out of range before a cut is told before the cut, and so on.
     assert_eq!(plant_told(&[1, 9]), (3, 1, 0));
-    assert_eq!(plant_told(&[2, 0x80]), (2, 0, 0));
+    assert_eq!(plant_told(&[3, 0x80]), (2, 0, 0));
     assert_eq!(plant_told(&[1, 1, 2, 0, 0x80]), (3, 3, 0));
     // 1 at a number before 3 at a later one.
     assert_eq!(plant_told(&[1, 1, 0x81, 0x00, 0]), (1, 2, 0));

@@ -63,38 +63,13 @@ fn the_maker_agrees_with_the_slow_one() {
     assert!(none > 100 && split > 100 && long > 100, "{none} {split} {long}");
 }
 
-/// A plant of numbers at or near their limits.
-fn extreme_plant(random: &mut Random) -> Plant {
-    let n = random.within(1, 4) as usize;
-    let q = [1, 2, 9_999, 10_000][random.within(0, 3) as usize];
-    let mut plant = Plant { n: n as u64, modes: 2, k: 3, q, d: 1, ..Plant::ZEROS };
-    let mut edge = |limit: i64| {
-        let near = random.within(-2, 2);
-        [limit - near.abs(), near, near - limit.min(limit / 2), near.abs() - limit]
-            [random.within(0, 3) as usize]
-    };
-    for i in 0..n {
-        let mut sides = [edge(1_000_000), edge(1_000_000), edge(1_000_000), edge(1_000_000)];
-        sides.sort_unstable();
-        let edges = &mut plant.edges;
-        [edges.s_lo[i], edges.r_lo[i], edges.r_hi[i], edges.s_hi[i]] = sides;
-        let mut ends = [edge(1_000_000_000), edge(1_000_000_000)];
-        ends.sort_unstable();
-        (edges.w_lo[i], edges.w_hi[i]) = (ends[0], ends[1].max(ends[0] + q as i64 - 1));
-    }
-    for (number, slot) in plant.coefficients[..2 * n * (n + 1)].iter_mut().enumerate() {
-        *slot = edge(if number % (n + 1) == n { 10_000_000_000 } else { 20_000 });
-    }
-    plant
-}
-
 #[test]
 fn the_maker_agrees_at_the_limits() {
     let mut random = Random(2);
     let (mut made, mut none) = (0, 0);
     for _ in 0..20_000 {
-        let plant = extreme_plant(&mut random);
-        let Ok(length) = write_plant(&plant, &mut [0; 1_183]) else { continue };
+        let plant = extreme_plant(&mut random, 1);
+        let Ok(length) = write_plant(&plant, &mut [0; second::LARGEST_PLANT]) else { continue };
         let bytes = plant_bytes(&plant);
         assert_eq!(length, bytes.len());
         let mut buffer = marked(200);
@@ -120,8 +95,9 @@ fn small_plant(random: &mut Random) -> Plant {
     let q = random.within(1, 12);
     let mut plant = Plant { n: n as u64, modes: 1, q: q as u64, ..Plant::ZEROS };
     for i in 0..n {
-        plant.edges.w_lo[i] = random.within(-20, 20);
-        plant.edges.w_hi[i] = plant.edges.w_lo[i] + q - 1 + random.within(0, 5);
+        let band = &mut plant.bands[0];
+        band.lo[i] = random.within(-20, 20);
+        band.hi[i] = band.lo[i] + q - 1 + random.within(0, 5);
     }
     plant.coefficients[..n * (n + 1)].iter_mut().for_each(|slot| *slot = random.within(-15, 15));
     plant
@@ -141,7 +117,7 @@ fn the_image_agrees_with_all_points_and_all_next_readings() {
             let values: Vec<i128> = points.iter().map(|x| row_value(&plant, 0, i, x)).collect();
             // "y may follow exactly when q*y - (A x + b) lies in w lo .. w hi".
             let follows = |y: &i128| {
-                let (w_lo, w_hi) = (plant.edges.w_lo[i] as i128, plant.edges.w_hi[i] as i128);
+                let (w_lo, w_hi) = (plant.bands[0].lo[i] as i128, plant.bands[0].hi[i] as i128);
                 values.iter().any(|v| {
                     let apart = plant.q as i128 * y - v;
                     apart >= w_lo && apart <= w_hi
@@ -458,7 +434,7 @@ fn slow_plant(sheet: &Sheet) -> Vec<(Option<i128>, i128)> {
     let m = (0..n).flat_map(|i| [e.s_lo[i], e.s_hi[i]]).map(|x| x.abs() as i128).max();
     let by = least_at_or_above(n as i128 * m.expect("S") + 1, 2);
     for i in 0..n {
-        let ends = [e.w_lo[i] as i128 - by, e.w_hi[i] as i128 + by];
+        let ends = [sheet.band.lo[i] as i128 - by, sheet.band.hi[i] as i128 + by];
         numbers.extend(ends.map(|x| (Some(x), 1_000_000_000)));
     }
     let whole = |factor: u64, x: f64| if x.is_finite() { decimal_nearest(factor, x) } else { None };
@@ -548,14 +524,14 @@ fn what_the_floats_allow_the_plant_allows() {
                 let sum: i128 = entries.iter().zip(&wide_x).map(|(a, x)| scaled(*a) * x).sum();
                 let exact = q as i128 * (sum + 10 * scaled(c));
                 let one = 1_i128 << 80;
-                let (w_lo, w_hi) = (sheet.edges.w_lo[i] as i128, sheet.edges.w_hi[i] as i128);
+                let (w_lo, w_hi) = (sheet.band.lo[i] as i128, sheet.band.hi[i] as i128);
                 let from = (exact / one) / q as i128;
                 for y in from - 3..=from + 3 {
                     let apart = q as i128 * y * one - exact;
                     if apart >= w_lo * one && apart <= w_hi * one {
                         let apart = q as i128 * y - row_value(&plant, mode, i, &wide_x);
-                        assert!(apart >= plant.edges.w_lo[i] as i128);
-                        assert!(apart <= plant.edges.w_hi[i] as i128);
+                        assert!(apart >= plant.bands[mode].lo[i] as i128);
+                        assert!(apart <= plant.bands[mode].hi[i] as i128);
                         allowed += 1;
                     }
                 }
@@ -577,7 +553,7 @@ fn plants_written_are_plants_read() {
         for i in 0..n {
             fields.extend([e.r_lo[i], e.r_hi[i], e.s_lo[i], e.s_hi[i]].map(S));
         }
-        (0..n).for_each(|i| fields.extend([e.w_lo[i], e.w_hi[i]].map(S)));
+        (0..n).for_each(|i| fields.extend([plant.bands[0].lo[i], plant.bands[0].hi[i]].map(S)));
         let count = plant.modes as usize * n * (n + 1);
         fields.extend(plant.coefficients[..count].iter().map(|x| S(*x)));
         let bytes = file(&fields);

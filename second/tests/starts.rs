@@ -207,7 +207,7 @@ fn each_dimension_of_a_box_is_judged() {
 fn the_plant_comes_first() {
     let (_, places) = encode(&p_fields());
     let damaged = [
-        (with(&p_fields(), 0, U(2)), (2, 0, 0)),
+        (with(&p_fields(), 0, U(3)), (2, 0, 0)),
         (with(&p_fields(), 3, Raw(vec![0x8A, 0])), (1, places[3], 0)),
         (with(&p_fields(), 7, S(194)), (3, places[7], 0)),
         (with(&p_fields(), 8, S(196)), (4, 0, 0)),

@@ -2,6 +2,7 @@
 //! their own, the paper's examples, and a small seeded generator.
 #![allow(dead_code)]
 
+use second::band::Band;
 use second::edges::Edges;
 use second::plant::Plant;
 use second::refusal::Refusal;
@@ -187,25 +188,51 @@ fn edge_values(fields: &[Field], n: usize) -> Edges {
         edges.r_hi[i] = signed(&fields[at + 1]);
         edges.s_lo[i] = signed(&fields[at + 2]);
         edges.s_hi[i] = signed(&fields[at + 3]);
-        edges.w_lo[i] = signed(&fields[6 + 4 * n + 2 * i]);
-        edges.w_hi[i] = signed(&fields[6 + 4 * n + 2 * i + 1]);
     }
     edges
 }
 
-/// The values a plant file of n rooms stands for, judged or not.
+/// The band that stands in these fields: w lo, w hi of each room.
+fn band_values(fields: &[Field]) -> Band {
+    let mut band = Band::default();
+    for (i, ends) in fields.chunks(2).enumerate() {
+        (band.lo[i], band.hi[i]) = (signed(&ends[0]), signed(&ends[1]));
+    }
+    band
+}
+
+/// The values a plant file of n rooms stands for, judged or not. Behind the
+/// edges form 1 has one band and then the modes' rows, form 2 in each mode a band
+/// and its rows.
 pub fn plant_values(fields: &[Field], n: usize) -> Plant {
     let mut plant = Plant::ZEROS;
+    plant.form = unsigned(&fields[0]);
     plant.n = unsigned(&fields[1]);
     plant.modes = unsigned(&fields[2]);
     plant.q = unsigned(&fields[3]);
     plant.k = unsigned(&fields[4]);
     plant.d = unsigned(&fields[5]);
     plant.edges = edge_values(fields, n);
-    for (slot, field) in plant.coefficients.iter_mut().zip(&fields[6 + 6 * n..]) {
-        *slot = signed(field);
+    let own_band = plant.form == 2;
+    let (shared, modes) = fields[6 + 4 * n..].split_at(if own_band { 0 } else { 2 * n });
+    let rows = n * (n + 1);
+    for (u, mode) in modes.chunks(if own_band { 2 * n + rows } else { rows }).enumerate() {
+        let (own, mode) = mode.split_at(if own_band { 2 * n } else { 0 });
+        plant.bands[u] = band_values(if own_band { own } else { shared });
+        for (slot, field) in plant.coefficients[u * rows..].iter_mut().zip(mode) {
+            *slot = signed(field);
+        }
     }
     plant
+}
+
+/// The same plant in form 2: its one band inside each mode, before the rows.
+pub fn in_form_2(fields: &[Field]) -> Vec<Field> {
+    let n = unsigned(&fields[1]) as usize;
+    let (head, rest) = fields.split_at(6 + 4 * n);
+    let (band, modes) = rest.split_at(2 * n);
+    let modes = modes.chunks(n * (n + 1)).flat_map(|rows| [band, rows].concat());
+    with(head, 0, U(2)).into_iter().chain(modes).collect()
 }
 
 /// The values a sheet file of n rooms stands for, judged or not.
@@ -232,6 +259,7 @@ pub fn sheet_values(fields: &[Field], n: usize) -> Sheet {
         k: unsigned(&fields[4]),
         d: unsigned(&fields[5]),
         edges: edge_values(fields, n),
+        band: band_values(&fields[6 + 4 * n..6 + 6 * n]),
         time: float(&fields[6 + 6 * n]),
         outside: float(&fields[7 + 6 * n]),
         rooms,

@@ -2,6 +2,7 @@
 //! papers' letters, and the step of their equations integrated over the sample
 //! time, as the papers take it. docs/PAPERS.md tells the figures and why.
 
+use second::band::Band;
 use second::edges::Edges;
 use second::plant::Plant;
 use second::sheet::{plant_of_sheet, Emitter, Room, Sheet};
@@ -25,9 +26,16 @@ fn edges(r: u64, zones: &[Zones]) -> Edges {
     for (i, (r_lo, r_hi, s_lo, s_hi)) in zones.iter().enumerate() {
         (edges.r_lo[i], edges.r_hi[i]) = (counts(*r_lo), counts(*r_hi));
         (edges.s_lo[i], edges.s_hi[i]) = (counts(*s_lo), counts(*s_hi));
-        (edges.w_lo[i], edges.w_hi[i]) = HALF_A_COUNT;
     }
     edges
+}
+
+/// The same band in each of so many rooms.
+fn half_a_count(rooms: usize) -> Band {
+    let mut band = Band::default();
+    band.lo[..rooms].fill(HALF_A_COUNT.0);
+    band.hi[..rooms].fill(HALF_A_COUNT.1);
+    band
 }
 
 /// Two rooms beside each other, "alpha_12 = alpha_21 = 0.05", in both papers.
@@ -39,7 +47,7 @@ fn two_rooms(losses: [f64; 2], emitter: Emitter) -> [Room; 4] {
 fn example_1(r: u64, k: u64, emitter: Emitter) -> Sheet {
     let edges = edges(r, &[(200, 220, 190, 230); 2]);
     let rooms = two_rooms([0.005, 0.0033], emitter);
-    Sheet { n: 2, r, q: Q, k, d: 3, edges, time: SAMPLE_TIME, outside: OUTSIDE, rooms }
+    Sheet { n: 2, r, q: Q, k, d: 3, edges, band: half_a_count(2), time: SAMPLE_TIME, outside: OUTSIDE, rooms }
 }
 
 /// 002 example 1, its heaters fading as in example 2.
@@ -65,14 +73,14 @@ pub fn of_002_example_2(r: u64) -> Sheet {
         Room { loss: 0.0033, exchange: [0.0, alpha, gamma], emitter: Emitter::None },
     ];
     let edges = edges(r, &[floor, room, floor, room]);
-    Sheet { n: 4, r, q: Q, k: 6, d: 3, edges, time: SAMPLE_TIME, outside: OUTSIDE, rooms }
+    Sheet { n: 4, r, q: Q, k: 6, d: 3, edges, band: half_a_count(4), time: SAMPLE_TIME, outside: OUTSIDE, rooms }
 }
 
 /// 001 example 1, with S down to the paper's -35 degrees and up by its epsilon.
 pub fn of_001_example_1() -> Sheet {
     let edges = edges(100, &[(185, 220, -350, 225); 2]);
     let rooms = two_rooms([0.005, 0.005], Emitter::Heater { p: 0.0083, water: 35.0 });
-    Sheet { n: 2, r: 100, q: Q, k: 6, d: 1, edges, time: SAMPLE_TIME, outside: OUTSIDE, rooms }
+    Sheet { n: 2, r: 100, q: Q, k: 6, d: 1, edges, band: half_a_count(2), time: SAMPLE_TIME, outside: OUTSIDE, rooms }
 }
 
 /// The low edges of its boxes R1..R6; the high edge is R's own, 22 degrees.

@@ -3,7 +3,10 @@
 //! come; and the plants that the tests behind them draw.
 #![allow(dead_code)]
 
+pub mod plants;
+
 use crate::common::{chain_fields, file, Random};
+use second::band::Band;
 use second::plant::{write_plant, Plant};
 use second::start::start_make;
 
@@ -58,8 +61,8 @@ pub fn corner_image(plant: &Plant, mode: usize, of: &Wide) -> Wide {
             row_value(plant, mode, i, &(0..n).map(pick).collect::<Vec<_>>())
         });
         let values: Vec<i128> = values.collect();
-        let least = values.iter().min().expect("corners") + plant.edges.w_lo[i] as i128;
-        let greatest = values.iter().max().expect("corners") + plant.edges.w_hi[i] as i128;
+        let least = values.iter().min().expect("corners") + plant.bands[mode].lo[i] as i128;
+        let greatest = values.iter().max().expect("corners") + plant.bands[mode].hi[i] as i128;
         made.0.push(least_at_or_above(least, q));
         made.1.push(greatest_at_or_below(greatest, q));
     }
@@ -147,16 +150,18 @@ pub fn plant_around_r(random: &mut Random) -> Plant {
     let (modes, k) = [(4, 3), (2, 5), (16, 2), (1, 6), (3, 4)][random.within(0, 4) as usize];
     let q = random.within(1, 40);
     let d = random.within(0, if n < 3 { 3 } else { 1 });
-    let mut plant = Plant { n: n as u64, modes, k, q: q as u64, d: d as u64, ..Plant::ZEROS };
+    let mut plant = Plant { form: 1, n: n as u64, modes, k, q: q as u64, d: d as u64, ..Plant::ZEROS };
+    let mut band = Band::default();
     for i in 0..n {
         let (lo, width) = (random.within(-60, 60), random.within(0, 24));
         let edges = &mut plant.edges;
         (edges.r_lo[i], edges.r_hi[i]) = (lo, lo + width);
         edges.s_lo[i] = lo - random.within(0, width + 2);
         edges.s_hi[i] = lo + width + random.within(0, width + 2);
-        edges.w_lo[i] = random.within(-q, 0);
-        edges.w_hi[i] = edges.w_lo[i] + q - 1 + random.within(0, q / 2);
+        band.lo[i] = random.within(-q, 0);
+        band.hi[i] = band.lo[i] + q - 1 + random.within(0, q / 2);
     }
+    plant.bands[..modes as usize].fill(band);
     plant
 }
 
@@ -196,8 +201,60 @@ pub fn pulling_plant(random: &mut Random) -> Plant {
     plant
 }
 
+/// The same plant in form 2: a band of its own for each mode, for one mode only,
+/// or the one band still in all of them.
+pub fn with_own_bands(plant: &Plant, random: &mut Random) -> Plant {
+    let mut other = Plant { form: 2, ..*plant };
+    let (modes, q) = (plant.modes as i64, plant.q as i64);
+    let only = random.within(0, modes - 1) as usize;
+    let kind = random.within(0, 4);
+    for (u, band) in other.bands[..modes as usize].iter_mut().enumerate() {
+        if kind == 0 || kind == 1 && u != only {
+            continue;
+        }
+        for i in 0..plant.n as usize {
+            band.lo[i] += random.within(-q, q);
+            band.hi[i] = band.lo[i] + q - 1 + random.within(0, q / 2);
+        }
+    }
+    other
+}
+
+/// A plant of either form, of numbers at or near their limits.
+pub fn extreme_plant(random: &mut Random, form: u64) -> Plant {
+    let n = random.within(1, 4) as usize;
+    let q = [1, 2, 9_999, 10_000][random.within(0, 3) as usize];
+    let mut plant = Plant { form, n: n as u64, modes: 2, k: 3, q, d: 1, ..Plant::ZEROS };
+    let mut edge = |limit: i64| {
+        let near = random.within(-2, 2);
+        [limit - near.abs(), near, near - limit.min(limit / 2), near.abs() - limit]
+            [random.within(0, 3) as usize]
+    };
+    for i in 0..n {
+        let mut sides = [edge(1_000_000), edge(1_000_000), edge(1_000_000), edge(1_000_000)];
+        sides.sort_unstable();
+        let edges = &mut plant.edges;
+        [edges.s_lo[i], edges.r_lo[i], edges.r_hi[i], edges.s_hi[i]] = sides;
+    }
+    let mut band = || {
+        let mut band = Band::default();
+        for i in 0..n {
+            let mut ends = [edge(1_000_000_000), edge(1_000_000_000)];
+            ends.sort_unstable();
+            (band.lo[i], band.hi[i]) = (ends[0], ends[1].max(ends[0] + q as i64 - 1));
+        }
+        band
+    };
+    let shared = band();
+    plant.bands[..2].copy_from_slice(&if form == 1 { [shared; 2] } else { [shared, band()] });
+    for (number, slot) in plant.coefficients[..2 * n * (n + 1)].iter_mut().enumerate() {
+        *slot = edge(if number % (n + 1) == n { 10_000_000_000 } else { 20_000 });
+    }
+    plant
+}
+
 pub fn plant_bytes(plant: &Plant) -> Vec<u8> {
-    let mut buffer = vec![0; 1_183];
+    let mut buffer = vec![0; second::LARGEST_PLANT];
     let length = write_plant(plant, &mut buffer).expect("a plant in order");
     buffer.truncate(length);
     buffer
@@ -284,8 +341,8 @@ pub fn slow_check(plant: &Plant, table: &[u8]) -> Told {
 pub fn following(plant: &Plant, mode: u8, x: &[i64; 4]) -> Wide {
     let n = plant.n as usize;
     let (x, q) = (wide(x, x, n).0, plant.q as i128);
-    let lowest = |i| least_at_or_above(row_value(plant, mode as usize, i, &x) + plant.edges.w_lo[i] as i128, q);
-    let highest = |i| greatest_at_or_below(row_value(plant, mode as usize, i, &x) + plant.edges.w_hi[i] as i128, q);
+    let lowest = |i| least_at_or_above(row_value(plant, mode as usize, i, &x) + plant.bands[mode as usize].lo[i] as i128, q);
+    let highest = |i| greatest_at_or_below(row_value(plant, mode as usize, i, &x) + plant.bands[mode as usize].hi[i] as i128, q);
     ((0..n).map(lowest).collect(), (0..n).map(highest).collect())
 }
 
