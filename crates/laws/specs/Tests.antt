@@ -2,7 +2,7 @@
 -- found in a loop, and what it says of all. Relies on the order of page Integers.
 use Prim.Native.Nat.{ℕ, zero, suc, _+_, _-_, _≤_, _<_}
 use mathlib.Core.Path.{_≡_, refl, sym, ap, _∙_}
-use mathlib.Core.Bool.{Bool, true, false, not, _&&_}
+use mathlib.Core.Bool.{Bool, true, false, _&&_}
 use mathlib.Core.List.{List, [], _∷_, map}
 use native.Mathlib.Omega.{arith}
 use native.Mathlib.Nat.{zero-add, add-zero}
@@ -125,12 +125,3 @@ pub all-every {ℓ} : {A : Type ℓ} (t : A → Bool) (l : List A) → all (map 
 unfolding all E.Every
 all-every t [] e = tt
 all-every t (a ∷ l) e = (first (t a) (all (map t l)) e, all-every t l (second (t a) (all (map t l)) e))
-
--- a test and its contrary
-pub not-true : (t : Bool) → not t ≡ true → t ≡ false
-not-true true e = never e
-not-true false e = refl
-
-pub not-false : (t : Bool) → not t ≡ false → t ≡ true
-not-false true e = refl
-not-false false e = never (sym e)

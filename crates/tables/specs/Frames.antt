@@ -11,14 +11,14 @@ use Rattle.laws.specs.Lists.{at}
 use Rattle.meaning.specs.declared.Plant.{Plant}
 use Rattle.meaning.specs.Boxes.{within}
 use Rattle.meaning.specs.Images.{Step}
-use Rattle.meaning.specs.Plants.{edgeLimit, rowStart}
+use Rattle.meaning.specs.Plants.{edgeLimit, rowStart, bandSide}
 use Rattle.meaning.specs.Rules.{Rules}
 use Rattle.meaning.specs.Tables.{rulesFrom}
 use Rattle.tables.specs.declared.boxes.Bx.{Bx}
 use Rattle.tables.specs.declared.frames.Frame.{Frame}
 use Rattle.tables.specs.declared.frames.Counts.{Counts}
 use Rattle.tables.specs.Boxes.{boxOf, Small}
-use Rattle.tables.specs.Images.{bandIn, stepFrom, RowSound, BandSound}
+use Rattle.tables.specs.Images.{stepFrom, RowSound, BandSound}
 
 abbrev pub boxFrom : List ℤ → List ℤ → Bx
 boxFrom lo hi = record { lo = lo; hi = hi }
@@ -35,10 +35,6 @@ frameOf p = record {
   goal = boxFrom (p .rlo) (p .rhi);
   safe = boxFrom (p .slo) (p .shi);
 }
-
--- one band for every mode: lo and hi by dimension, again and again
-abbrev pub OneBand : ℕ → List ℤ → List ℤ → List ℤ → Type 0
-OneBand n lo hi bands = (k : ℕ) → k < 64 → (at bands (k * 2) ≡ at lo (k % n)) × (at bands (k * 2 + 1) ≡ at hi (k % n))
 
 -- a frame taken apart: its numbers, and the edges of its boxes, lows and highs of each
 abbrev pub countsOf : Frame → Counts
@@ -81,5 +77,5 @@ pub record FrameSound (f : Frame) (bands coef : List ℤ) : Type 0 where
   pub safe : Small edgeLimit (boxOf (f .n) (f .safe))
   pub in-safe : within (boxOf (f .n) (f .goal)) (boxOf (f .n) (f .safe)) ≡ true
   pub band : (u i : ℕ) → u < f .modes → i < f .n → BandSound (f .n) bands u i
-  pub wide : (u i : ℕ) → u < f .modes → i < f .n → (pos (f .q) -ℤ pos 1) ≤ℤ (bandIn (f .n) bands u i .hi -ℤ bandIn (f .n) bands u i .lo)
+  pub wide : (u i : ℕ) → u < f .modes → i < f .n → (pos (f .q) -ℤ pos 1) ≤ℤ (bandSide (f .n) bands u i .hi -ℤ bandSide (f .n) bands u i .lo)
   pub rows : (u i : ℕ) → u < f .modes → i < f .n → RowSound (f .n) coef (rowStart (f .n) u i)

@@ -2,14 +2,12 @@
 -- judged plant has. Definitions alone.
 use Prim.Native.Nat.{ℕ, _+_, _*_, _≤_, _<_}
 use mathlib.Core.Path.{_≡_}
-use mathlib.Core.Bool.{cond}
 use mathlib.Core.List.{List}
-use lib.Dec.{ltb}
 use lib.IntN.{ℤ, pos, negsuc, natAbs}
 use Rattle.laws.specs.Lists.{at, tab}
 use Rattle.meaning.specs.Boxes.{Side, side}
 use Rattle.meaning.specs.Images.{Row, Step, leastOf, greatestOf, extreme}
-use Rattle.meaning.specs.Plants.{bandLimit, entryLimit, offsetLimit, rowStart, mostCoefs}
+use Rattle.meaning.specs.Plants.{bandLimit, entryLimit, offsetLimit, rowStart, mostCoefs, bandStart, bandSide, mostBands}
 use Rattle.promises.specs.files.Sound.{Bounded}
 
 -- an entry of A times an edge of S; four of them; and with an offset and an edge of the band
@@ -32,19 +30,6 @@ abbrev pub negativePart : ℤ → ℤ
 negativePart (pos a) = pos 0
 negativePart (negsuc a) = negsuc a
 
--- ---- the bands: of each mode, for each dimension its w lo and behind it its w hi, in one array
-
--- as many numbers as there may be: of sixteen modes, four bands
-abbrev pub mostBands : ℕ
-mostBands = 128
-
--- the band of mode u in dimension i: where it stands, and what it is
-abbrev pub bandStart : ℕ → ℕ → ℕ → ℕ
-bandStart n u i = cond (ltb (u * n + i) 64) ((u * n + i) * 2) (i * 2)
-
-abbrev pub bandIn : ℕ → List ℤ → ℕ → ℕ → Side
-bandIn n bands u i = side (at bands (bandStart n u i)) (at bands (bandStart n u i + 1))
-
 -- ---- the step
 
 -- entry j of the row that starts at `start`
@@ -58,7 +43,7 @@ abbrev pub rowAt : ℕ → List ℤ → ℕ → ℤ → ℤ → Row
 rowAt n coef start low high = record { entries = entriesOf n coef start; offset = at coef (start + n); low = low; high = high }
 
 abbrev pub rowFrom : ℕ → List ℤ → List ℤ → ℕ → ℕ → Row
-rowFrom n bands coef u i = rowAt n coef (rowStart n u i) (at bands (bandStart n u i)) (at bands (bandStart n u i + 1))
+rowFrom n bands coef u i = rowAt n coef (rowStart n u i) (bandSide n bands u i .lo) (bandSide n bands u i .hi)
 
 abbrev pub stepFrom : ℕ → ℕ → List ℤ → List ℤ → ℕ → Step
 stepFrom n q bands coef u = record { rows = tab (rowFrom n bands coef u) n 0; q = q }
@@ -75,8 +60,8 @@ pub record RowSound (n : ℕ) (coef : List ℤ) (start : ℕ) : Type 0 where
 
 -- the band of mode u in dimension i stands in the array, its ends in the ranges
 pub record BandSound (n : ℕ) (bands : List ℤ) (u i : ℕ) : Type 0 where
-  pub inside : (u * n + i) * 2 + 1 < mostBands
-  pub ends : Bounded bandLimit (bandIn n bands u i)
+  pub inside : bandStart n u i + 1 < mostBands
+  pub ends : Bounded bandLimit (bandSide n bands u i)
 
 pub record StepSound (n q : ℕ) (bands coef : List ℤ) (u : ℕ) : Type 0 where
   pub rooms : n ≤ 4

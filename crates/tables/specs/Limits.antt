@@ -12,10 +12,10 @@ use Rattle.laws.specs.Lists.{at, tab, all}
 use Rattle.laws.specs.Division.{floorZ, ceilZ}
 use Rattle.meaning.specs.Boxes.{Side, side, sideAt, covers}
 use Rattle.meaning.specs.Images.{leastOf, greatestOf, extreme}
-use Rattle.meaning.specs.Plants.{edgeLimit, rowStart}
+use Rattle.meaning.specs.Plants.{edgeLimit, rowStart, bandSide}
 use Rattle.tables.specs.declared.frames.Frame.{Frame}
 use Rattle.tables.specs.Boxes.{Small}
-use Rattle.tables.specs.Images.{entriesOf, bandIn, RowSound, BandSound}
+use Rattle.tables.specs.Images.{entriesOf, RowSound, BandSound}
 use Rattle.tables.specs.Frames.{FrameSound}
 use Rattle.tables.specs.Levels.{sideIn}
 
@@ -54,12 +54,12 @@ markAt u = modeSize * u + 16
 
 -- side i of the limits of a box lo, hi under mode u
 abbrev pub limitAt : ℕ → ℕ → List ℤ → ℕ → List ℤ → List ℤ → ℕ → Side
-limitAt n q bands u lo hi i = limitSide q (bandIn n bands u i) (sideAt lo hi i)
+limitAt n q bands u lo hi i = limitSide q (bandSide n bands u i) (sideAt lo hi i)
 
 -- of one mode
 pub record LaidAt (n q : ℕ) (goal safe : ℕ → Side) (bands limits : List ℤ) (u : ℕ) : Type 0 where
-  pub in-safe : (i : ℕ) → i < n → sideIn limits (safeAt u) i ≡ limitSide q (bandIn n bands u i) (safe i)
-  pub in-goal : (i : ℕ) → i < n → sideIn limits (goalAt u) i ≡ limitSide q (bandIn n bands u i) (goal i)
+  pub in-safe : (i : ℕ) → i < n → sideIn limits (safeAt u) i ≡ limitSide q (bandSide n bands u i) (safe i)
+  pub in-goal : (i : ℕ) → i < n → sideIn limits (goalAt u) i ≡ limitSide q (bandSide n bands u i) (goal i)
 
 -- of so many
 abbrev pub Laid : ℕ → ℕ → ℕ → (ℕ → Side) → (ℕ → Side) → List ℤ → List ℤ → Type 0
@@ -85,11 +85,11 @@ abbrev pub covered : ℕ → List ℤ → List ℤ → ℕ → ℕ → List Side
 covered n coef limits base u b = all (tab (coveredAt n coef limits base u b) n 0)
 
 abbrev pub dividedAt : ℕ → ℕ → List ℤ → List ℤ → ℕ → List Side → ℕ → Side
-dividedAt n q bands coef u b i = divided q (bandIn n bands u i) (sumsAt n coef u b i)
+dividedAt n q bands coef u b i = divided q (bandSide n bands u i) (sumsAt n coef u b i)
 
 -- what two arrays hold of sums under mode u, divided
 abbrev pub dividedIn : ℕ → ℕ → List ℤ → ℕ → List ℤ → List ℤ → ℕ → Side
-dividedIn n q bands u lo hi i = divided q (bandIn n bands u i) (sideAt lo hi i)
+dividedIn n q bands u lo hi i = divided q (bandSide n bands u i) (sideAt lo hi i)
 
 -- the first n of two arrays lie within ±k
 abbrev pub Within : ℕ → ℕ → List ℤ → List ℤ → Type 0

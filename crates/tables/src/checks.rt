@@ -2,12 +2,12 @@
 // Relies on crate files for the plant, on headers and walks for the table's parts. Leaves out how a table is made, and whether it is the defined
 // one: any table whose tiles work is accepted.
 use crate::frames;
-use crate::frames::BANDS;
 use crate::frames::Frame;
 use crate::headers;
 use crate::refusals;
 use crate::walks;
 use files::plants;
+use meaning::BANDS;
 use meaning::COEFFICIENTS;
 use meaning::Verdict;
 use meaning::Walk;
@@ -47,7 +47,12 @@ pub(crate) fn table_end(
 }
 
 // A table against a frame: it has to end where its bytes do.
-fn judge(f: Frame, bands: &[i64; BANDS], coef: &[i64; COEFFICIENTS], table: &[u8]) -> Verdict
+fn judge<'a>(
+    f: Frame,
+    bands: &'a [i64; BANDS],
+    coef: &'a [i64; COEFFICIENTS],
+    table: &[u8],
+) -> Verdict
     requires { ⌜ FrameSound f (now bands) (now coef) ⌝ }
     ensures { λ r. ⌜ r ≡ verdict (rulesIn f (now (bands .entry)) (now (coef .entry))) (now (table .entry)) ⌝ }
 {
@@ -72,8 +77,12 @@ pub fn check(plant: &[u8], table: &[u8]) -> Verdict
     match verdict {
         Verdict::Refused(e) => Verdict::Refused(e),
         Verdict::Accepted => {
-            let bands = frames::bands_of(read.plant);
-            judge(frames::framed(read.plant), &bands, &read.plant.coef, table)
+            judge(
+                frames::framed(read.plant),
+                &read.plant.bands,
+                &read.plant.coef,
+                table,
+            )
         }
     }
 }

@@ -6,13 +6,13 @@ use crate::boxes;
 use crate::boxes::Bx;
 use crate::finds;
 use crate::frames;
-use crate::frames::BANDS;
 use crate::frames::Frame;
 use crate::headers;
 use crate::refusals;
 use crate::states;
 use files::plants;
 use meaning::Answer;
+use meaning::BANDS;
 use meaning::COEFFICIENTS;
 use meaning::Found;
 use meaning::State;
@@ -100,10 +100,10 @@ fn running_call(
 }
 
 // A call on a plant that was read.
-pub(crate) fn call(
+pub(crate) fn call<'a>(
     f: Frame,
-    bands: &[i64; BANDS],
-    coef: &[i64; COEFFICIENTS],
+    bands: &'a [i64; BANDS],
+    coef: &'a [i64; COEFFICIENTS],
     table: &[u8],
     st: State,
     x: [i64; 4],
@@ -132,10 +132,9 @@ pub fn control(plant: &[u8], table: &[u8], st: State, x: [i64; 4]) -> Answer
     match verdict {
         Verdict::Refused(e) => Answer::Refused(e),
         Verdict::Accepted => {
-            let bands = frames::bands_of(read.plant);
             call(
                 frames::framed(read.plant),
-                &bands,
+                &read.plant.bands,
                 &read.plant.coef,
                 table,
                 st,

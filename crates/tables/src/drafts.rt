@@ -4,7 +4,6 @@
 use crate::boxes;
 use crate::boxes::Bx;
 use crate::frames;
-use crate::frames::BANDS;
 use crate::frames::Counts;
 use crate::frames::Frame;
 use crate::levels::LONGEST;
@@ -12,6 +11,7 @@ use crate::limits;
 use crate::limits::LIMITS;
 use crate::search;
 use files::numbers;
+use meaning::BANDS;
 use meaning::COEFFICIENTS;
 ghost use Prim.Native.Nat.{_≤_};
 ghost use Rattle.laws.specs.Writing.{Put};

@@ -3,12 +3,12 @@
 // Relies on walks, modes and boxes, and on crate files for numbers. Leaves out whether R holds the reading, and what the tile's modes answer.
 use crate::boxes;
 use crate::boxes::Bx;
-use crate::frames::BANDS;
 use crate::frames::Counts;
 use crate::modes;
 use crate::refusals;
 use crate::walks;
 use files::numbers;
+use meaning::BANDS;
 use meaning::COEFFICIENTS;
 use meaning::Found;
 use meaning::Number;

@@ -3,11 +3,7 @@
 use crate::boxes::Bx;
 use meaning::Plant;
 ghost use mathlib.Core.Path.{_≡_};
-ghost use Prim.Native.Nat.{_≤_};
-ghost use Rattle.tables.specs.Frames.{frameOf, countsOf, edgesOf, OneBand};
-
-// As many numbers of bands as there may be: of sixteen modes, a low and a high end for each of four dimensions.
-pub const BANDS: usize = 128;
+ghost use Rattle.tables.specs.Frames.{frameOf, countsOf, edgesOf};
 
 // The box that is tiled, the box that patterns end in, the box that nothing may leave; the rest as in a plant.
 pub struct Frame {
@@ -39,26 +35,6 @@ pub fn framed(p: Plant) -> Frame
         goal: Bx { lo: rlo, hi: rhi },
         safe: Bx { lo: slo, hi: shi },
     }
-}
-
-// A plant's bands, its one band being that of every mode.
-pub fn bands_of(p: Plant) -> [i64; BANDS]
-    requires { ⌜ (1 ≤ p .n) × (p .n ≤ 4) ⌝ }
-    ensures { λ r. ⌜ OneBand (p .n) (p .wlo) (p .whi) r ⌝ }
-{
-    let lo = p.wlo;
-    let hi = p.whi;
-    let mut bands = [0i64; BANDS];
-    let mut k: usize = 0;
-    while k < 64 {
-        let i = k % p.n;
-        let l = lo[i];
-        let h = hi[i];
-        bands[k * 2] = l;
-        bands[k * 2 + 1] = h;
-        k += 1;
-    }
-    bands
 }
 
 // A frame taken apart, for the functions that call themselves: its numbers by value, and its boxes lent, so that no call copies a box.

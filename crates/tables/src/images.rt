@@ -3,7 +3,7 @@
 // Every sum fits 64 bits: 4 entries of A within 20,000 times edges within 1,000,000, an offset and a band.
 use crate::boxes::Bx;
 use crate::division;
-use crate::frames::BANDS;
+use meaning::BANDS;
 use meaning::COEFFICIENTS;
 ghost use mathlib.Core.Path.{_≡_};
 ghost use Prim.Native.Nat.{_+_, _*_, _≤_, _<_};
@@ -11,10 +11,10 @@ ghost use lib.IntN.{natAbs, _+ℤ_};
 ghost use Rattle.laws.specs.Lists.{at};
 ghost use Rattle.meaning.specs.Boxes.{side, sideAt, sidesOf};
 ghost use Rattle.meaning.specs.Images.{leastOf, greatestOf, imageSide, image};
-ghost use Rattle.meaning.specs.Plants.{edgeLimit, bandLimit, entryLimit, rowStart, mostCoefs};
+ghost use Rattle.meaning.specs.Plants.{edgeLimit, bandLimit, entryLimit, rowStart, mostCoefs, mostBands, bandStart};
 ghost use Rattle.tables.specs.Boxes.{boxOf, Small};
 ghost use Rattle.promises.specs.files.Sound.{Bounded};
-ghost use Rattle.tables.specs.Images.{negativePart, rowLimit, mostBands, bandStart, entriesOf, rowAt, stepFrom, RowSound, StepSound, Extremes};
+ghost use Rattle.tables.specs.Images.{negativePart, rowLimit, entriesOf, rowAt, stepFrom, RowSound, StepSound, Extremes};
 
 // A least and a greatest number.
 pub struct Span {
@@ -96,7 +96,7 @@ pub fn row(n: usize, u: usize, i: usize) -> usize
 
 // Where the band of mode u in dimension i stands: its low end, and behind it its high end.
 pub fn band(n: usize, u: usize, i: usize) -> usize
-    requires { ⌜ (u * n + i) * 2 + 1 < mostBands ⌝ }
+    requires { ⌜ bandStart n u i + 1 < mostBands ⌝ }
     ensures place { λ r. ⌜ r ≡ bandStart n u i ⌝ }
     ensures inside { λ r. ⌜ r + 1 < mostBands ⌝ }
 {

@@ -3,10 +3,10 @@
 // needs of that row once for all of them.
 // Relies on frames, and on images for a pair of numbers and for where a band stands. Leaves out the sums themselves (levels) and who tests them (steps).
 use crate::boxes::Bx;
-use crate::frames::BANDS;
 use crate::frames::Frame;
 use crate::images;
 use crate::images::Span;
+use meaning::BANDS;
 use meaning::COEFFICIENTS;
 ghost use mathlib.Core.Path.{_≡_};
 ghost use mathlib.Core.Bool.{true};

@@ -7,11 +7,11 @@ use crate::drafts::FEW;
 use crate::drafts::Grown;
 use crate::drafts::MOST;
 use crate::frames;
-use crate::frames::BANDS;
 use crate::frames::Frame;
 use crate::refusals;
 use files::buffers;
 use files::plants;
+use meaning::BANDS;
 use meaning::COEFFICIENTS;
 use meaning::Verdict;
 use meaning::Written;
@@ -24,10 +24,10 @@ ghost use Rattle.tables.specs.Frames.{rulesIn, FrameSound};
 ghost use Rattle.tables.specs.Makes.{definedLeft};
 
 // The table of a frame, drafted where there is room for it, and written: 9, 10. Finished, only the table's bytes are changed; refused, the buffer is all zeros.
-fn write_table(
+fn write_table<'a>(
     f: Frame,
-    bands: &[i64; BANDS],
-    coef: &[i64; COEFFICIENTS],
+    bands: &'a [i64; BANDS],
+    coef: &'a [i64; COEFFICIENTS],
     draft: &mut [u8],
     buf: &mut [u8],
 ) -> Written
@@ -52,14 +52,13 @@ pub fn make(plant: &[u8], buf: &mut [u8]) -> Written
     match verdict {
         Verdict::Refused(e) => buffers::refuse(e, buf),
         Verdict::Accepted => {
-            let bands = frames::bands_of(read.plant);
             let f = frames::framed(read.plant);
             if f.n * f.d <= 4 {
                 let mut few = [0u8; FEW];
-                return write_table(f, &bands, &read.plant.coef, &mut few, buf);
+                return write_table(f, &read.plant.bands, &read.plant.coef, &mut few, buf);
             }
             let mut draft = [0u8; MOST];
-            write_table(f, &bands, &read.plant.coef, &mut draft, buf)
+            write_table(f, &read.plant.bands, &read.plant.coef, &mut draft, buf)
         }
     }
 }

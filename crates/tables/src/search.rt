@@ -4,13 +4,13 @@
 // A beginning is a path of levels: level 0 is the box, and us[j] the mode whose image of level j stands at level j + 1; the number of modes where
 // none stands there. What stands is not made again, at the next length either, and where an image leaves S nothing behind it is tried.
 use crate::boxes::Bx;
-use crate::frames::BANDS;
 use crate::levels;
 use crate::levels::LONGEST;
 use crate::levels::ROOM;
 use crate::levels::WIDE;
 use crate::limits::LIMITS;
 use crate::steps;
+use meaning::BANDS;
 use meaning::COEFFICIENTS;
 ghost use mathlib.Core.Path.{_≡_};
 ghost use mathlib.Core.Bool.{true};

@@ -5,12 +5,12 @@ use crate::chains;
 use crate::chains::EDGES;
 use crate::checks;
 use crate::frames;
-use crate::frames::BANDS;
 use crate::frames::Frame;
 use crate::parts;
 use crate::parts::Part;
 use crate::refusals;
 use files::plants;
+use meaning::BANDS;
 use meaning::COEFFICIENTS;
 use meaning::Verdict;
 use meaning::Walk;
@@ -51,11 +51,11 @@ fn table_at(
 }
 
 // The tables of R0..Rm, the first length at `at`, and nothing behind them.
-fn tables_at(
+fn tables_at<'a>(
     f: Frame,
     edges: &[i64; EDGES],
-    bands: &[i64; BANDS],
-    coef: &[i64; COEFFICIENTS],
+    bands: &'a [i64; BANDS],
+    coef: &'a [i64; COEFFICIENTS],
     start: &[u8],
     m: usize,
     at: usize,
@@ -92,7 +92,6 @@ pub fn start_check(plant: &[u8], start: &[u8]) -> Verdict
     match verdict {
         Verdict::Refused(e) => Verdict::Refused(e),
         Verdict::Accepted => {
-            let bands = frames::bands_of(read.plant);
             let f = frames::framed(read.plant);
             let chain = chains::read_chain(f, false, start);
             let kept = chain.verdict;
@@ -102,7 +101,7 @@ pub fn start_check(plant: &[u8], start: &[u8]) -> Verdict
                     tables_at(
                         f,
                         &chain.edges,
-                        &bands,
+                        &read.plant.bands,
                         &read.plant.coef,
                         start,
                         chain.m,

@@ -9,13 +9,13 @@ use crate::chains;
 use crate::chains::EDGES;
 use crate::control;
 use crate::frames;
-use crate::frames::BANDS;
 use crate::frames::Frame;
 use crate::parts;
 use crate::parts::Part;
 use crate::refusals;
 use files::plants;
 use meaning::Answer;
+use meaning::BANDS;
 use meaning::COEFFICIENTS;
 use meaning::Refusal;
 use meaning::StartAnswer;
@@ -111,10 +111,10 @@ fn state_in(i: usize, st: State) -> StartState
 }
 
 // The call on table i, the first length being at `at`. What is told of the table is told at its place in the file.
-fn call_behind(
+fn call_behind<'a>(
     f: Frame,
-    bands: &[i64; BANDS],
-    coef: &[i64; COEFFICIENTS],
+    bands: &'a [i64; BANDS],
+    coef: &'a [i64; COEFFICIENTS],
     start: &[u8],
     at: usize,
     i: usize,
@@ -137,11 +137,11 @@ fn call_behind(
 }
 
 // A call on a chain that was read.
-fn start_call(
+fn start_call<'a>(
     f: Frame,
     edges: &[i64; EDGES],
-    bands: &[i64; BANDS],
-    coef: &[i64; COEFFICIENTS],
+    bands: &'a [i64; BANDS],
+    coef: &'a [i64; COEFFICIENTS],
     start: &[u8],
     m: usize,
     at: usize,
@@ -179,7 +179,6 @@ pub fn start_control(plant: &[u8], start: &[u8], st: StartState, x: [i64; 4]) ->
     match verdict {
         Verdict::Refused(e) => StartAnswer::Refused(e),
         Verdict::Accepted => {
-            let bands = frames::bands_of(read.plant);
             let f = frames::framed(read.plant);
             let chain = chains::read_chain(f, false, start);
             let kept = chain.verdict;
@@ -189,7 +188,7 @@ pub fn start_control(plant: &[u8], start: &[u8], st: StartState, x: [i64; 4]) ->
                     start_call(
                         f,
                         &chain.edges,
-                        &bands,
+                        &read.plant.bands,
                         &read.plant.coef,
                         start,
                         chain.m,

@@ -9,12 +9,12 @@ use crate::drafts::FEW;
 use crate::drafts::Grown;
 use crate::drafts::MOST;
 use crate::frames;
-use crate::frames::BANDS;
 use crate::frames::Frame;
 use crate::refusals;
 use files::buffers;
 use files::numbers;
 use files::plants;
+use meaning::BANDS;
 use meaning::COEFFICIENTS;
 use meaning::Verdict;
 use meaning::Walk;
@@ -113,10 +113,10 @@ fn write_start(
 }
 
 // For a frame: chain, 15, 9, 10.
-fn make_start(
+fn make_start<'a>(
     f: Frame,
-    bands: &[i64; BANDS],
-    coef: &[i64; COEFFICIENTS],
+    bands: &'a [i64; BANDS],
+    coef: &'a [i64; COEFFICIENTS],
     chain: &[u8],
     buf: &mut [u8],
 ) -> Written
@@ -150,10 +150,9 @@ pub fn start_make(plant: &[u8], chain: &[u8], buf: &mut [u8]) -> Written
     match verdict {
         Verdict::Refused(e) => buffers::refuse(e, buf),
         Verdict::Accepted => {
-            let bands = frames::bands_of(read.plant);
             make_start(
                 frames::framed(read.plant),
-                &bands,
+                &read.plant.bands,
                 &read.plant.coef,
                 chain,
                 buf,

@@ -4,7 +4,6 @@
 // Neither test divides. Everything is lent, so that a call copies only small numbers.
 use crate::boxes;
 use crate::division;
-use crate::frames::BANDS;
 use crate::images;
 use crate::images::Span;
 use crate::levels;
@@ -14,6 +13,7 @@ use crate::limits::GOAL;
 use crate::limits::LIMITS;
 use crate::limits::MARK;
 use crate::limits::SPAN;
+use meaning::BANDS;
 use meaning::COEFFICIENTS;
 ghost use mathlib.Core.Path.{_≡_};
 ghost use mathlib.Core.Bool.{true, false};

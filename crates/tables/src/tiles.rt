@@ -3,9 +3,9 @@
 // An image that lies in S is a box of small edges again, so the next one is in range.
 use crate::boxes;
 use crate::boxes::Bx;
-use crate::frames::BANDS;
 use crate::frames::Counts;
 use crate::images;
+use meaning::BANDS;
 use meaning::COEFFICIENTS;
 use meaning::Tried;
 ghost use mathlib.Core.Path.{_≡_};

@@ -4,12 +4,12 @@
 // stands behind it.
 use crate::boxes;
 use crate::boxes::Bx;
-use crate::frames::BANDS;
 use crate::frames::Counts;
 use crate::modes;
 use crate::refusals;
 use crate::tiles;
 use files::numbers;
+use meaning::BANDS;
 use meaning::COEFFICIENTS;
 use meaning::Number;
 use meaning::Tried;

@@ -37,10 +37,9 @@ use Rattle.tables.specs.declared.chains.ChainRead.{ChainRead}
 use Rattle.tables.specs.declared.frames.Frame.{Frame}
 use Rattle.tables.specs.Boxes.{boxOf, Small}
 use Rattle.tables.specs.Chains.{mostAbove, mostEdges, edgesAbove, valuesIn, noChain, chainWith, chainValues, chainRead, boxOn, bxAt, bxBelow, frameAt, keeps, FramesSound}
-use Rattle.tables.specs.Frames.{frameOf, rulesIn, FrameSound, OneBand}
+use Rattle.tables.specs.Frames.{frameOf, rulesIn, FrameSound}
 use Rattle.tables.proofs.boxes.Laws.{small-tab}
 use Rattle.tables.proofs.frames.Laws.{own-sound}
-use Rattle.tables.proofs.frames.OneBand.{ruled, own-steps}
 
 -- ---- edges and values: the e-th edge is the value e + 2
 
@@ -279,10 +278,8 @@ module _ (whole : Bool) (f : Frame) (s : List ℕ) (r : ChainRead) (q : r ≡ ch
 -- ---- for a plant: its frame's rules over a box of the chain are meaning's rules of that box
 
 module _ (p : Plant) (rooms : p .n ≤ 4) (edges vs : List ℤ) (q : Edged edges vs) where
-  pub rules-at : (bands : List ℤ) → OneBand (p .n) (p .wlo) (p .whi) bands → (i : ℕ) → rulesIn (frameAt (frameOf p) edges i) bands (p .coef) ≡ boxRules p vs i
-  rules-at bands o i =
-      ap (ruled p (boxOf (p .n) (frameAt (frameOf p) edges i .root)) (boxOf (p .n) (frameAt (frameOf p) edges i .goal))) (own-steps p bands rooms o)
-      ∙ boxes-same (p .n) rooms edges vs q (frameOf p .root) (λ root goal. tableRules p root goal) i
+  pub rules-at : (i : ℕ) → rulesIn (frameAt (frameOf p) edges i) (p .bands) (p .coef) ≡ boxRules p vs i
+  rules-at i = boxes-same (p .n) rooms edges vs q (frameOf p .root) (λ root goal. tableRules p root goal) i
 
   -- and what is answered by them
   pub answers-at : {A : Type 0} (answer : List Side → List Side → A) (i : ℕ)
@@ -311,9 +308,9 @@ module _ (whole : Bool) (p : Plant) (g : Sound p) (f : Frame) (e : f ≡ frameOf
     pub plant-edged : Edged (r .edges) (t .vs)
     plant-edged = chain-edged whole (frameOf p) s r own t
 
-    pub plant-frames : (bands : List ℤ) → OneBand (p .n) (p .wlo) (p .whi) bands → FramesSound f bands (p .coef) (r .edges) (r .m)
-    plant-frames bands o = rw e (record {
+    pub plant-frames : FramesSound f (p .bands) (p .coef) (r .edges) (r .m)
+    plant-frames = rw e (record {
       rooms = g .ranges .n-high;
       few = chain-few whole (frameOf p) s r own t;
-      each = λ i h. frame-sound whole (frameOf p) s r own t bands (p .coef) (own-sound p g bands o) (g .root-safe) i h;
+      each = λ i h. frame-sound whole (frameOf p) s r own t (p .bands) (p .coef) (own-sound p g) (g .root-safe) i h;
     })

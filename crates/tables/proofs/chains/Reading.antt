@@ -4,6 +4,7 @@ use mathlib.Core.Path.{_≡_, refl, sym, ap, _∙_}
 use mathlib.Core.Bool.{Bool, true, false, _&&_, not}
 use mathlib.Core.List.{List, [], _∷_}
 use native.Mathlib.Omega.{arith}
+use native.Mathlib.Decide.{decLt}
 use native.Mathlib.Nat.{mul-le-mul}
 use lib.Dec.{eqb}
 use lib.IntN.{ℤ, pos, negℤ}
@@ -20,7 +21,7 @@ use Rattle.meaning.specs.declared.Verdict.{Verdict}
 use Rattle.meaning.specs.Boxes.{Side, within}
 use Rattle.meaning.specs.Files.{end, Read, read, refused, valuesAt, ended}
 use Rattle.meaning.specs.Numbers.{numberAt}
-use Rattle.meaning.specs.Plants.{edgeLimit, span, times}
+use Rattle.meaning.specs.Plants.{edgeLimit, from, span, times}
 use Rattle.meaning.specs.Refusals.{broken, wrongForm, unfit, notHeld}
 use Rattle.meaning.specs.Starts.{chainForm, boxAt, held, onChain}
 use Rattle.files.specs.Parts.{behind, behind-read, behind-refused, Fails, holds-last, Rows, rows-none, rows-more, rows-fails, rows-all}
@@ -41,7 +42,11 @@ module _ (s : List ℕ) where
   module _ (form at : ℕ) (e : numberAt s 0 ≡ Number.Value form at) where
     pub form-wrong : (form ≡ 1 → ⊥) → (n : ℕ) → valuesAt (chainForm n) s 0 ≡ refused wrongForm
     unfolding chainForm valuesAt
-    form-wrong h n = simp (e, ne-eqb _ _ h)
+    form-wrong h n = simp (e, not-one (decLt form 1))
+      where
+        not-one : Dec (form < 1) → from 1 1 form ≡ false
+        not-one (yes l) = simp (lt-leb _ _ l)
+        not-one (no l) = let a : 1 ≤ form = omega arith in let b : 1 < form = omega (arith, h) in simp (le-leb _ _ a, lt-leb _ _ b)
 
     module _ (h : form ≡ 1) where
       pub m-broken : numberAt s at ≡ Number.Broken → (n : ℕ) → valuesAt (chainForm n) s 0 ≡ refused (broken at)

@@ -8,15 +8,14 @@ use native.Mathlib.Nat.{mul-le-mul}
 use lib.IntN.{ℤ}
 use Rattle.meaning.specs.declared.Plant.{Plant}
 use Rattle.meaning.specs.Boxes.{sideAt, sidesOf}
-use Rattle.meaning.specs.Plants.{edgeLimit, rowStart, mostCoefs}
+use Rattle.meaning.specs.Plants.{edgeLimit, mostModes, rowStart, mostCoefs}
 use Rattle.tables.specs.declared.frames.Frame.{Frame}
 use Rattle.tables.specs.declared.frames.Counts.{Counts}
 use Rattle.tables.specs.Boxes.{boxOf, Small}
-use Rattle.tables.specs.Images.{RowSound, StepSound}
-use Rattle.tables.specs.Frames.{frameOf, countsOf, edgesOf, frameFrom, FrameSound, OneBand}
+use Rattle.tables.specs.Images.{RowSound, BandSound, StepSound}
+use Rattle.tables.specs.Frames.{frameOf, countsOf, edgesOf, frameFrom, FrameSound}
 use Rattle.promises.specs.files.Sound.{Edges, Ranges, Sound}
 use Rattle.tables.proofs.boxes.Laws.{small-tab}
-use Rattle.tables.proofs.frames.OneBand.{own-band, own-wide}
 
 -- ---- what a sound frame gives
 
@@ -51,7 +50,7 @@ row-inside n modes u i h m l k =
     omega (arith, mul-le-mul d b)
 
 module _ (p : Plant) (g : Sound p) where
-  r : Ranges 16 (p .n) (p .modes) (p .q) (p .k) (p .d) (p .rlo) (p .rhi) (p .slo) (p .shi) (p .wlo) (p .whi)
+  r : Ranges mostModes (p .n) (p .modes) (p .q) (p .k) (p .d) (p .rlo) (p .rhi) (p .slo) (p .shi)
   r = g .ranges
 
   row-sound : (u i : ℕ) → u < p .modes → i < p .n → RowSound (p .n) (p .coef) (rowStart (p .n) u i)
@@ -63,26 +62,30 @@ module _ (p : Plant) (g : Sound p) where
     offset = g .offsets u i h k;
   }
 
-  -- of its bands
-  module _ (bands : List ℤ) (o : OneBand (p .n) (p .wlo) (p .whi) bands) where
-    pub own-sound : FrameSound (frameOf p) bands (p .coef)
-    own-sound = record {
-      some = r .n-low;
-      rooms = r .n-high;
-      longest = r .k-high;
-      least = r .q-low;
-      most = r .q-high;
-      modes = r .m-high;
-      depth = r .d-high;
-      tiles = r .nd-high;
-      root = edges-small (r .root);
-      goal = edges-small (r .root);
-      safe = edges-small (r .safe);
-      band = own-band p bands (r .n-high) o g;
-      in-safe = g .root-safe;
-      wide = λ u i h k. own-wide p bands (r .n-high) o g u i k;
-      rows = row-sound;
-    }
+  band-sound : (u i : ℕ) → u < p .modes → i < p .n → BandSound (p .n) (p .bands) u i
+  band-sound u i h k = record {
+    inside = let a : u ≤ 15 = omega (arith, r .m-high) in omega (arith, mul-le-mul a (r .n-high), r .n-high);
+    ends = g .bands u i h k;
+  }
 
-    pub framed-sound : (f : Frame) → f ≡ frameOf p → FrameSound f bands (p .coef)
-    framed-sound f e = rw e own-sound
+  pub own-sound : FrameSound (frameOf p) (p .bands) (p .coef)
+  own-sound = record {
+    some = r .n-low;
+    rooms = r .n-high;
+    longest = r .k-high;
+    least = r .q-low;
+    most = r .q-high;
+    modes = r .m-high;
+    depth = r .d-high;
+    tiles = r .nd-high;
+    root = edges-small (r .root);
+    goal = edges-small (r .root);
+    safe = edges-small (r .safe);
+    band = band-sound;
+    in-safe = g .root-safe;
+    wide = g .wide;
+    rows = row-sound;
+  }
+
+  pub framed-sound : (f : Frame) → f ≡ frameOf p → FrameSound f (p .bands) (p .coef)
+  framed-sound f e = rw e own-sound

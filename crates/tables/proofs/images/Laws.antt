@@ -17,11 +17,11 @@ use Rattle.laws.specs.Tabs.{length-tab, tab-snoc, map-tab}
 use Rattle.laws.specs.Tests.{orders, all-tab}
 use Rattle.meaning.specs.Boxes.{Side, side, sideAt, covers, within}
 use Rattle.meaning.specs.Images.{Row, leastOf, greatestOf, extreme, imageSide, image}
-use Rattle.meaning.specs.Plants.{edgeLimit, bandLimit, entryLimit, mostCoefs}
+use Rattle.meaning.specs.Plants.{edgeLimit, bandLimit, entryLimit, mostCoefs, bandStart, bandSide}
 use Rattle.tables.specs.declared.frames.Frame.{Frame}
 use Rattle.tables.specs.Boxes.{boxOf, Small}
 use Rattle.promises.specs.files.Sound.{Bounded}
-use Rattle.tables.specs.Images.{positivePart, negativePart, termLimit, rowLimit, entryAt, entriesOf, bandStart, bandIn, rowFrom, stepFrom, RowSound, BandSound, Extremes}
+use Rattle.tables.specs.Images.{positivePart, negativePart, termLimit, rowLimit, entryAt, entriesOf, rowFrom, stepFrom, RowSound, BandSound, Extremes}
 use Rattle.tables.specs.Frames.{FrameSound}
 use Rattle.tables.proofs.boxes.Laws.{small-at, small-tab, small-side, between, sides-stored, lies-tab}
 
@@ -163,7 +163,7 @@ module _ (n : ℕ) (bands : List ℤ) (u i place : ℕ) (e : place ≡ bandStart
   abbrev pub bandHere : Side
   bandHere = side (at bands place) (at bands (place + 1))
 
-  pub band-here : bandHere ≡ bandIn n bands u i
+  pub band-here : bandHere ≡ bandSide n bands u i
   band-here = rw e refl
 
   pub band-small : BandSound n bands u i → Bounded bandLimit bandHere

@@ -13,9 +13,8 @@ use mir.Val.{ofZ, toZ}
 use Rattle.laws.specs.Tabs.{at-stored}
 use Rattle.laws.specs.Expressions.{Ex, var, lit, _⊕_, _⊝_, _⊗_, bound, size, exact}
 use Rattle.meaning.specs.Boxes.{Side, side}
-use Rattle.meaning.specs.Plants.{edgeLimit, bandLimit}
+use Rattle.meaning.specs.Plants.{edgeLimit, bandLimit, bandSide}
 use Rattle.promises.specs.files.Sound.{Bounded}
-use Rattle.tables.specs.Images.{bandIn}
 use Rattle.tables.specs.Levels.{wide, sideIn, Beside}
 use Rattle.tables.specs.Limits.{limitSide, safeAt, goalAt, markAt, lastEntries, LaidAt, Laid, Marked}
 use Rattle.tables.proofs.levels.Laws.{at-other}
@@ -48,8 +47,8 @@ module _ (q : ℕ) (w s : Side) (h : q ≤ 10_000) (g : Bounded bandLimit w) (e 
 
 module _ (n q : ℕ) (rooms : n ≤ 4) (goal safe : ℕ → Side) (bands : List ℤ) where
   -- mode u behind u of them: x is the array with its limits of S, y with those of the goal too
-  pub laid-more : (u : ℕ) (l x y : List ℤ) → Beside (safeAt u) l x → ((i : ℕ) → i < n → sideIn x (safeAt u) i ≡ limitSide q (bandIn n bands u i) (safe i))
-      → Beside (goalAt u) x y → ((i : ℕ) → i < n → sideIn y (goalAt u) i ≡ limitSide q (bandIn n bands u i) (goal i)) → Laid n u q goal safe bands l → Laid n (u + 1) q goal safe bands y
+  pub laid-more : (u : ℕ) (l x y : List ℤ) → Beside (safeAt u) l x → ((i : ℕ) → i < n → sideIn x (safeAt u) i ≡ limitSide q (bandSide n bands u i) (safe i))
+      → Beside (goalAt u) x y → ((i : ℕ) → i < n → sideIn y (goalAt u) i ≡ limitSide q (bandSide n bands u i) (goal i)) → Laid n u q goal safe bands l → Laid n (u + 1) q goal safe bands y
   laid-more u l x y bs es bg eg old v o = go (ℕ-discrete v u)
     where
       before : (base i : ℕ) → base + wide ≤ safeAt u → i < 4 → sideIn y base i ≡ sideIn l base i

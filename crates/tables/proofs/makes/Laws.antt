@@ -1,24 +1,21 @@
 -- What the maker leaves: 9 where there is no table, else the draft's front; plant first, then its own frame's table. Assumes nothing.
-use Prim.Native.Nat.{ℕ, _≤_}
+use Prim.Native.Nat.{ℕ}
 use mathlib.Core.Path.{_≡_, refl, sym, ap}
 use mathlib.Core.List.{List}
-use lib.IntN.{ℤ}
 use mathlib.Core.Option.{none, some}
 use Rattle.meaning.specs.declared.Refusal.{Refusal}
 use Rattle.meaning.specs.declared.Plant.{Plant}
 use Rattle.meaning.specs.Refusals.{noTable}
 use Rattle.meaning.specs.Files.{Judged, good, bad}
 use Rattle.meaning.specs.Buffers.{refusedWith, left}
-use Rattle.meaning.specs.Images.{Step}
-use Rattle.meaning.specs.Plants.{plantJudged, rootOf}
+use Rattle.meaning.specs.Plants.{plantJudged}
 use Rattle.meaning.specs.Rules.{Rules}
 use Rattle.meaning.specs.Tables.{made, makerLeft}
 use Rattle.tables.specs.declared.frames.Frame.{Frame}
-use Rattle.tables.specs.Frames.{frameOf, rulesIn, OneBand}
+use Rattle.tables.specs.Frames.{frameOf, rulesIn}
 use Rattle.tables.specs.Drafts.{definedBytes}
 use Rattle.tables.specs.Makes.{definedLeft}
 use Rattle.tables.proofs.drafts.Laws.{table-none, table-some}
-use Rattle.tables.proofs.frames.OneBand.{ruled, own-steps}
 
 module _ (r : Rules) (buf : List ℕ) where
   pub left-none : definedBytes r ≡ none → refusedWith (noTable 0) buf ≡ definedLeft r buf
@@ -34,7 +31,6 @@ module _ (plant buf : List ℕ) where
   unfolding makerLeft made
   left-bad e h = rw h refl
 
-  pub left-own : (p : Plant) → plantJudged plant ≡ good p → p .n ≤ 4 → (bands : List ℤ) → OneBand (p .n) (p .wlo) (p .whi) bands → (f : Frame) → f ≡ frameOf p
-      → definedLeft (rulesIn f bands (p .coef)) buf ≡ makerLeft plant buf
+  pub left-own : (p : Plant) → plantJudged plant ≡ good p → (f : Frame) → f ≡ frameOf p → definedLeft (rulesIn f (p .bands) (p .coef)) buf ≡ makerLeft plant buf
   unfolding makerLeft made
-  left-own p h rooms bands o f e = rw (h, e) (ap (λ (s : ℕ → Step). definedLeft (ruled p (rootOf p) (rootOf p) s) buf) (own-steps p bands rooms o))
+  left-own p h f e = rw (h, e) refl

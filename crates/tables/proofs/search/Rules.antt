@@ -15,11 +15,11 @@ use Rattle.meaning.specs.Boxes.{Side, sideAt, covers, within}
 use Rattle.meaning.specs.Images.{image}
 use Rattle.meaning.specs.Defined.{exactly, shortest}
 use Rattle.promises.specs.tables.Boxes.{within-trans}
+use Rattle.meaning.specs.Plants.{bandSide}
 use Rattle.tables.specs.declared.frames.Frame.{Frame}
 use Rattle.tables.specs.Boxes.{boxOf}
 use Rattle.tables.specs.Frames.{stepIn, rulesIn}
 use Rattle.tables.specs.Levels.{sideIn}
-use Rattle.tables.specs.Images.{bandIn}
 use Rattle.tables.specs.Limits.{limitSide, safeAt, goalAt, sumsAt, covered, coveredAt, imageLent, landsLent, Lent, LimitsLaid}
 use Rattle.tables.specs.Search.{behind, sought, soughtFrom, movesLent}
 use Rattle.tables.proofs.boxes.Laws.{lies-tab}
@@ -38,7 +38,7 @@ module _ (f : Frame) (bands coef limits : List ℤ) (g : LimitsLaid f bands coef
   sides = imageSideAt (f .n) (f .q) bands coef u b
 
   -- the limits at `base` are those of the box with sides t
-  covered-is : (base : ℕ) (t : ℕ → Side) → ((i : ℕ) → i < f .n → sideIn limits base i ≡ limitSide (f .q) (bandIn (f .n) bands u i) (t i))
+  covered-is : (base : ℕ) (t : ℕ → Side) → ((i : ℕ) → i < f .n → sideIn limits base i ≡ limitSide (f .q) (bandSide (f .n) bands u i) (t i))
       → covered (f .n) coef limits base u b ≡ within (image (stepIn f bands coef u) b) (tab t (f .n) 0)
   covered-is base t e =
       ap all (tab-same (coveredAt (f .n) coef limits base u b) (λ i. covers (t i) (sides i)) (f .n) 0 (λ i l h. at-side i (omega arith)))
@@ -48,7 +48,7 @@ module _ (f : Frame) (bands coef limits : List ℤ) (g : LimitsLaid f bands coef
       at-side : (i : ℕ) → i < f .n → coveredAt (f .n) coef limits base u b i ≡ covers (t i) (sides i)
       at-side i h =
           ap (λ (s : Side). covers s (sumsAt (f .n) coef u b i)) (e i h)
-          ∙ limit-covers (f .q) (g .sound .least) (bandIn (f .n) bands u i) (t i) (sumsAt (f .n) coef u b i)
+          ∙ limit-covers (f .q) (g .sound .least) (bandSide (f .n) bands u i) (t i) (sumsAt (f .n) coef u b i)
 
   covered-safe : covered (f .n) coef limits (safeAt u) u b ≡ within (image (stepIn f bands coef u) b) (boxOf (f .n) (f .safe))
   covered-safe = covered-is (safeAt u) (sideAt (f .safe .lo) (f .safe .hi)) (g .laid u m .in-safe)

@@ -24,7 +24,6 @@ use Rattle.meaning.specs.declared.Verdict.{Verdict}
 use Rattle.meaning.specs.Boxes.{Side, fits}
 use Rattle.meaning.specs.Control.{idle, call}
 use Rattle.meaning.specs.Files.{good, bad}
-use Rattle.meaning.specs.Images.{Step}
 use Rattle.meaning.specs.Plants.{plantJudged, rootOf}
 use Rattle.meaning.specs.Refusals.{outside, badState}
 use Rattle.meaning.specs.Starts as S
@@ -37,12 +36,11 @@ use Rattle.tables.specs.declared.start_control.Choice.{Choice}
 use Rattle.tables.specs.Boxes.{boxOf}
 use Rattle.tables.specs.Chains.{valuesIn, bxAt, frameAt}
 use Rattle.tables.specs.Control.{admission}
-use Rattle.tables.specs.Frames.{frameOf, rulesIn, OneBand}
+use Rattle.tables.specs.Frames.{frameOf, rulesIn}
 use Rattle.tables.specs.Parts.{partBehind}
 use Rattle.tables.specs.StartControl.{fitsAt, missesAt, idleChoice, choiceOf, onChoice, callBehind, startAnswer}
 use Rattle.tables.proofs.chains.Laws.{Edged, in-edged, box-same, answers-at}
 use Rattle.tables.proofs.finds.Laws.{held, not-held}
-use Rattle.tables.proofs.frames.OneBand.{ruled, own-steps}
 use Rattle.tables.proofs.parts.Laws.{by-part}
 
 -- ---- idle
@@ -211,16 +209,14 @@ onChoice-same (Choice.Refused e) f g h = refl
 onChoice-same (Choice.Table i) f g h = h i
 
 module _ (p : Plant) (rooms : p .n ≤ 4) (edges vs : List ℤ) (q : Edged edges vs) (m : ℕ) (c : m ≡ above vs) where
-  pub answer-as : (bands : List ℤ) → OneBand (p .n) (p .wlo) (p .whi) bands → (f : Frame) → f ≡ frameOf p
-      → (s : List ℕ) (at : ℕ) (st : StartState) (x : List ℤ) → startAnswer f edges bands (p .coef) s m at st x ≡ startCall p vs s at st x
-  answer-as bands o f e s at st x =
+  pub answer-as : (f : Frame) → f ≡ frameOf p → (s : List ℕ) (at : ℕ) (st : StartState) (x : List ℤ) → startAnswer f edges (p .bands) (p .coef) s m at st x ≡ startCall p vs s at st x
+  answer-as f e s at st x =
       let box : (i : ℕ) → boxAt (p .n) (rootOf p) (valuesIn m edges) i ≡ boxAt (p .n) (rootOf p) vs i =
       λ i. sym (box-same (p .n) rooms edges (valuesIn m edges) (in-edged m edges) (frameOf p .root) i) ∙ box-same (p .n) rooms edges vs q (frameOf p .root) i in
-      ap (λ (g : Frame). startAnswer g edges bands (p .coef) s m at st x) e
-      ∙ ap (λ (o : Choice). onChoice o StartAnswer.Refused (λ i. callBehind (frameAt (frameOf p) edges i) bands (p .coef) s at i (st .state) x)) (choice-same (p .n) (rootOf p) (valuesIn m edges) vs st x c box)
-      ∙ onChoice-same (choiceOf (p .n) (rootOf p) vs st x) (λ i. callBehind (frameAt (frameOf p) edges i) bands (p .coef) s at i (st .state) x) (λ i. callIn p vs s at i (st .state) x)
-      (λ i. ap (λ (t : ℕ → Step). onPart i s at StartAnswer.Refused λ first size. answerIn i first (call (ruled p (boxOf (p .n) (frameAt (frameOf p) edges i .root)) (boxOf (p .n) (frameAt (frameOf p) edges i .goal)) t) (part s first size) (st .state) x)) (own-steps p bands rooms o)
-      ∙ answers-at p rooms edges vs q (λ root goal. onPart i s at StartAnswer.Refused λ first size. answerIn i first (call (tableRules p root goal) (part s first size) (st .state) x)) i)
+      ap (λ (g : Frame). startAnswer g edges (p .bands) (p .coef) s m at st x) e
+      ∙ ap (λ (o : Choice). onChoice o StartAnswer.Refused (λ i. callBehind (frameAt (frameOf p) edges i) (p .bands) (p .coef) s at i (st .state) x)) (choice-same (p .n) (rootOf p) (valuesIn m edges) vs st x c box)
+      ∙ onChoice-same (choiceOf (p .n) (rootOf p) vs st x) (λ i. callBehind (frameAt (frameOf p) edges i) (p .bands) (p .coef) s at i (st .state) x) (λ i. callIn p vs s at i (st .state) x)
+      (λ i. answers-at p rooms edges vs q (λ root goal. onPart i s at StartAnswer.Refused λ first size. answerIn i first (call (tableRules p root goal) (part s first size) (st .state) x)) i)
       ∙ called-as p vs s at st x
 
 module _ (plant start : List ℕ) (st : StartState) (x : List ℤ) where

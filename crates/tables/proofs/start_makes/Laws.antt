@@ -18,12 +18,11 @@ use Rattle.meaning.specs.declared.Written.{Written}
 use Rattle.meaning.specs.Refusals.{noTable, short}
 use Rattle.meaning.specs.Buffers.{refusedWith, left}
 use Rattle.meaning.specs.Defined.{mapSome}
-use Rattle.meaning.specs.Files.{Judged, good, bad, valuesOf}
+use Rattle.meaning.specs.Files.{Judged, good, bad}
 use Rattle.meaning.specs.Numbers.{bytesOf}
 use Rattle.meaning.specs.Rules.{Rules}
-use Rattle.meaning.specs.Images.{Step}
-use Rattle.meaning.specs.Plants.{plantJudged, rootOf, safeOf}
-use Rattle.meaning.specs.Starts.{chainForm, above, boxAt, boxBelow, onChain, partsOf, tableWith, tableBefore, tablesFrom, startBytes, startMade, startLeft}
+use Rattle.meaning.specs.Plants.{plantJudged}
+use Rattle.meaning.specs.Starts.{chainForm, above, partsOf, tableWith, tableBefore, tablesFrom, startBytes, startMade, startLeft}
 use Rattle.meaning.specs.Tables.{rulesFrom, definedTable}
 use Rattle.promises.specs.files.Buffers.{left-short}
 use Rattle.promises.specs.files.Files.{file-writes}
@@ -33,11 +32,10 @@ use Rattle.tables.specs.declared.frames.Frame.{Frame}
 use Rattle.tables.specs.Boxes.{boxOf}
 use Rattle.tables.specs.Chains.{chainRead}
 use Rattle.tables.specs.Drafts.{Wrote, definedBytes}
-use Rattle.tables.specs.Frames.{frameOf, stepIn, OneBand}
+use Rattle.tables.specs.Frames.{frameOf, stepIn}
 use Rattle.tables.specs.StartMakes.{withLength, partBytes, WroteParts, framesRules, framesTables, behindChain, valuesRules, chainLeft}
 use Rattle.tables.proofs.chains.Laws.{boxes-same, Chained, chain-refused, chain-edged, chain-goes}
 use Rattle.tables.proofs.drafts.Laws.{table-none, table-some}
-use Rattle.tables.proofs.frames.OneBand.{ruled, own-steps}
 
 -- ---- a table behind its length
 
@@ -192,12 +190,6 @@ module _ (plant chain buf : List ℕ) where
   unfolding startLeft startMade
   start-bad e h = rw h refl
 
-  pub start-own : (p : Plant) → plantJudged plant ≡ good p → p .n ≤ 4 → (bands : List ℤ) → OneBand (p .n) (p .wlo) (p .whi) bands → (f : Frame) → f ≡ frameOf p
-      → chainLeft f bands (p .coef) chain buf ≡ startLeft plant chain buf
+  pub start-own : (p : Plant) → plantJudged plant ≡ good p → (f : Frame) → f ≡ frameOf p → chainLeft f (p .bands) (p .coef) chain buf ≡ startLeft plant chain buf
   unfolding startLeft startMade
-  start-own p h rooms bands o f e = rw (h, e) (ap (λ (s : ℕ → Step). left (made p s) buf) (own-steps p bands rooms o))
-    where
-      made : Plant → (ℕ → Step) → Judged (List ℕ)
-      made p s =
-          onChain (p .n) (rootOf p) (safeOf p) (valuesOf (chainForm (p .n)) chain) bad λ vs _.
-          startBytes (p .n) vs (tablesFrom (λ i. ruled p (boxAt (p .n) (rootOf p) vs i) (boxBelow (p .n) (rootOf p) vs i) s) (above vs + 1) 0)
+  start-own p h f e = rw (h, e) refl

@@ -8,10 +8,10 @@ use lib.IntN.{pos}
 use Rattle.meaning.specs.declared.Number.{Number}
 use Rattle.meaning.specs.Files.{refused}
 use Rattle.meaning.specs.Plants.{from}
-use Rattle.laws.specs.Tests.{not-true, not-false}
 use Rattle.files.specs.Fields.{countedAt}
 use Rattle.files.specs.HeaderLaws.{from-d, from-k, from-q, from-m, from-n, Reached, form-broken, form-wrong, form-reached, number-fails, number-reached, d-fails, too-deep, d-reached, headed-as, small-product}
 use borrow.Author.Needs.{needs}
+use borrow.Author.Tests.{not-true, not-false}
 use Rattle.files.proofs.headers.read_header.Statement.{statement}
 use Rattle.files.proofs.headers.read_header.Tie as tie
 

@@ -1,11 +1,9 @@
 -- `checks::check`: the plant's file, whose frame is sound where it was judged good, then the table. Assumes nothing.
-use Prim.Native.Nat.{ℕ}
 use mathlib.Core.Path.{_≡_, sym, ap, _∙_}
 use denote.Ref.{now}
 use borrow.Author.Needs.{needs}
 use Rattle.meaning.specs.Files.{good}
-use Rattle.meaning.specs.Images.{Step}
-use Rattle.meaning.specs.Plants.{plantJudged, rootOf}
+use Rattle.meaning.specs.Plants.{plantJudged}
 use Rattle.meaning.specs.Verdicts.{verdict}
 use Rattle.promises.specs.files.Judged.{judged-sound}
 use Rattle.promises.specs.files.Sound.{Sound}
@@ -13,7 +11,6 @@ use Rattle.promises.specs.tables.PlantRules.{read-good, read-bad, checked-bad, 
 use Rattle.tables.specs.declared.frames.Frame.{Frame}
 use Rattle.tables.specs.Frames.{rulesIn}
 use Rattle.tables.proofs.frames.Laws.{framed-sound}
-use Rattle.tables.proofs.frames.OneBand.{ruled, own-steps}
 use Rattle.tables.proofs.checks.check.Statement.{statement}
 use Rattle.tables.proofs.checks.check.Tie as tie
 
@@ -36,18 +33,14 @@ enum-told c = search needs
 sound : (c : tie.After-enum-told) → Sound (c .before .before .read-plant .result .plant)
 sound c = judged-sound (now (c .before .before .before .before .before .args .plant)) (c .before .before .read-plant .result .plant) (taken c)
 
-bands-of-requires : tie.Need-bands-of-requires
-bands-of-requires c κs = let r = sound (c .before) .ranges in (r .n-low, r .n-high)
-
 framed-requires : tie.Need-framed-requires
 framed-requires c κs = search needs
 
 judge-requires : tie.Need-judge-requires
 judge-requires c κs =
-    let t = c .before .before .before .before .before .before .before in
+    let t = c .before .before .before .before .before in
     let p = t .before .before .read-plant .result .plant in
-    let b = c .before .before .before .before .before .bands-of in
-    framed-sound p (sound t) (b .result) (b .ensures) (c .before .before .before .framed .result) (c .before .before .before .framed .ensures)
+    framed-sound p (sound t) (c .before .before .before .framed .result) (c .before .before .before .framed .ensures)
 
 returns : tie.Need-returns
 returns c =
@@ -58,15 +51,13 @@ returns c =
 
 returns-2 : tie.Need-returns-2
 returns-2 c =
-    let t = c .before .before .before .before .before .before .before .before in
-    let b = c .before .before .before .before .before .before .bands-of in
+    let t = c .before .before .before .before .before .before in
     let a = t .before .before .before .before .before .args in
     let p = t .before .before .read-plant .result .plant in
-    c .judge .ensures ∙ ap (λ (f : Frame). verdict (rulesIn f (b .result) (p .coef)) (now (a .table))) (c .before .before .before .before .framed .ensures)
-    ∙ ap (λ (s : ℕ → Step). verdict (ruled p (rootOf p) (rootOf p) s) (now (a .table))) (own-steps p (b .result) (sound t .ranges .n-high) (b .ensures))
+    c .judge .ensures ∙ ap (λ (f : Frame). verdict (rulesIn f (p .bands) (p .coef)) (now (a .table))) (c .before .before .before .before .framed .ensures)
     ∙ sym (checked-as (now (a .plant)) p (taken t) (now (a .table)))
 
 pub check-spec : {M : Type 1} → statement M
 check-spec =
     tie.close
-    (tie.spec read-plant-requires enum-known-verdict enum-told bands-of-requires framed-requires judge-requires returns returns-2)
+    (tie.spec read-plant-requires enum-known-verdict enum-told framed-requires judge-requires returns returns-2)

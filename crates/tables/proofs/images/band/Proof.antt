@@ -2,7 +2,6 @@
 use Prim.Native.Nat.{_+_, _*_}
 use native.Mathlib.Omega.{arith}
 use borrow.Author.Needs.{needs}
-use borrow.Author.Tests.{lt-ltb}
 use Rattle.tables.proofs.images.band.Statement.{statement}
 use Rattle.tables.proofs.images.band.Tie as tie
 
@@ -16,7 +15,7 @@ mul-result-2 : tie.Need-mul-result-2
 mul-result-2 c = search needs
 
 returns : tie.Need-returns
-returns c = (let h = c .pre in simp (lt-ltb (c .args .u * c .args .n + c .args .i) 64 (omega arith)), c .pre)
+returns c = (omega arith, omega (arith, c .pre))
 
 pub band-spec : {M : Type 1} → statement M
 band-spec = tie.close (tie.spec mul-result add-result mul-result-2 returns)

@@ -9,8 +9,8 @@ use Rattle.laws.specs.Integers.{ok64}
 use Rattle.laws.specs.Lists.{at, tab}
 use Rattle.laws.specs.Expressions.{Ex, var, exact, under}
 use Rattle.meaning.specs.Boxes.{Side, sideAt, sidesOf}
-use Rattle.meaning.specs.Plants.{bandLimit, rowStart}
-use Rattle.tables.specs.Images.{bandStart, RowSound, BandSound}
+use Rattle.meaning.specs.Plants.{bandLimit, rowStart, bandStart}
+use Rattle.tables.specs.Images.{RowSound, BandSound}
 use Rattle.tables.proofs.images.Laws.{band-small, imageSideAt, image-tab, image-more, image-done}
 use Rattle.tables.proofs.images.image.Statement.{statement}
 use Rattle.tables.proofs.images.image.Tie as tie

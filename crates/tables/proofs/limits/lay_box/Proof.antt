@@ -4,9 +4,8 @@ use mathlib.Core.Path.{_≡_, ap, _∙_}
 use native.Mathlib.Omega.{arith}
 use denote.Ref.{now}
 use Rattle.meaning.specs.Boxes.{Side, side, sideAt}
-use Rattle.meaning.specs.Plants.{edgeLimit, bandLimit}
+use Rattle.meaning.specs.Plants.{edgeLimit, bandLimit, bandStart, bandSide}
 use Rattle.promises.specs.files.Sound.{Bounded}
-use Rattle.tables.specs.Images.{bandStart, bandIn}
 use Rattle.tables.specs.Limits.{limitSide, limitAt}
 use Rattle.tables.proofs.boxes.Laws.{small-side}
 use Rattle.tables.proofs.images.Laws.{bandHere, band-here, band-small}
@@ -39,7 +38,7 @@ module _ (c : tie.After-band Inv-loop μ-loop) where
   abbrev band : Side
   band = let a = from .args in bandHere (a .n) (now (a .bands)) (a .u) index (c .band .result) placed
 
-  band-is : band ≡ bandIn (from .args .n) (now (from .args .bands)) (from .args .u) index
+  band-is : band ≡ bandSide (from .args .n) (now (from .args .bands)) (from .args .u) index
   band-is = let a = from .args in band-here (a .n) (now (a .bands)) (a .u) index (c .band .result) placed
 
   small-band : Bounded bandLimit band

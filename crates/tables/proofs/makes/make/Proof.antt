@@ -5,7 +5,6 @@ use mathlib.Core.Path.{_≡_, ap, _∙_}
 use mathlib.Core.List.{List}
 use native.Mathlib.Omega.{arith}
 use denote.Ref.{now}
-use lib.IntN.{ℤ}
 use borrow.Author.Needs.{needs}
 use Rattle.meaning.specs.declared.Plant.{Plant}
 use Rattle.meaning.specs.Buffers.{Left}
@@ -26,28 +25,25 @@ use Rattle.tables.proofs.makes.make.Tie as tie
 -- the plant was taken apart
 module _ (x : tie.After-framed) where
   abbrev file : List ℕ
-  file = now (x .before .before .before .before .before .before .before .before .before .args .plant)
+  file = now (x .before .before .before .before .before .before .before .args .plant)
 
   abbrev buffer : List ℕ
-  buffer = now (x .before .before .before .before .before .before .before .before .before .args .buf)
+  buffer = now (x .before .before .before .before .before .before .before .args .buf)
 
   abbrev plant : Plant
-  plant = x .before .before .before .before .before .before .read-plant .result .plant
+  plant = x .before .before .before .before .read-plant .result .plant
 
   abbrev frame : Frame
   frame = x .framed .result
 
   good-plant : plantJudged file ≡ good plant
-  good-plant = let y = x .before .before .before .before .before .before .read-plant in read-good (plantJudged file) (y .result) (y .ensures) (x .before .before .before .before .enum-told .given .1)
+  good-plant = let y = x .before .before .before .before .read-plant in read-good (plantJudged file) (y .result) (y .ensures) (x .before .before .enum-told .given .1)
 
-  abbrev bands : List ℤ
-  bands = x .before .before .bands-of .result
+  sound : FrameSound frame (plant .bands) (plant .coef)
+  sound = framed-sound plant (judged-sound file plant good-plant) frame (x .framed .ensures)
 
-  sound : FrameSound frame bands (plant .coef)
-  sound = framed-sound plant (judged-sound file plant good-plant) bands (x .before .before .bands-of .ensures) frame (x .framed .ensures)
-
-  own : definedLeft (rulesIn frame bands (plant .coef)) buffer ≡ makerLeft file buffer
-  own = left-own file buffer plant good-plant (judged-sound file plant good-plant .ranges .n-high) bands (x .before .before .bands-of .ensures) frame (x .framed .ensures)
+  own : definedLeft (rulesIn frame (plant .bands) (plant .coef)) buffer ≡ makerLeft file buffer
+  own = left-own file buffer plant good-plant frame (x .framed .ensures)
 
 read-plant-requires : tie.Need-read-plant-requires
 read-plant-requires c κs = search needs
@@ -60,14 +56,6 @@ refuse-requires c κs = search needs
 
 enum-told : tie.Need-enum-told
 enum-told c = search needs
-
-bands-of-requires : tie.Need-bands-of-requires
-bands-of-requires c κs =
-    let t = c .before in
-    let y = t .before .before .read-plant in
-    let file = now (t .before .before .before .before .before .args .plant) in
-    let r = judged-sound file (y .result .plant) (read-good (plantJudged file) (y .result) (y .ensures) (t .enum-told .given .1)) .ranges in
-    (r .n-low, r .n-high)
 
 framed-requires : tie.Need-framed-requires
 framed-requires c κs = search needs
@@ -132,7 +120,6 @@ make-spec =
     enum-known-verdict
     refuse-requires
     enum-told
-    bands-of-requires
     framed-requires
     mul-if1
     slice-aggregate-write-table

@@ -17,7 +17,7 @@ use Rattle.promises.specs.files.Sound.{Sound}
 use Rattle.tables.specs.declared.chains.ChainRead.{ChainRead}
 use Rattle.tables.specs.declared.frames.Frame.{Frame}
 use Rattle.tables.specs.Chains.{chainRead}
-use Rattle.tables.specs.Frames.{frameOf, OneBand}
+use Rattle.tables.specs.Frames.{frameOf}
 use Rattle.tables.specs.StartChecks.{rulesAt}
 use Rattle.tables.proofs.chains.Laws.{Chained, plant-chain, plant-refused, plant-goes, plant-edged, plant-frames, rules-at}
 use Rattle.tables.proofs.start_checks.Laws.{tables-same, plant-bad, plant-good}
@@ -44,13 +44,7 @@ module _ (c : tie.After-enum-told) where
 -- the chain was read
 module _ (x : tie.After-read-chain) where
   abbrev good-plant : tie.After-enum-told
-  good-plant = x .before .before .before .before .before
-
-  abbrev bands : List ℤ
-  bands = x .before .before .before .bands-of .result
-
-  one-band : OneBand (p good-plant .n) (p good-plant .wlo) (p good-plant .whi) bands
-  one-band = x .before .before .before .bands-of .ensures
+  good-plant = x .before .before .before
 
   abbrev f : Frame
   f = x .before .framed .result
@@ -69,14 +63,14 @@ module _ (x : tie.After-read-chain) where
     kept = plant-chain false (p good-plant) (sound good-plant) f framed (start good-plant) chain was-read h
 
     -- the rules of its frames are those of the boxes
-    same : tablesAt (rulesAt f (chain .edges) bands (p good-plant .coef)) (start good-plant) (chain .m + 1) 0 (chain .next)
+    same : tablesAt (rulesAt f (chain .edges) (p good-plant .bands) (p good-plant .coef)) (start good-plant) (chain .m + 1) 0 (chain .next)
         ≡ tablesAt (boxRules (p good-plant) (kept .vs)) (start good-plant) (above (kept .vs) + 1) 0 (chain .next)
     same =
         let plant = p good-plant in
         let s = start good-plant in
         let edged = plant-edged false plant (sound good-plant) f framed s chain was-read kept in
-        ap (λ (g : Frame). tablesAt (rulesAt g (chain .edges) bands (plant .coef)) s (chain .m + 1) 0 (chain .next)) framed
-        ∙ tables-same (rulesAt (frameOf plant) (chain .edges) bands (plant .coef)) (boxRules plant (kept .vs)) (rules-at plant (sound good-plant .ranges .n-high) (chain .edges) (kept .vs) edged bands one-band) s (chain .m + 1) 0 (chain .next)
+        ap (λ (g : Frame). tablesAt (rulesAt g (chain .edges) (plant .bands) (plant .coef)) s (chain .m + 1) 0 (chain .next)) framed
+        ∙ tables-same (rulesAt (frameOf plant) (chain .edges) (plant .bands) (plant .coef)) (boxRules plant (kept .vs)) (rules-at plant (sound good-plant .ranges .n-high) (chain .edges) (kept .vs) edged) s (chain .m + 1) 0 (chain .next)
         ∙ ap (λ (m : ℕ). tablesAt (boxRules plant (kept .vs)) s (m + 1) 0 (chain .next)) (kept .count)
 
 read-plant-requires : tie.Need-read-plant-requires
@@ -88,14 +82,11 @@ enum-known-verdict c = search needs
 enum-told : tie.Need-enum-told
 enum-told c = search needs
 
-bands-of-requires : tie.Need-bands-of-requires
-bands-of-requires c κs = let r = sound (c .before) .ranges in (r .n-low, r .n-high)
-
 framed-requires : tie.Need-framed-requires
 framed-requires c κs = search needs
 
 read-chain-requires : tie.Need-read-chain-requires
-read-chain-requires c κs = subst (λ (f : Frame). f .n ≤ 4) (sym (c .framed .ensures)) (sound (c .before .before .before .before) .ranges .n-high)
+read-chain-requires c κs = subst (λ (f : Frame). f .n ≤ 4) (sym (c .framed .ensures)) (sound (c .before .before) .ranges .n-high)
 
 enum-known-kept : tie.Need-enum-known-kept
 enum-known-kept c = search needs
@@ -108,7 +99,7 @@ tables-at-requires c κs =
     let k = c .before .before .before .before .before in
     let x = k .before .before in
     let g = good-plant x in
-    plant-frames false (p g) (sound g) (f x) (framed x) (start g) (chain x) (was-read x) (kept x (k .enum-told2 .given .1)) (bands x) (one-band x)
+    plant-frames false (p g) (sound g) (f x) (framed x) (start g) (chain x) (was-read x) (kept x (k .enum-told2 .given .1))
 
 returns : tie.Need-returns
 returns c =
@@ -142,7 +133,6 @@ start-check-spec =
     read-plant-requires
     enum-known-verdict
     enum-told
-    bands-of-requires
     framed-requires
     read-chain-requires
     enum-known-kept

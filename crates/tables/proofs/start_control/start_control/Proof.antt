@@ -19,7 +19,7 @@ use Rattle.promises.specs.files.Sound.{Sound}
 use Rattle.tables.specs.declared.chains.ChainRead.{ChainRead}
 use Rattle.tables.specs.declared.frames.Frame.{Frame}
 use Rattle.tables.specs.Chains.{chainRead}
-use Rattle.tables.specs.Frames.{frameOf, OneBand}
+use Rattle.tables.specs.Frames.{frameOf}
 use Rattle.tables.proofs.chains.Laws.{Chained, plant-chain, plant-refused, plant-goes, plant-edged, plant-frames}
 use Rattle.tables.proofs.start_control.Laws.{answer-as, plant-bad, plant-good}
 use Rattle.tables.proofs.start_control.start_control.Statement.{statement}
@@ -51,13 +51,7 @@ module _ (c : tie.After-enum-told) where
 -- the chain was read
 module _ (x : tie.After-read-chain) where
   abbrev good-plant : tie.After-enum-told
-  good-plant = x .before .before .before .before .before
-
-  abbrev bands : List ℤ
-  bands = x .before .before .before .bands-of .result
-
-  one-band : OneBand (p good-plant .n) (p good-plant .wlo) (p good-plant .whi) bands
-  one-band = x .before .before .before .bands-of .ensures
+  good-plant = x .before .before .before
 
   abbrev f : Frame
   f = x .before .framed .result
@@ -84,14 +78,11 @@ enum-known-verdict c = search needs
 enum-told : tie.Need-enum-told
 enum-told c = search needs
 
-bands-of-requires : tie.Need-bands-of-requires
-bands-of-requires c κs = let r = sound (c .before) .ranges in (r .n-low, r .n-high)
-
 framed-requires : tie.Need-framed-requires
 framed-requires c κs = search needs
 
 read-chain-requires : tie.Need-read-chain-requires
-read-chain-requires c κs = subst (λ (f : Frame). f .n ≤ 4) (sym (c .framed .ensures)) (sound (c .before .before .before .before) .ranges .n-high)
+read-chain-requires c κs = subst (λ (f : Frame). f .n ≤ 4) (sym (c .framed .ensures)) (sound (c .before .before) .ranges .n-high)
 
 enum-known-kept : tie.Need-enum-known-kept
 enum-known-kept c = search needs
@@ -104,7 +95,7 @@ start-call-requires c κs =
     let k = c .before .before .before .before .before in
     let x = k .before .before in
     let g = good-plant x in
-    plant-frames false (p g) (sound g) (f x) (framed x) (start g) (chain x) (was-read x) (kept x (k .enum-told2 .given .1)) (bands x) (one-band x)
+    plant-frames false (p g) (sound g) (f x) (framed x) (start g) (chain x) (was-read x) (kept x (k .enum-told2 .given .1))
 
 returns : tie.Need-returns
 returns c =
@@ -128,7 +119,7 @@ returns-3 c =
     let g = good-plant x in
     let t = kept x (k .enum-told2 .given .1) in
     c .start-call .ensures
-    ∙ answer-as (p g) (sound g .ranges .n-high) (chain x .edges) (t .vs) (plant-edged false (p g) (sound g) (f x) (framed x) (start g) (chain x) (was-read x) t) (chain x .m) (t .count) (bands x) (one-band x) (f x) (framed x) (start g) (chain x .next) (state g) (reading g)
+    ∙ answer-as (p g) (sound g .ranges .n-high) (chain x .edges) (t .vs) (plant-edged false (p g) (sound g) (f x) (framed x) (start g) (chain x) (was-read x) t) (chain x .m) (t .count) (f x) (framed x) (start g) (chain x .next) (state g) (reading g)
     ∙ plant-goes false (p g) (sound g) (f x) (framed x) (start g) (chain x) (was-read x) t StartAnswer.Refused (λ vs next. startCall (p g) vs (start g) next (state g) (reading g))
     ∙ plant-good (plant g) (start g) (state g) (reading g) (p g) (taken g)
 
@@ -139,7 +130,6 @@ start-control-spec =
     read-plant-requires
     enum-known-verdict
     enum-told
-    bands-of-requires
     framed-requires
     read-chain-requires
     enum-known-kept

@@ -4,7 +4,6 @@ use mathlib.Core.Path.{_≡_, sym, ap, _∙_, subst}
 use mathlib.Core.Bool.{true}
 use mathlib.Core.List.{List}
 use denote.Ref.{now}
-use lib.IntN.{ℤ}
 use borrow.Author.Needs.{needs}
 use Rattle.meaning.specs.declared.Plant.{Plant}
 use Rattle.meaning.specs.Boxes.{within}
@@ -26,25 +25,22 @@ use Rattle.tables.proofs.start_makes.start_make.Tie as tie
 -- the plant was taken apart
 module _ (x : tie.After-framed) where
   abbrev from : tie.Start
-  from = x .before .before .before .before .before .before .before .before .before .before
+  from = x .before .before .before .before .before .before .before .before
 
   abbrev file : List ℕ
   file = now (from .args .plant)
 
   abbrev plant : Plant
-  plant = x .before .before .before .before .before .before .read-plant .result .plant
+  plant = x .before .before .before .before .read-plant .result .plant
 
   abbrev frame : Frame
   frame = x .framed .result
 
   good-plant : plantJudged file ≡ good plant
-  good-plant = let y = x .before .before .before .before .before .before .read-plant in read-good (plantJudged file) (y .result) (y .ensures) (x .before .before .before .before .enum-told .given .1)
+  good-plant = let y = x .before .before .before .before .read-plant in read-good (plantJudged file) (y .result) (y .ensures) (x .before .before .enum-told .given .1)
 
-  abbrev bands : List ℤ
-  bands = x .before .before .bands-of .result
-
-  sound : FrameSound frame bands (plant .coef)
-  sound = framed-sound plant (judged-sound file plant good-plant) bands (x .before .before .bands-of .ensures) frame (x .framed .ensures)
+  sound : FrameSound frame (plant .bands) (plant .coef)
+  sound = framed-sound plant (judged-sound file plant good-plant) frame (x .framed .ensures)
 
   -- R is the box that its patterns end in, which lies in S
   in-safe : within (boxOf (frame .n) (frame .root)) (boxOf (frame .n) (frame .safe)) ≡ true
@@ -52,8 +48,8 @@ module _ (x : tie.After-framed) where
       subst (λ (f : Frame). within (boxOf (f .n) (f .root)) (boxOf (f .n) (f .safe)) ≡ true) (sym (x .framed .ensures))
       (subst (λ (f : Frame). within (boxOf (f .n) (f .goal)) (boxOf (f .n) (f .safe)) ≡ true) (x .framed .ensures) (sound .in-safe))
 
-  own : chainLeft frame bands (plant .coef) (now (from .args .chain)) (now (from .args .buf)) ≡ startLeft file (now (from .args .chain)) (now (from .args .buf))
-  own = start-own file (now (from .args .chain)) (now (from .args .buf)) plant good-plant (judged-sound file plant good-plant .ranges .n-high) bands (x .before .before .bands-of .ensures) frame (x .framed .ensures)
+  own : chainLeft frame (plant .bands) (plant .coef) (now (from .args .chain)) (now (from .args .buf)) ≡ startLeft file (now (from .args .chain)) (now (from .args .buf))
+  own = start-own file (now (from .args .chain)) (now (from .args .buf)) plant good-plant frame (x .framed .ensures)
 
 read-plant-requires : tie.Need-read-plant-requires
 read-plant-requires c κs = search needs
@@ -66,14 +62,6 @@ refuse-requires c κs = search needs
 
 enum-told : tie.Need-enum-told
 enum-told c = search needs
-
-bands-of-requires : tie.Need-bands-of-requires
-bands-of-requires c κs =
-    let t = c .before in
-    let y = t .before .before .read-plant in
-    let file = now (t .before .before .before .before .before .before .args .plant) in
-    let r = judged-sound file (y .result .plant) (read-good (plantJudged file) (y .result) (y .ensures) (t .enum-told .given .1)) .ranges in
-    (r .n-low, r .n-high)
 
 framed-requires : tie.Need-framed-requires
 framed-requires c κs = search needs
@@ -110,7 +98,6 @@ start-make-spec =
     enum-known-verdict
     refuse-requires
     enum-told
-    bands-of-requires
     framed-requires
     make-start-requires
     same-length

@@ -8,9 +8,9 @@ use Rattle.laws.specs.Integers.{ok64}
 use Rattle.laws.specs.Lists.{at}
 use Rattle.laws.specs.Expressions.{Ex, var, _⊕_, need, exact, under}
 use Rattle.meaning.specs.Boxes.{Side, sideAt}
-use Rattle.meaning.specs.Plants.{bandLimit}
+use Rattle.meaning.specs.Plants.{bandLimit, bandStart}
 use Rattle.promises.specs.files.Sound.{Bounded}
-use Rattle.tables.specs.Images.{sumLimit, bandStart, BandSound}
+use Rattle.tables.specs.Images.{sumLimit, BandSound}
 use Rattle.tables.specs.Limits.{addLimit, divided, dividedIn}
 use Rattle.tables.proofs.images.Laws.{bandHere, band-here, band-small}
 use Rattle.tables.proofs.levels.Laws.{FilledTo, filled-none, filled-more, filled-box}

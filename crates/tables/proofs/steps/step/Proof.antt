@@ -7,8 +7,8 @@ use denote.Ref.{now}
 use Rattle.laws.specs.Tabs.{tab-same}
 use Rattle.laws.specs.Tests.{never}
 use Rattle.meaning.specs.Boxes.{Side, sideAt}
-use Rattle.tables.specs.Images.{bandIn}
 use Rattle.tables.specs.Levels.{wide, boxIn}
+use Rattle.meaning.specs.Plants.{bandSide}
 use Rattle.tables.specs.Limits.{divided, sumsAt, dividedIn, dividedAt}
 use Rattle.tables.proofs.levels.Laws.{beside-none}
 use Rattle.tables.proofs.steps.Laws.{tab-entry}
@@ -45,7 +45,7 @@ returns c =
       (
         λ e. c .divide .ensures .0
             ∙ tab-same (dividedIn (a .n) (a .q) (now (a .bands)) (a .u) slo shi) (dividedAt (a .n) (a .q) (now (a .bands)) (now (a .coef)) (a .u) box) (a .n) 0
-            (λ i l h. ap (λ (z : Side). divided (a .q) (bandIn (a .n) (now (a .bands)) (a .u) i) z) (tab-entry (sideAt slo shi) (sumsAt (a .n) (now (a .coef)) (a .u) box) (a .n) i sums (omega arith))),
+            (λ i l h. ap (λ (z : Side). divided (a .q) (bandSide (a .n) (now (a .bands)) (a .u) i) z) (tab-entry (sideAt slo shi) (sumsAt (a .n) (now (a .coef)) (a .u) box) (a .n) i sums (omega arith))),
         (c .divide .ensures .1, λ e. never (sym e)),
       ),
     )
