@@ -15,7 +15,7 @@ extern "C" {
 /* A plant file. */
 uint64_t hoachulim_plant(const uint8_t *plant, uint64_t plant_length, uint64_t out[2]);
 
-/* The plant of a sheet, made into a lent buffer; no plant has more than 1,183 bytes. out[0] is the length written where the number is 0.
+/* The plant of a sheet, made into a lent buffer; no plant made of a sheet has more than 1,183 bytes. out[0] is the length written where the number is 0.
    Finished, only the plant's bytes are changed; refused, the whole buffer is zeros. */
 uint64_t hoachulim_sheet(const uint8_t *sheet, uint64_t sheet_length,
                          uint8_t *buffer, uint64_t buffer_length, uint64_t out[2]);
@@ -29,14 +29,14 @@ uint64_t hoachulim_check(const uint8_t *plant, uint64_t plant_length,
 uint64_t hoachulim_make(const uint8_t *plant, uint64_t plant_length,
                         uint8_t *buffer, uint64_t buffer_length, uint64_t out[2]);
 
-/* One call of the controller, once each sample. Idle is place 0, left 0; hand back out[2] and out[3] at the next call.
+/* One call of the controller, once each sample. Idle is place 0, left 0; hand back out[3] and out[4] at the next call.
    x0..x3 is the reading; numbers beyond the plant's rooms are ignored.
-   The mode to apply, 255 where the call is refused; out: the refusal's number and place, the next place, the next left.
-   A refused call leaves the controller idle: out[2] and out[3] are 0. */
+   The mode to apply, 255 where the call is refused; out: the refusal's number, place and step, the next place, the next left.
+   A refused call leaves the controller idle: out[3] and out[4] are 0. */
 uint64_t hoachulim_control(const uint8_t *plant, uint64_t plant_length,
                            const uint8_t *table, uint64_t table_length,
                            uint64_t place, uint64_t left,
-                           int64_t x0, int64_t x1, int64_t x2, int64_t x3, uint64_t out[4]);
+                           int64_t x0, int64_t x1, int64_t x2, int64_t x3, uint64_t out[5]);
 
 /* Start files, for rooms that begin far outside R: a chain of boxes R = R0, R1, .. Rm, each holding the one before, all in S, and for each box a table whose
    patterns end in the box below it.

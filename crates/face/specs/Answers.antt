@@ -10,12 +10,12 @@ use Rattle.meaning.specs.declared.StartState.{StartState}
 use Rattle.meaning.specs.declared.StartAnswer.{StartAnswer}
 use Rattle.meaning.specs.Refusals.{Shown, refusal}
 
--- the mode; and number, place, next place, next left
+-- the mode; and number, place, step, next place, next left
 abbrev pub mode : Shown → ℕ
 mode a = natAbs (at (a .values) 0)
 
 abbrev pub numberAndState : Shown → List ℕ
-numberAndState a = a .number ∷ a .place ∷ natAbs (at (a .values) 1) ∷ natAbs (at (a .values) 2) ∷ []
+numberAndState a = a .number ∷ a .place ∷ a .step ∷ natAbs (at (a .values) 1) ∷ natAbs (at (a .values) 2) ∷ []
 
 -- the state that place and left are
 abbrev pub stateOf : ℕ → ℕ → State
@@ -26,7 +26,7 @@ abbrev pub refusalOf : Answer → Refusal
 refusalOf (Answer.Refused e) = e
 refusalOf (Answer.Mode u next) = refusal 0 0 0
 
--- the same of a start file: number, place, step, next index, next place, next left
+-- the same of a start file: the next index stands before place and left
 abbrev pub numbersAndState : Shown → List ℕ
 numbersAndState a = a .number ∷ a .place ∷ a .step ∷ natAbs (at (a .values) 1) ∷ natAbs (at (a .values) 2) ∷ natAbs (at (a .values) 3) ∷ []
 

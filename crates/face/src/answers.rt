@@ -20,8 +20,8 @@ fn refusal(a: Answer) -> Refusal
     e
 }
 
-// The mode of a controller's answer, 255 where it is refused; out holds number and place of the refusal, then the next state.
-pub fn answer(a: Answer, out: &mut [u64; 4]) -> u64
+// The mode of a controller's answer, 255 where it is refused; out holds number, place and step of the refusal, then the next state.
+pub fn answer(a: Answer, out: &mut [u64; 5]) -> u64
     ensures mode { λ r. ⌜ r ≡ mode (answerShown a) ⌝ }
     ensures state { λ r. ⌜ now (out .exit) ≡ numberAndState (answerShown a) ⌝ }
 {
@@ -29,12 +29,13 @@ pub fn answer(a: Answer, out: &mut [u64; 4]) -> u64
         let e = refusal(a);
         let number = e.number as u64;
         let place = e.place as u64;
-        *out = [number, place, 0, 0];
+        let step = e.step as u64;
+        *out = [number, place, step, 0, 0];
         return 255;
     };
     let place = next.place as u64;
     let left = next.left as u64;
-    *out = [0, 0, place, left];
+    *out = [0, 0, 0, place, left];
     u as u64
 }
 

@@ -67,7 +67,7 @@ pub extern "C" fn hoachulim_make(plant: &[u8], buf: &mut [u8], out: &mut [u64; 2
     shown::written(written, out)
 }
 
-// One call of the controller: the mode, 255 where it is refused; out holds number and place of the refusal, then the next place and left.
+// One call of the controller: the mode, 255 where it is refused; out holds number, place and step of the refusal, then the next place and left.
 #[no_mangle]
 pub extern "C" fn hoachulim_control(
     plant: &[u8],
@@ -78,7 +78,7 @@ pub extern "C" fn hoachulim_control(
     x1: i64,
     x2: i64,
     x3: i64,
-    out: &mut [u64; 4],
+    out: &mut [u64; 5],
 ) -> u64
     ensures mode { λ r. ⌜ r ≡ mode (answerShown (controlled (now (plant .entry)) (now (table .entry)) (stateOf place left) (x0 ∷ x1 ∷ x2 ∷ x3 ∷ []))) ⌝ }
     ensures state { λ r. ⌜ now (out .exit) ≡ numberAndState (answerShown (controlled (now (plant .entry)) (now (table .entry)) (stateOf place left) (x0 ∷ x1 ∷ x2 ∷ x3 ∷ []))) ⌝ }

@@ -12,7 +12,7 @@ of-answer e = (ap (λ (a : Answer). mode (answerShown a)) e, ap (λ (a : Answer)
 
 -- what is shown of a refusal that was taken out of its answer
 pub of-refusal : {a : Answer} {e r : Refusal} → a ≡ Answer.Refused e → r ≡ refusalOf a
-    → (255 ≡ mode (answerShown a)) × (r .number ∷ r .place ∷ 0 ∷ 0 ∷ [] ≡ numberAndState (answerShown a))
+    → (255 ≡ mode (answerShown a)) × (r .number ∷ r .place ∷ r .step ∷ 0 ∷ 0 ∷ [] ≡ numberAndState (answerShown a))
 of-refusal h k = let z = k ∙ ap refusalOf h in rw (h, z) (refl, refl)
 
 pub of-start-answer : {a b : StartAnswer} → a ≡ b
