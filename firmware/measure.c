@@ -1,4 +1,5 @@
-/* What a call costs on the emulated board, for firmware/figures: lines "FUNCTION STATE INPUT STACK INSTRUCTIONS NUMBER", the last what it answered.
+/* What a call costs on the emulated board, for firmware/figures: lines "FUNCTION STATE INPUT STACK INSTRUCTIONS NUMBER", the last 0 where
+   nothing was refused.
 
    Stack: the memory below the caller is painted, the function called, and the lowest word that has changed is looked for. Counted are the function, all
    that it calls, and its arguments with the frame that hands them over.
@@ -27,7 +28,7 @@ STORED(start_start, "start.start")
 /* What a call takes: a plant (or a sheet) with a table, a start file or a chain, the state, and the reading. */
 struct input {
     const char *name;
-    struct stored stored;
+    struct stored s;
     uint64_t index, place, left;
     int64_t x[4];
 };
@@ -36,35 +37,29 @@ static const struct input *in;
 static uint8_t buffer[1 << 19];
 static uint64_t out[8], number;
 
-static void call_plant(void) { number = hoachulim_plant(in->stored.plant, in->stored.plant_length, out); }
-static void call_sheet(void) { number = hoachulim_sheet(in->stored.plant, in->stored.plant_length, buffer, sizeof buffer, out); }
-static void call_make(void) { number = hoachulim_make(in->stored.plant, in->stored.plant_length, buffer, sizeof buffer, out); }
+static void call_plant(void) { number = hoachulim_plant(in->s.plant, in->s.plant_length, out); }
+static void call_sheet(void) { number = hoachulim_sheet(in->s.plant, in->s.plant_length, buffer, sizeof buffer, out); }
+static void call_make(void) { number = hoachulim_make(in->s.plant, in->s.plant_length, buffer, sizeof buffer, out); }
+static void call_check(void) { number = hoachulim_check(in->s.plant, in->s.plant_length, in->s.file, in->s.file_length, out); }
+static void call_start_check(void) { number = hoachulim_start_check(in->s.plant, in->s.plant_length, in->s.file, in->s.file_length, out); }
 
-static void call_check(void)
+static void call_start_make(void)
 {
-    number = hoachulim_check(in->stored.plant, in->stored.plant_length, in->stored.file, in->stored.file_length, out);
+    number = hoachulim_start_make(in->s.plant, in->s.plant_length, in->s.file, in->s.file_length, buffer, sizeof buffer, out);
 }
 
 static void call_control(void)
 {
-    number = hoachulim_control(in->stored.plant, in->stored.plant_length, in->stored.file, in->stored.file_length, in->place, in->left, in->x[0], in->x[1],
-                      in->x[2], in->x[3], out);
-}
-
-static void call_start_make(void)
-{
-    number = hoachulim_start_make(in->stored.plant, in->stored.plant_length, in->stored.file, in->stored.file_length, buffer, sizeof buffer, out);
-}
-
-static void call_start_check(void)
-{
-    number = hoachulim_start_check(in->stored.plant, in->stored.plant_length, in->stored.file, in->stored.file_length, out);
+    const int64_t *x = in->x;
+    hoachulim_control(in->s.plant, in->s.plant_length, in->s.file, in->s.file_length, in->place, in->left, x[0], x[1], x[2], x[3], out);
+    number = out[0];
 }
 
 static void call_start_control(void)
 {
-    number = hoachulim_start_control(in->stored.plant, in->stored.plant_length, in->stored.file, in->stored.file_length, in->index, in->place, in->left,
-                            in->x[0], in->x[1], in->x[2], in->x[3], out);
+    const int64_t *x = in->x;
+    hoachulim_start_control(in->s.plant, in->s.plant_length, in->s.file, in->s.file_length, in->index, in->place, in->left, x[0], x[1], x[2], x[3], out);
+    number = out[0];
 }
 
 /* Bytes of stack below here that a call has touched. */

@@ -21,4 +21,7 @@ enum { ANSWERS = 7 };
 
 void answer(const struct call *call, uint64_t said[ANSWERS]);
 
+/* The cases of a file compared (cases.c): the program's exit status. */
+int compare(const char *path);
+
 #endif

@@ -6,7 +6,7 @@
 #include <stdlib.h>
 #include <string.h>
 
-enum { LARGEST = 1 << 20, BEHIND = 16, MARK = 0xAA };
+enum { LARGEST = 1 << 19, BEHIND = 16, MARK = 0xAA };
 
 static const char *const names[FUNCTIONS] = {"plant", "sheet", "make", "check", "control", "start_make", "start_check", "start_control"};
 static uint8_t files[2][LARGEST], buffer[LARGEST], wanted[LARGEST];
@@ -72,13 +72,13 @@ static int differs(uint64_t function)
     return memcmp(said, expected, sizeof said) != 0 || memcmp(buffer, wanted, (size_t)length + BEHIND) != 0;
 }
 
-int main(int count, char **words)
+int compare(const char *path)
 {
     unsigned long answers[FUNCTIONS] = {0}, different = 0, all = 0;
     uint64_t function;
-    from = count == 2 ? fopen(words[1], "rb") : NULL;
+    from = fopen(path, "rb");
     if (from == NULL)
-        fail("cases FILE");
+        fail("no such file");
     while (number(&function)) {
         if (function >= FUNCTIONS)
             fail("no such function");

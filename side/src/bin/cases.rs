@@ -190,8 +190,8 @@ fn tables(random: &mut Random, cases: &mut Cases, bytes: &[u8]) {
         made = cases.make(&other, made + random.within(0, 4) as usize).unwrap_or(made);
         cases.make(&other, random.one(&[0, 3, 20, 200, second::LARGEST_TABLE]));
     }
-    let all: Vec<_> = [Some(any_tree(random, bytes[1])), made_table(bytes), other_table(random, &plant)].into_iter().flatten().collect();
-    for table in &all {
+    let all = [Some(any_tree(random, bytes[1])), made_table(bytes), other_table(random, &plant)];
+    for table in all.iter().flatten() {
         for other in [vec![table.clone(); 4], some_damaged(random, table, EACH)].concat() {
             cases.check(bytes, &other);
             let ((place, left), x) = (any_state(random, &other), any_reading(random, &plant));
@@ -214,8 +214,8 @@ fn starts(random: &mut Random, cases: &mut Cases, bytes: &[u8]) {
     for other in some_damaged(random, &file(&chain), 10) {
         cases.start_make(bytes, &other, 200);
     }
-    let all: Vec<_> = [Some(any_start(random, &plant, &chain)), made_start(bytes, &chain), other_start(random, &plant, &chain)].into_iter().flatten().collect();
-    for start in &all {
+    let all = [Some(any_start(random, &plant, &chain)), made_start(bytes, &chain), other_start(random, &plant, &chain)];
+    for start in all.iter().flatten() {
         let whole = start.bytes();
         let lengths = spoiled_lengths(start).into_iter().map(|(bytes, _)| bytes).collect();
         let moved = spoiled_chain(&plant, &chain).into_iter().map(|(chain, _)| Start { chain, tables: start.tables.clone() }.bytes()).collect();
