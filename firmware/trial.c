@@ -1,4 +1,4 @@
-/* The loop tried against emulated rooms: rooms held by a table, a cold room brought home by a start file, and every way in which a call is refused.
+/* The loop tried against emulated rooms: rooms held by a table, a cold room brought home by a start file, and refusals.
    The same source runs on the emulated board and on the host. Each answer of the library is told, whole, on a line of its own (the calls are wrapped
    by the linker, so that loop.c stays the product's own), and run compares the lines; what the answers promise about the room is tried here.
    The last line is "N trials, M samples, as promised". */
