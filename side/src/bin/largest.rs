@@ -35,7 +35,9 @@ fn largest_plant() -> Vec<u8> {
 /// A tree of the deepest split, every tile with the longest pattern of the last mode.
 fn full_tree(depth: usize) -> Vec<u8> {
     if depth == 0 {
-        return [&[second::LONGEST_PATTERN as u8][..], &[MODES as u8 - 1; second::LONGEST_PATTERN]].concat();
+        let mut tile = vec![U(second::LONGEST_PATTERN as u64)];
+        tile.resize(1 + second::LONGEST_PATTERN, U(MODES as u64 - 1));
+        return file(&tile);
     }
     [&[0][..], &full_tree(depth - 1).repeat(1 << ROOMS)].concat()
 }
