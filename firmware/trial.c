@@ -39,7 +39,7 @@ uint64_t __wrap_hoachulim_control(const uint8_t *plant, uint64_t plant_length, c
                                   uint64_t left, int64_t x0, int64_t x1, int64_t x2, int64_t x3, uint64_t *out)
 {
     uint64_t mode = __real_hoachulim_control(plant, plant_length, table, table_length, place, left, x0, x1, x2, x3, out);
-    tell_answer(left == 0, (int64_t[]){x0, x1, x2, x3}, mode, out, 4);
+    tell_answer(left == 0, (int64_t[]){x0, x1, x2, x3}, mode, out, 5);
     return mode;
 }
 
