@@ -14,29 +14,29 @@ use Rattle.meaning.specs.Sheets.{zeroF, noRoom}
 
 -- ---- plants
 
--- n, N, q, K, D
+-- form, n, N, q, K, D
 abbrev pub plantHeader : Plant → List ℕ
-plantHeader p = p .n ∷ p .modes ∷ p .q ∷ p .k ∷ p .d ∷ []
+plantHeader p = p .form ∷ p .n ∷ p .modes ∷ p .q ∷ p .k ∷ p .d ∷ []
 
--- R lo, R hi, S lo, S hi, w lo, w hi
+-- R lo, R hi, S lo, S hi
 abbrev pub plantEdges : Plant → List (List ℤ)
-plantEdges p = p .rlo ∷ p .rhi ∷ p .slo ∷ p .shi ∷ p .wlo ∷ p .whi ∷ []
+plantEdges p = p .rlo ∷ p .rhi ∷ p .slo ∷ p .shi ∷ []
 
 -- the plant that is handed in
-abbrev pub plantHanded : List ℕ → List (List ℤ) → List ℤ → Plant
-plantHanded header edges coef =
+abbrev pub plantHanded : List ℕ → List (List ℤ) → List ℤ → List ℤ → Plant
+plantHanded header edges bands coef =
     record {
-      n = getD header 0 0;
-      modes = getD header 1 0;
-      q = getD header 2 0;
-      k = getD header 3 0;
-      d = getD header 4 0;
+      form = getD header 0 0;
+      n = getD header 1 0;
+      modes = getD header 2 0;
+      q = getD header 3 0;
+      k = getD header 4 0;
+      d = getD header 5 0;
       rlo = getD edges 0 [];
       rhi = getD edges 1 [];
       slo = getD edges 2 [];
       shi = getD edges 3 [];
-      wlo = getD edges 4 [];
-      whi = getD edges 5 [];
+      bands = bands;
       coef = coef;
     }
 
@@ -89,6 +89,7 @@ roomsFrom kinds v = four λ i. roomFrom (getD kinds i 0) (getD v i [])
 abbrev pub sheetHeader : Sheet → List ℕ
 sheetHeader h = h .n ∷ h .r ∷ h .q ∷ h .k ∷ h .d ∷ []
 
+-- R lo, R hi, S lo, S hi, w lo, w hi
 abbrev pub sheetEdges : Sheet → List (List ℤ)
 sheetEdges h = h .rlo ∷ h .rhi ∷ h .slo ∷ h .shi ∷ h .wlo ∷ h .whi ∷ []
 

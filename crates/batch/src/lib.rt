@@ -5,6 +5,7 @@ mod rooms;
 
 use face::shown;
 use files::plants;
+use meaning::BANDS;
 use meaning::COEFFICIENTS;
 use meaning::Plant;
 use meaning::Sheet;
@@ -15,13 +16,14 @@ ghost use Rattle.meaning.specs.Refusals.{verdictShown, writtenShown};
 ghost use Rattle.face.specs.Shown.{placeAndStep, lengthOrPlace};
 ghost use Rattle.batch.specs.Values.{plantHeader, plantEdges, plantHanded, kindsOf, allFloatsOf, sheetHeader, sheetEdges, sheetTimes, sheetHanded};
 
-// A plant file: 0, or the number that it is refused by; out holds place and step. Its values: n, N, q, K, D; R lo, R hi, S lo, S hi, w lo, w hi; the
+// A plant file: 0, or the number that it is refused by; out holds place and step. Its values: form, n, N, q, K, D; R lo, R hi, S lo, S hi; the bands; the
 // coefficients.
 #[no_mangle]
 pub extern "C" fn batch_read_plant(
     plant: &[u8],
-    header: &mut [usize; 5],
-    edges: &mut [[i64; 4]; 6],
+    header: &mut [usize; 6],
+    edges: &mut [[i64; 4]; 4],
+    bands: &mut [i64; BANDS],
     coef: &mut [i64; COEFFICIENTS],
     out: &mut [u64; 2],
 ) -> u64
@@ -29,6 +31,7 @@ pub extern "C" fn batch_read_plant(
     ensures place { λ r. ⌜ now (out .exit) ≡ placeAndStep (verdictShown (plantRead (now (plant .entry)) .verdict)) ⌝ }
     ensures header { λ r. ⌜ now (header .exit) ≡ plantHeader (plantRead (now (plant .entry)) .plant) ⌝ }
     ensures edges { λ r. ⌜ now (edges .exit) ≡ plantEdges (plantRead (now (plant .entry)) .plant) ⌝ }
+    ensures bands { λ r. ⌜ now (bands .exit) ≡ plantRead (now (plant .entry)) .plant .bands ⌝ }
     ensures coef { λ r. ⌜ now (coef .exit) ≡ plantRead (now (plant .entry)) .plant .coef ⌝ }
 {
     let read = plants::read_plant(plant);
@@ -37,12 +40,12 @@ pub extern "C" fn batch_read_plant(
     let rhi = p.rhi;
     let slo = p.slo;
     let shi = p.shi;
-    let wlo = p.wlo;
-    let whi = p.whi;
-    let sides = [rlo, rhi, slo, shi, wlo, whi];
+    let sides = [rlo, rhi, slo, shi];
+    let ends = p.bands;
     let rows = p.coef;
-    *header = [p.n, p.modes, p.q, p.k, p.d];
+    *header = [p.form, p.n, p.modes, p.q, p.k, p.d];
     *edges = sides;
+    *bands = ends;
     *coef = rows;
     let verdict = read.verdict;
     shown::verdict(verdict, out)
@@ -51,43 +54,43 @@ pub extern "C" fn batch_read_plant(
 // The plant file of such values into a lent buffer: 0, or the number of the refusal; out holds the length written, or place and step.
 #[no_mangle]
 pub extern "C" fn batch_write_plant(
-    header: &[usize; 5],
-    edges: &[[i64; 4]; 6],
+    header: &[usize; 6],
+    edges: &[[i64; 4]; 4],
+    bands: &[i64; BANDS],
     coef: &[i64; COEFFICIENTS],
     buf: &mut [u8],
     out: &mut [u64; 2],
 ) -> u64
-    ensures number { λ r. ⌜ r ≡ writtenShown (plantLeft (plantHanded (now (header .entry)) (now (edges .entry)) (now (coef .entry))) (now (buf .entry)) .answer) .number ⌝ }
-    ensures length { λ r. ⌜ now (out .exit) ≡ lengthOrPlace (plantLeft (plantHanded (now (header .entry)) (now (edges .entry)) (now (coef .entry))) (now (buf .entry)) .answer) ⌝ }
-    ensures bytes { λ r. ⌜ now (buf .exit) ≡ plantLeft (plantHanded (now (header .entry)) (now (edges .entry)) (now (coef .entry))) (now (buf .entry)) .buffer ⌝ }
+    ensures number { λ r. ⌜ r ≡ writtenShown (plantLeft (plantHanded (now (header .entry)) (now (edges .entry)) (now (bands .entry)) (now (coef .entry))) (now (buf .entry)) .answer) .number ⌝ }
+    ensures length { λ r. ⌜ now (out .exit) ≡ lengthOrPlace (plantLeft (plantHanded (now (header .entry)) (now (edges .entry)) (now (bands .entry)) (now (coef .entry))) (now (buf .entry)) .answer) ⌝ }
+    ensures bytes { λ r. ⌜ now (buf .exit) ≡ plantLeft (plantHanded (now (header .entry)) (now (edges .entry)) (now (bands .entry)) (now (coef .entry))) (now (buf .entry)) .buffer ⌝ }
 {
     let rlo = edges[0];
     let rhi = edges[1];
     let slo = edges[2];
     let shi = edges[3];
-    let wlo = edges[4];
-    let whi = edges[5];
+    let ends = *bands;
     let rows = *coef;
     let p = Plant {
-        n: header[0],
-        modes: header[1],
-        q: header[2],
-        k: header[3],
-        d: header[4],
+        form: header[0],
+        n: header[1],
+        modes: header[2],
+        q: header[3],
+        k: header[4],
+        d: header[5],
         rlo,
         rhi,
         slo,
         shi,
-        wlo,
-        whi,
+        bands: ends,
         coef: rows,
     };
     let written = plants::write_plant(p, buf);
     shown::written(written, out)
 }
 
-// A sheet file: 0, or the number that it is refused by; out holds place and step. Its values: n, r, q, K, D; the edges as a plant's; sample time and outside
-// temperature; each room's emitter number, and its floats (rooms).
+// A sheet file: 0, or the number that it is refused by; out holds place and step. Its values: n, r, q, K, D; R lo, R hi, S lo, S hi, w lo, w hi; sample time
+// and outside temperature; each room's emitter number, and its floats (rooms).
 #[no_mangle]
 pub extern "C" fn batch_read_sheet(
     sheet: &[u8],

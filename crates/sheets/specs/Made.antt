@@ -7,12 +7,12 @@ use Rattle.laws.specs.Lists.{tab, all, firstFalse}
 use Rattle.meaning.specs.declared.Plant.{Plant}
 use Rattle.meaning.specs.declared.Sheet.{Sheet}
 use Rattle.meaning.specs.declared.Whole.{Whole}
-use Rattle.meaning.specs.Plants.{entryLimit, offsetLimit, mostCoefs, coefCount}
+use Rattle.meaning.specs.Plants.{entryLimit, offsetLimit, mostBands, mostCoefs, coefCount}
 use Rattle.meaning.specs.Sheets.{wholeOf, coefficient, offset, madeModes, madeNumbers, isNear}
 use Rattle.sheets.specs.declared.made.Entries.{Entries}
 use Rattle.sheets.specs.declared.made.Made.{Made}
 use Rattle.sheets.specs.Wholes.{firstOut, held}
-use Rattle.sheets.specs.Bands.{lowEnd, highEnd}
+use Rattle.sheets.specs.Bands.{endAt}
 
 -- the p-th coefficient in file order: column p % (n + 1) of row p / (n + 1), which is row i of mode u where that is u·n + i
 unfoldable pub entryAt : Sheet → ℕ → Whole
@@ -28,6 +28,7 @@ entriesOf h count = record { first = firstOut (tab (entryAt h) count 0); coef = 
 -- the plant that is made, as the code holds it: 0 where a number is out, and the sheet's own arrays of edges
 abbrev pub heldPlant : Sheet → Plant
 heldPlant h = record {
+  form = 1;
   n = h .n;
   modes = madeModes h;
   q = h .q;
@@ -37,8 +38,7 @@ heldPlant h = record {
   rhi = h .rhi;
   slo = h .slo;
   shi = h .shi;
-  wlo = held 4 (lowEnd h) (h .n);
-  whi = held 4 (highEnd h) (h .n);
+  bands = held mostBands (endAt h) (2 * h .n * madeModes h);
   coef = held mostCoefs (entryAt h) (coefCount (madeModes h) (h .n));
 }
 

@@ -3,7 +3,7 @@
 use Prim.Native.Nat.{ℕ}
 use mathlib.Core.Path.{_≡_, refl}
 use mathlib.Core.Bool.{Bool, true, false}
-use mathlib.Core.List.{List, _++_, map}
+use mathlib.Core.List.{List, [], _∷_, _++_, map}
 use lib.IntN.{ℤ}
 use lib.Ieee.{Float}
 use Rattle.laws.specs.Guards.{guard}
@@ -14,9 +14,9 @@ use Rattle.meaning.specs.declared.Sheet.{Sheet}
 use Rattle.meaning.specs.declared.SheetRead.{SheetRead}
 use Rattle.meaning.specs.Refusals.{notInSafe, narrow}
 use Rattle.meaning.specs.Files.{Form, end, Read, read, refused, valuesOf, Judged, good, bad}
-use Rattle.meaning.specs.Boxes.{sidesOf, lies}
-use Rattle.meaning.specs.Plants.{times, wide, related}
-use Rattle.meaning.specs.Sheets.{above, roomForm, sheetForm, sheetOf, fitting, sheetRelated, sheetReadOf}
+use Rattle.meaning.specs.Boxes.{lies}
+use Rattle.meaning.specs.Plants.{times, wide, wideModes, related}
+use Rattle.meaning.specs.Sheets.{above, roomForm, sheetForm, sheetOf, fitting, rootSheet, safeSheet, bandsSheet, sheetRelated, sheetReadOf}
 use Rattle.files.specs.declared.beginnings.Beginning.{Beginning}
 use Rattle.files.specs.Bodies.{bodyJudged}
 use Rattle.files.specs.Drafts.{draftBytes}
@@ -30,7 +30,7 @@ abbrev pub unfittedOf : Read (List ℤ) → Judged Sheet
 unfittedOf (refused r) = bad r
 unfittedOf (read vs next) =
     let h = sheetOf vs in
-    related (h .q) (sidesOf (h .n) (h .rlo) (h .rhi)) (sidesOf (h .n) (h .slo) (h .shi)) (sidesOf (h .n) (h .wlo) (h .whi)) λ _. good h
+    related (h .q) (rootSheet h) (safeSheet h) (bandsSheet h ∷ []) λ _. good h
 
 unfoldable pub unfitted : List ℕ → SheetRead
 unfitted s = sheetReadOf (unfittedOf (valuesOf sheetForm s))
@@ -41,6 +41,7 @@ thenFitting (bad r) = bad r
 thenFitting (good h) = fitting h λ _. good h
 
 pub fitted : (x : Read (List ℤ)) → sheetRelated x ≡ thenFitting (unfittedOf x)
+unfolding wideModes
 fitted (refused r) = refl
 fitted (read vs next) = go (all inSafe) (all allWide)
   where
@@ -48,22 +49,22 @@ fitted (read vs next) = go (all inSafe) (all allWide)
     h = sheetOf vs
 
     inSafe : List Bool
-    inSafe = lies (sidesOf (h .n) (h .rlo) (h .rhi)) (sidesOf (h .n) (h .slo) (h .shi))
+    inSafe = lies (rootSheet h) (safeSheet h)
 
     allWide : List Bool
-    allWide = map (wide (h .q)) (sidesOf (h .n) (h .wlo) (h .whi))
+    allWide = map (wide (h .q)) (bandsSheet h)
 
     go : (x y : Bool)
-        → guard x (bad (notInSafe (firstFalse inSafe))) (λ _. guard y (bad (narrow (firstFalse allWide))) (λ _. fitting h λ _. good h))
-        ≡ thenFitting (guard x (bad (notInSafe (firstFalse inSafe))) (λ _. guard y (bad (narrow (firstFalse allWide))) (λ _. good h)))
+        → guard x (bad (notInSafe (firstFalse inSafe))) (λ _. guard y (bad (narrow 0 (firstFalse allWide))) (λ _. fitting h λ _. good h))
+        ≡ thenFitting (guard x (bad (notInSafe (firstFalse inSafe))) (λ _. guard y (bad (narrow 0 (firstFalse allWide))) (λ _. good h)))
     go true true = refl
     go true false = refl
     go false y = refl
 
 -- ---- the parts behind the beginning: sample time and outside temperature, then the rooms
 
-abbrev pub roomsForm : ℕ → ℕ → Form
-roomsForm n r = twoPart above (times n (roomForm n) end)
+abbrev pub roomsForm : ℕ → ℕ → ℕ → Form
+roomsForm form n r = twoPart above (times n (roomForm n) end)
 
 -- the whole file, its beginning having been read
 abbrev pub bodyRead : List ℕ → Beginning → ℕ → SheetRead
@@ -90,6 +91,7 @@ sheetWith b time outside rooms = record {
 
 abbrev pub sheetBeginning : Sheet → Beginning
 sheetBeginning h = record {
+  form = 1;
   n = h .n;
   m = h .r;
   q = h .q;

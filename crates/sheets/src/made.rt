@@ -83,17 +83,17 @@ pub fn make(h: Sheet) -> Made
     let n = h.n;
     let modes = modes(h);
     let count = modes * n * (n + 1);
-    let b = bands::widened(h);
+    let b = bands::widened(h, modes);
     let c = coefficients(h, count);
     let first = wholes::joined(b.first, 2 * n, c.first);
     let rlo = h.rlo;
     let rhi = h.rhi;
     let slo = h.slo;
     let shi = h.shi;
-    let wlo = b.wlo;
-    let whi = b.whi;
+    let bands = b.ends;
     let coef = c.coef;
     let plant = Plant {
+        form: 1,
         n,
         modes,
         q: h.q,
@@ -103,8 +103,7 @@ pub fn make(h: Sheet) -> Made
         rhi,
         slo,
         shi,
-        wlo,
-        whi,
+        bands,
         coef,
     };
     Made {

@@ -88,7 +88,7 @@ fn accepted(b: Beginning, time: f64, outside: f64, rooms: [Room; 4]) -> SheetRea
 
 // What stands behind a beginning: two floats and the rooms, then what is asked of the whole.
 fn read_body(s: &[u8], b: Beginning, related: Verdict, at: usize) -> SheetRead
-    requires { ⌜ Begun 1000 (now s) b at ⌝ ∗ ⌜ related ≡ relation b ⌝ }
+    requires { ⌜ Begun 1 1000 (now s) b at ⌝ ∗ ⌜ related ≡ relation b ⌝ }
     ensures value { λ r. ⌜ r ≡ bodyRead (now (s .entry)) b at ⌝ }
     ensures sized { λ r. ⌜ TakenSized r ⌝ }
 {
@@ -122,7 +122,7 @@ fn read_values(s: &[u8]) -> SheetRead
     ensures value { λ r. ⌜ r ≡ unfitted (now (s .entry)) ⌝ }
     ensures sized { λ r. ⌜ TakenSized r ⌝ }
 {
-    let read = beginnings::read_beginning(s, 1_000);
+    let read = beginnings::read_beginning(s, 1, 1_000);
     let past = read.answer;
     match past {
         Walk::Refused(e) => refused(e),
@@ -177,6 +177,7 @@ fn put_sheet(h: Sheet, buf: &mut [u8]) -> usize
     let wlo = h.wlo;
     let whi = h.whi;
     let b = Beginning {
+        form: 1,
         n,
         m: r,
         q: h.q,

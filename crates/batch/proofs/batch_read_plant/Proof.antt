@@ -15,12 +15,13 @@ verdict-requires c κs = search needs
 
 returns : tie.Need-returns
 returns c =
-    let e = c .before .before .before .before .before .before .before .before .before .before .before .read-plant .ensures in
+    let e = c .before .before .before .before .before .before .before .before .before .before .read-plant .ensures in
     let v = of-case (ap (λ (r : PlantRead). r .verdict) e) in
     let header = ap (λ (r : PlantRead). plantHeader (r .plant)) e in
     let edges = ap (λ (r : PlantRead). plantEdges (r .plant)) e in
+    let bands = ap (λ (r : PlantRead). r .plant .bands) e in
     let coef = ap (λ (r : PlantRead). r .plant .coef) e in
-    (c .verdict .ensures .0 ∙ v .0, (c .verdict .ensures .1 ∙ v .1, (header, (edges, coef))))
+    (c .verdict .ensures .0 ∙ v .0, (c .verdict .ensures .1 ∙ v .1, (header, (edges, (bands, coef)))))
 
 pub batch-read-plant-spec : {M : Type 1} → statement M
 batch-read-plant-spec = tie.close (tie.spec read-plant-requires verdict-requires returns)

@@ -17,26 +17,23 @@ element-copy-out-slo c = search needs
 element-copy-out-shi : tie.Need-element-copy-out-shi
 element-copy-out-shi c = search needs
 
-element-copy-out-wlo : tie.Need-element-copy-out-wlo
-element-copy-out-wlo c = search needs
+element-copy-out-t26 : tie.Need-element-copy-out-t26
+element-copy-out-t26 c = search needs
 
-element-copy-out-whi : tie.Need-element-copy-out-whi
-element-copy-out-whi c = search needs
+element-copy-out-t29 : tie.Need-element-copy-out-t29
+element-copy-out-t29 c = search needs
 
-element-copy-out-t30 : tie.Need-element-copy-out-t30
-element-copy-out-t30 c = search needs
+element-copy-out-t32 : tie.Need-element-copy-out-t32
+element-copy-out-t32 c = search needs
 
-element-copy-out-t33 : tie.Need-element-copy-out-t33
-element-copy-out-t33 c = search needs
+element-copy-out-t35 : tie.Need-element-copy-out-t35
+element-copy-out-t35 c = search needs
 
-element-copy-out-t36 : tie.Need-element-copy-out-t36
-element-copy-out-t36 c = search needs
+element-copy-out-t38 : tie.Need-element-copy-out-t38
+element-copy-out-t38 c = search needs
 
-element-copy-out-t39 : tie.Need-element-copy-out-t39
-element-copy-out-t39 c = search needs
-
-element-copy-out-t42 : tie.Need-element-copy-out-t42
-element-copy-out-t42 c = search needs
+element-copy-out-t41 : tie.Need-element-copy-out-t41
+element-copy-out-t41 c = search needs
 
 write-plant-requires : tie.Need-write-plant-requires
 write-plant-requires c κs = search needs
@@ -61,13 +58,12 @@ batch-write-plant-spec =
     element-copy-out-rhi
     element-copy-out-slo
     element-copy-out-shi
-    element-copy-out-wlo
-    element-copy-out-whi
-    element-copy-out-t30
-    element-copy-out-t33
-    element-copy-out-t36
-    element-copy-out-t39
-    element-copy-out-t42
+    element-copy-out-t26
+    element-copy-out-t29
+    element-copy-out-t32
+    element-copy-out-t35
+    element-copy-out-t38
+    element-copy-out-t41
     write-plant-requires
     written-requires
     same-length

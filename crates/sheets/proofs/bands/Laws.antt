@@ -1,10 +1,10 @@
--- The widening, and the ends of a band: sizes, and what the code's tests say. Assumes nothing.
-use Prim.Native.Nat.{ℕ, zero, suc, _+_, _*_, _/_, _≤_, _<_, max}
-use mathlib.Core.Path.{_≡_, refl, sym, ap, _∙_, subst}
+-- The widening, and the ends of a band: sizes, and what the code's tests say; the ends of mode 0, and of all modes. Assumes nothing.
+use Prim.Native.Nat.{ℕ, zero, suc, _+_, _-_, _*_, _/_, _%_, _≤_, _<_, max}
+use mathlib.Core.Path.{_≡_, refl, sym, ap, _∙_}
 use mathlib.Core.List.{List, [], _∷_, _++_, append-assoc}
 use native.Mathlib.Omega.{arith}
 use native.Mathlib.Numerals.{add-one}
-use native.Mathlib.Nat.{mul-le-mul, zero-add}
+use native.Mathlib.Nat.{le-refl, mul-le-mul, zero-add, mod-eq-of-lt, mod-eq-sub-mod}
 use borrow.Author.Tests.{le-leb, lt-leb}
 use lib.Dec.{T}
 use lib.ListN.{length, set, replicate, length-append}
@@ -20,13 +20,13 @@ use Rattle.laws.specs.Lists.{at, tabs, firstFalse}
 use Rattle.laws.specs.Tabs.{tabs-snoc, length-tabs}
 use Rattle.meaning.specs.declared.Sheet.{Sheet}
 use Rattle.meaning.specs.declared.Whole.{Whole}
-use Rattle.meaning.specs.Plants.{edgeLimit, bandLimit}
+use Rattle.meaning.specs.Plants.{edgeLimit, bandLimit, mostModes, mostBands}
 use Rattle.meaning.specs.Sheets.{limitedTo, largestEdge, widening, madeBand, nearValue}
 use Rattle.sheets.specs.declared.bands.Bands.{Bands}
 use Rattle.sheets.specs.Sizes.{Sized}
 use Rattle.sheets.specs.Wholes.{firstOut, joined, near, held}
-use Rattle.sheets.specs.Bands.{lowEnd, highEnd, bandsOf}
-use Rattle.sheets.proofs.wholes.Counts.{joined-one, Holding, holding-none, holding-more, holding-all}
+use Rattle.sheets.specs.Bands.{lowEnd, highEnd, endAt, bandsOf}
+use Rattle.sheets.proofs.wholes.Counts.{joined-one, Holding, holding-none, holding-more, holding-at, holding-all}
 
 -- ---- the size of a number below 0
 
@@ -88,17 +88,40 @@ high-out v h = simp (lt-leb (natAbs v) bandLimit (omega (zarith, abs v, apart v)
 pub end-in : (v : ℤ) → negsuc 999999999 ≤ℤ v → v ≤ℤ pos 1000000000 → Whole.Near v ≡ limitedTo bandLimit v
 end-in v h l = simp (le-leb (natAbs v) bandLimit (within bandLimit h l))
 
--- ---- the bands of i dimensions
+-- ---- the ends in plant order
 
-pub record BandsUpTo (h : Sheet) (i : ℕ) (wlo whi : List ℤ) (first : ℕ) : Type 0 where
+module _ (h : Sheet) (i : ℕ) (inside : i < h .n) where
+  pub low-at : endAt h (2 * i) ≡ lowEnd h i
+  unfolding endAt
+  low-at =
+      let e : 2 * i % (2 * h .n) ≡ 2 * i = mod-eq-of-lt (omega arith) in
+      let r : 2 * i % 2 ≡ 0 = omega arith in
+      let d : 2 * i / 2 ≡ i = omega arith in
+      rw (e, r, d) refl
+
+  pub high-at : endAt h (2 * i + 1) ≡ highEnd h i
+  unfolding endAt
+  high-at =
+      let e : (2 * i + 1) % (2 * h .n) ≡ 2 * i + 1 = mod-eq-of-lt (omega arith) in
+      let r : (2 * i + 1) % 2 ≡ 1 = omega arith in
+      let d : (2 * i + 1) / 2 ≡ i = omega arith in
+      rw (e, r, d) refl
+
+-- a mode further on they are the same
+again : (h : Sheet) (p : ℕ) → 2 * h .n ≤ p → endAt h (p - 2 * h .n) ≡ endAt h p
+unfolding endAt
+again h p l = let m : p % (2 * h .n) ≡ (p - 2 * h .n) % (2 * h .n) = mod-eq-sub-mod l in rw m refl
+
+-- ---- mode 0: the bands of i dimensions
+
+pub record BandsUpTo (h : Sheet) (i : ℕ) (ends : List ℤ) (first : ℕ) : Type 0 where
   pub few : i ≤ h .n
-  pub low : Holding 4 (lowEnd h) i wlo
-  pub high : Holding 4 (highEnd h) i whi
+  pub values : Holding mostBands (endAt h) (2 * i) ends
   pub out : first ≡ firstOut (tabs (madeBand h) i 0)
 
-pub bands-none : (h : Sheet) → BandsUpTo h 0 (replicate 4 (pos 0)) (replicate 4 (pos 0)) 0
+pub bands-none : (h : Sheet) → BandsUpTo h 0 (replicate mostBands (pos 0)) 0
 unfolding tabs firstFalse
-bands-none h = record { few = omega arith; low = holding-none 4 (lowEnd h); high = holding-none 4 (highEnd h); out = refl }
+bands-none h = record { few = omega arith; values = holding-none mostBands (endAt h); out = refl }
 
 -- the numbers of i dimensions, and those of one more
 module _ (h : Sheet) (i : ℕ) where
@@ -121,20 +144,48 @@ module _ (h : Sheet) (i : ℕ) where
       let longer : 2 * i + 1 ≡ length (before ++ lowEnd h i ∷ []) = omega (arith, long, length-append before (lowEnd h i ∷ [])) in
       joined-one (before ++ lowEnd h i ∷ []) (highEnd h i) (joined first (2 * i) (near (lowEnd h i))) (2 * i + 1) next longer ∙ ap firstOut (sym behind)
 
-pub bands-more : {h : Sheet} {i : ℕ} {wlo whi : List ℤ} {first : ℕ} → BandsUpTo h i wlo whi first → i < h .n → h .n ≤ 4
-    → BandsUpTo h (i + 1) (set wlo i (nearValue (lowEnd h i))) (set whi i (nearValue (highEnd h i))) (joined (joined first (2 * i) (near (lowEnd h i))) (2 * i + 1) (near (highEnd h i)))
-bands-more {h} {i} {wlo} {whi} {first} b l few = record {
+pub bands-more : {h : Sheet} {i : ℕ} {ends : List ℤ} {first : ℕ} → BandsUpTo h i ends first → i < h .n → h .n ≤ 4
+    → BandsUpTo h (i + 1) (set (set ends (2 * i) (nearValue (lowEnd h i))) (2 * i + 1) (nearValue (highEnd h i))) (joined (joined first (2 * i) (near (lowEnd h i))) (2 * i + 1) (near (highEnd h i)))
+bands-more {h} {i} {ends} {first} b l few = record {
   few = omega arith;
-  low = holding-more 4 (lowEnd h) i wlo (omega arith) (b .low);
-  high = holding-more 4 (highEnd h) i whi (omega arith) (b .high);
+  values =
+      let e : 2 * i + 1 + 1 ≡ 2 * (i + 1) = omega arith in
+      let one = rw (low-at h i l) at (holding-more mostBands (endAt h) (2 * i) ends (omega arith) (b .values)) in
+      rw (e, high-at h i l) at (holding-more mostBands (endAt h) (2 * i + 1) (set ends (2 * i) (nearValue (lowEnd h i))) (omega arith) one);
   out = out-more h i first (b .out);
 }
 
-pub bands-all : {h : Sheet} {i : ℕ} {wlo whi : List ℤ} {first : ℕ} → BandsUpTo h i wlo whi first → h .n ≤ i → h .n ≤ 4
-    → _≡_ {A = Bands} (record { first = first; wlo = wlo; whi = whi }) (bandsOf h)
-bands-all {h} {i} {wlo} {whi} {first} b l few =
-    let e : i ≡ h .n = omega (arith, b .few) in
-    let lo : wlo ≡ held 4 (lowEnd h) (h .n) = holding-all 4 (lowEnd h) (h .n) wlo few (subst (λ (k : ℕ). Holding 4 (lowEnd h) k wlo) e (b .low)) in
-    let hi : whi ≡ held 4 (highEnd h) (h .n) = holding-all 4 (highEnd h) (h .n) whi few (subst (λ (k : ℕ). Holding 4 (highEnd h) k whi) e (b .high)) in
-    let out : first ≡ firstOut (tabs (madeBand h) (h .n) 0) = b .out ∙ ap (λ (k : ℕ). firstOut (tabs (madeBand h) k 0)) e in
-    rw (out, lo, hi) refl
+-- ---- the further modes: the first p ends
+
+pub record EndsUpTo (h : Sheet) (modes p : ℕ) (ends : List ℤ) : Type 0 where
+  pub some : 2 * h .n ≤ p
+  pub few : p ≤ 2 * h .n * modes
+  pub values : Holding mostBands (endAt h) p ends
+
+module _ (h : Sheet) (s : Sized h) (modes : ℕ) (many : modes ≤ mostModes) where
+  pub ends-small : 2 * h .n * modes ≤ mostBands
+  ends-small = omega (arith, mul-le-mul (s .few) many)
+
+  pub ends-first : {i : ℕ} {ends : List ℤ} {first : ℕ} → 1 ≤ modes → BandsUpTo h i ends first → h .n ≤ i → EndsUpTo h modes (2 * h .n) ends
+  ends-first {i} {ends} {first} some b l =
+      let e : i ≡ h .n = omega (arith, b .few) in
+      record { some = omega arith; few = omega (arith, mul-le-mul (le-refl (2 * h .n)) some); values = rw e at (b .values) }
+
+  pub ends-more : {p : ℕ} {ends : List ℤ} → EndsUpTo h modes p ends → p < 2 * h .n * modes → EndsUpTo h modes (p + 1) (set ends p (at ends (p - 2 * h .n)))
+  ends-more {p} {ends} w l = record {
+    some = omega (arith, w .some);
+    few = omega arith;
+    values = rw (← same) at (holding-more mostBands (endAt h) p ends (omega (arith, ends-small)) (w .values));
+  }
+    where
+      same : at ends (p - 2 * h .n) ≡ nearValue (endAt h p)
+      same = holding-at mostBands (endAt h) p ends (w .values) (p - 2 * h .n) (omega (arith, w .some, s .some)) ∙ ap nearValue (again h p (w .some))
+
+  pub ends-all : {i p : ℕ} {ends₀ ends : List ℤ} {first : ℕ} → BandsUpTo h i ends₀ first → h .n ≤ i → EndsUpTo h modes p ends → 2 * h .n * modes ≤ p
+      → _≡_ {A = Bands} (record { first = first; ends = ends }) (bandsOf h modes)
+  ends-all {i} {p} {ends₀} {ends} {first} b l w g =
+      let e : i ≡ h .n = omega (arith, b .few) in
+      let q : p ≡ 2 * h .n * modes = omega (arith, w .few) in
+      let values : ends ≡ held mostBands (endAt h) (2 * h .n * modes) = holding-all mostBands (endAt h) (2 * h .n * modes) ends ends-small (rw q at (w .values)) in
+      let out : first ≡ firstOut (tabs (madeBand h) (h .n) 0) = b .out ∙ ap (λ (k : ℕ). firstOut (tabs (madeBand h) k 0)) e in
+      rw (out, values) refl

@@ -8,7 +8,7 @@ use native.Mathlib.Omega.{arith}
 use native.Mathlib.Nat.{le-trans, lt-of-lt-of-le, mod-lt, zero-add, add-zero, mul-comm, mul-assoc, mul-add, mul-le-mul, one-le-mul, mod-eq-of-lt, div-eq-of-lt, mul-add-div, mul-add-mod-self-left}
 use borrow.Author.Tests.{lt-ltb, le-ltb}
 use lib.Dec.{ltb}
-use lib.Pow.{pow-mono}
+use lib.Pow.{pow-pos, pow-mono}
 use lib.ListN.{set, replicate}
 use lib.IntN.{ℤ, pos}
 use lib.Ieee.{Float}
@@ -17,8 +17,8 @@ use Rattle.laws.specs.Tabs.{length-tab, tab-snoc}
 use Rattle.laws.specs.Columns.{tabs-tab}
 use Rattle.meaning.specs.declared.Sheet.{Sheet}
 use Rattle.meaning.specs.declared.Whole.{Whole}
-use Rattle.meaning.specs.Plants.{entryLimit, offsetLimit, mostCoefs, coefCount}
-use Rattle.meaning.specs.Sheets.{wholeOf, coefficient, offset, madeRow, madeModes, nearValue}
+use Rattle.meaning.specs.Plants.{entryLimit, offsetLimit, mostModes, mostCoefs, coefCount}
+use Rattle.meaning.specs.Sheets.{wholeOf, coefficient, offset, emitters, madeRow, madeModes, nearValue}
 use Rattle.promises.specs.files.PlantShapes.{numbers-few}
 use Rattle.promises.specs.sheets.SheetPlants.{emitters-few}
 use Rattle.sheets.specs.declared.made.Entries.{Entries}
@@ -114,8 +114,11 @@ module _ (h : Sheet) (some : 1 ≤ h .n) where
 
 -- ---- how many there are
 
+pub modes-some : (h : Sheet) → 1 ≤ madeModes h
+modes-some h = pow-pos (emitters h (h .n))
+
 module _ (h : Sheet) (s : Sized h) where
-  pub modes-few : madeModes h ≤ 16
+  pub modes-few : madeModes h ≤ mostModes
   modes-few = pow-mono {j = 4} (le-trans (emitters-few h (h .n)) (s .few))
 
   pub rows-few : madeModes h * h .n ≤ 64

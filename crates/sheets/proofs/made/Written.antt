@@ -25,7 +25,7 @@ sound-sized h s =
       degrees = (r .m-low, r .m-high);
       counts = (r .q-low, r .q-high);
       edges = λ i l. let e = r .safe .sides i l in (e .low, e .high);
-      bands = λ i l. let e = r .band .sides i l in (e .low, e .high);
+      bands = λ i l. let e = s .band .sides i l in (e .low, e .high);
     }
 
 -- the writer looks at a plant's numbers alone

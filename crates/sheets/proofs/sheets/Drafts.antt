@@ -17,12 +17,13 @@ use Rattle.meaning.specs.declared.Sheet.{Sheet}
 use Rattle.meaning.specs.declared.SheetRead.{SheetRead}
 use Rattle.meaning.specs.Numbers.{groupsOf}
 use Rattle.meaning.specs.Buffers.{left}
-use Rattle.meaning.specs.Files.{lowFirst, Form, end, fileOf, Judged, good, bad, fileJudged}
-use Rattle.meaning.specs.Plants.{times}
+use Rattle.meaning.specs.Files.{lowFirst, Form, end, fileOf, Judged, good, bad}
+use Rattle.meaning.specs.Plants.{times, edgesAndBands}
 use Rattle.meaning.specs.Sheets.{zeroF, bitsOf, floating, notBelow, roomForm, sheetForm, noRoom, emitterValues, roomValues, sheetValues, sheetRelated, sheetJudged, sheetReadOf, sheetRead, sheetLeft}
 use Rattle.files.specs.declared.beginnings.Beginning.{Beginning}
-use Rattle.files.specs.Beginnings.{headNumbers, headOf, edgesIn, bandsIn, beginningNumbers, verdictOf, byVerdict}
-use Rattle.files.specs.BeginningFiles.{file-times}
+use Rattle.files.specs.Signed.{signedBytes}
+use Rattle.files.specs.Beginnings.{edgesIn, bandsIn, verdictOf, byVerdict}
+use Rattle.files.specs.BeginningFiles.{file-times, file-bounds}
 use Rattle.files.specs.DraftLaws.{draft-long, draft-left, InDraft, in-array}
 use Rattle.sheets.specs.Floats.{floatBytes}
 use Rattle.sheets.specs.Rooms.{exchangeBits, emitterPart, restPart, restValues, valuesOfRoom, exchangeBytes, emitterBytes, roomBytes, bytesOfRoom}
@@ -92,17 +93,13 @@ room-long n room h =
 -- ---- the file of a sheet's values
 
 module _ (h : Sheet) where
-  b : Beginning
+  abbrev b : Beginning
   b = sheetBeginning h
 
   rest : List ℤ
   rest = bitsOf (h .time) ∷ bitsOf (h .outside) ∷ tabs (valuesOfRoom (h .n) (h .rooms)) (h .n) 0
 
-  values : sheetValues h ≡ beginningNumbers (sheetBeginning h) ++ rest
-  unfolding b rest sheetValues beginningNumbers
-  values = ap (λ (l : List ℤ). headNumbers (headOf b) ++ l) (sym (append-assoc (edgesIn b) (bandsIn b) rest))
-
-  rest-file : fileOf (roomsForm (h .n) (h .r)) rest ≡ restBytes h
+  rest-file : fileOf (roomsForm 1 (h .n) (h .r)) rest ≡ restBytes h
   unfolding rest fileOf
   rest-file =
       let vs = tabs (valuesOfRoom (h .n) (h .rooms)) (h .n) 0 in
@@ -112,11 +109,15 @@ module _ (h : Sheet) where
       ∙ append-nil bs in
       ap (λ (l : List ℕ). floatBytes (h .time) ++ (floatBytes (h .outside) ++ l)) same
 
+  -- behind the header
+  says : fileOf (edgesAndBands (h .n) (roomsForm 1 (h .n) (h .r))) (edgesIn b ++ (bandsIn b ++ rest)) ≡ signedBytes (edgesIn b ++ bandsIn b) ++ restBytes h
+  says = file-bounds b (roomsForm 1 (h .n) (h .r)) rest ∙ ap (λ (bs : List ℕ). signedBytes (edgesIn b ++ bandsIn b) ++ bs) rest-file
+
   -- ---- the draft in its array
 
   pub in-draft : (r : ℕ) (out : List ℕ) → Put (replicate sheetRoom 0) 0 (sheetDraft h) r out → InDraft (sheetDraft h) r out
   unfolding sheetDraft
-  in-draft r out t = in-array sheetRoom (sheetDraft h) r out (draft-long 1000 (omega arith) (sheetBeginning h) (restBytes h) 212 rest-long) t
+  in-draft r out t = in-array sheetRoom (sheetDraft h) r out (draft-long 1 1000 (omega arith) (omega arith) (sheetBeginning h) (restBytes h) 212 rest-long) t
     where
       rooms : List ℕ
       rooms = tabs (bytesOfRoom (h .n) (h .rooms)) (h .n) 0
@@ -135,10 +136,10 @@ module _ (h : Sheet) where
   -- ---- what the writer leaves, s being the draft and x what was read of it
 
   pub sheet-left : (s : List ℕ) (x : SheetRead) → s ≡ sheetDraft h → x ≡ sheetRead s → (buf : List ℕ) → left (byVerdict (x .verdict) λ _. good s) buf ≡ sheetLeft h buf
-  unfolding sheetDraft sheetLeft sheetJudged sheetForm
+  unfolding rest sheetDraft sheetLeft sheetJudged sheetForm sheetValues
   sheet-left s x e q buf =
-      draft-left 1000 (omega arith) (sheetBeginning h) (restBytes h) sheetRelated (λ e. refl) roomsForm rest rest-file s (x .verdict) e (ap (λ (y : SheetRead). y .verdict) q ∙ told (sheetJudged s)) buf
-      ∙ ap (λ (vs : List ℤ). left (fileJudged (fileOf sheetForm vs) (sheetJudged (fileOf sheetForm vs))) buf) (sym values)
+      draft-left 1 1000 (omega arith) (omega arith) b (restBytes h) sheetRelated (λ e. refl) (λ form n r. edgesAndBands n (roomsForm form n r)) (edgesIn b ++ (bandsIn b ++ rest))
+      (λ _ _ _. says) s (x .verdict) e (ap (λ (y : SheetRead). y .verdict) q ∙ told (sheetJudged s)) buf
     where
       told : (j : Judged Sheet) → sheetReadOf j .verdict ≡ verdictOf j
       told (good y) = refl

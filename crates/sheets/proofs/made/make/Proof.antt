@@ -13,13 +13,13 @@ use Rattle.sheets.specs.Sizes.{Sized}
 use Rattle.sheets.specs.Wholes.{joined}
 use Rattle.sheets.specs.Bands.{bandsOf}
 use Rattle.sheets.specs.Made.{entriesOf, madeOf}
-use Rattle.sheets.proofs.made.Laws.{rows-few, count-few}
+use Rattle.sheets.proofs.made.Laws.{modes-some, modes-few, rows-few, count-few}
 use Rattle.sheets.proofs.made.Numbers.{behind-few, entries-few, made-is}
 use Rattle.sheets.proofs.made.make.Statement.{statement}
 use Rattle.sheets.proofs.made.make.Tie as tie
 
 -- what the callees told, in the order of the calls
-module _ (h : Sheet) (s : Sized h) (modes : ℕ) (b : Bands) (e : Entries) (m : modes ≡ madeModes h) (w : b ≡ bandsOf h) (v : e ≡ entriesOf h (modes * h .n * (h .n + 1))) where
+module _ (h : Sheet) (s : Sized h) (modes : ℕ) (b : Bands) (e : Entries) (m : modes ≡ madeModes h) (w : b ≡ bandsOf h modes) (v : e ≡ entriesOf h (modes * h .n * (h .n + 1))) where
   entries-fit : e .first ≤ 1000
   entries-fit = rw (v, m) (omega (arith, entries-few h s))
 
@@ -32,6 +32,7 @@ module _ (h : Sheet) (s : Sized h) (modes : ℕ) (b : Bands) (e : Entries) (m : 
           fits = eqb first (2 * h .n + modes * h .n * (h .n + 1));
           place = 6 + 4 * h .n + first;
           plant = record {
+            form = 1;
             n = h .n;
             modes = modes;
             q = h .q;
@@ -41,8 +42,7 @@ module _ (h : Sheet) (s : Sized h) (modes : ℕ) (b : Bands) (e : Entries) (m : 
             rhi = h .rhi;
             slo = h .slo;
             shi = h .shi;
-            wlo = b .wlo;
-            whi = b .whi;
+            bands = b .ends;
             coef = e .coef;
           };
         })
@@ -62,7 +62,7 @@ mul-count-2 : tie.Need-mul-count-2
 mul-count-2 c = let s = c .before in rw (c .modes .ensures) (record { fits = omega (arith, count-few (s .args .h) (s .pre)) })
 
 widened-requires : tie.Need-widened-requires
-widened-requires c κs = search needs
+widened-requires c κs = let s = c .before in (s .pre, (rw (c .modes .ensures) (modes-some (s .args .h)), rw (c .modes .ensures) (modes-few (s .args .h) (s .pre))))
 
 coefficients-requires : tie.Need-coefficients-requires
 coefficients-requires c κs = let s = c .before .before in (s .pre, rw (c .before .modes .ensures) (count-few (s .args .h) (s .pre)))
@@ -79,32 +79,32 @@ joined-requires c κs =
 -- the places of what was told
 module _ (c : tie.After-coef) where
   abbrev start : tie.Start
-  start = c .before .before .before .before .before .before .before .before .before .before .before
+  start = c .before .before .before .before .before .before .before .before .before .before
 
-  place-small : c .before .before .before .before .before .before .before .joined .result ≤ 400
-  place-small = place-fits (start .args .h) (start .pre) (c .before .before .before .before .before .before .before .before .before .before .modes .result) (c .before .before .before .before .before .before .before .before .before .widened .result) (c .before .before .before .before .before .before .before .before .coefficients .result)
-      (c .before .before .before .before .before .before .before .before .before .before .modes .ensures) (c .before .before .before .before .before .before .before .before .before .widened .ensures) (c .before .before .before .before .before .before .before .before .coefficients .ensures) (c .before .before .before .before .before .before .before .joined .result) (c .before .before .before .before .before .before .before .joined .ensures)
+  place-small : c .before .before .before .before .before .before .joined .result ≤ 400
+  place-small = place-fits (start .args .h) (start .pre) (c .before .before .before .before .before .before .before .before .before .modes .result) (c .before .before .before .before .before .before .before .before .widened .result) (c .before .before .before .before .before .before .before .coefficients .result)
+      (c .before .before .before .before .before .before .before .before .before .modes .ensures) (c .before .before .before .before .before .before .before .before .widened .ensures) (c .before .before .before .before .before .before .before .coefficients .ensures) (c .before .before .before .before .before .before .joined .result) (c .before .before .before .before .before .before .joined .ensures)
 
-mul-t17 : tie.Need-mul-t17
-mul-t17 c = search needs
+mul-t16 : tie.Need-mul-t16
+mul-t16 c = search needs
 
-add-t16 : tie.Need-add-t16
-add-t16 c =
+add-t15 : tie.Need-add-t15
+add-t15 c =
     let s = start c in
-    rw (c .before .before .before .before .before .before .before .before .before .before .modes .ensures) (record { fits = omega (arith, count-few (s .args .h) (s .pre), s .pre .few) })
+    rw (c .before .before .before .before .before .before .before .before .before .modes .ensures) (record { fits = omega (arith, count-few (s .args .h) (s .pre), s .pre .few) })
 
-mul-t19 : tie.Need-mul-t19
-mul-t19 c = search needs
+mul-t18 : tie.Need-mul-t18
+mul-t18 c = search needs
+
+add-t19 : tie.Need-add-t19
+add-t19 c = search needs
 
 add-t20 : tie.Need-add-t20
-add-t20 c = search needs
-
-add-t21 : tie.Need-add-t21
-add-t21 c = record { fits = omega (arith, place-small c, start c .pre .few) }
+add-t20 c = record { fits = omega (arith, place-small c, start c .pre .few) }
 
 returns : tie.Need-returns
-returns c = together (start c .args .h) (start c .pre) (c .before .before .before .before .before .before .before .before .before .before .modes .result) (c .before .before .before .before .before .before .before .before .before .widened .result) (c .before .before .before .before .before .before .before .before .coefficients .result)
-    (c .before .before .before .before .before .before .before .before .before .before .modes .ensures) (c .before .before .before .before .before .before .before .before .before .widened .ensures) (c .before .before .before .before .before .before .before .before .coefficients .ensures) (c .before .before .before .before .before .before .before .joined .result) (c .before .before .before .before .before .before .before .joined .ensures)
+returns c = together (start c .args .h) (start c .pre) (c .before .before .before .before .before .before .before .before .before .modes .result) (c .before .before .before .before .before .before .before .before .widened .result) (c .before .before .before .before .before .before .before .coefficients .result)
+    (c .before .before .before .before .before .before .before .before .before .modes .ensures) (c .before .before .before .before .before .before .before .before .widened .ensures) (c .before .before .before .before .before .before .before .coefficients .ensures) (c .before .before .before .before .before .before .joined .result) (c .before .before .before .before .before .before .joined .ensures)
 
 pub make-spec : {M : Type 1} → statement M
 make-spec =
@@ -118,9 +118,9 @@ make-spec =
     coefficients-requires
     mul-joined
     joined-requires
-    mul-t17
-    add-t16
-    mul-t19
+    mul-t16
+    add-t15
+    mul-t18
+    add-t19
     add-t20
-    add-t21
     returns)

@@ -23,14 +23,14 @@ read-body-requires : tie.Need-read-body-requires
 read-body-requires c κs =
     let z = c .before .before .before .before .before .before .args in
     let r = c .before .before .before .before .read-beginning in
-    subst (BegunAs 1000 (now (z .s)) (r .result)) (c .before .before .past2 .given .1) (r .ensures .1)
+    subst (BegunAs 1 1000 (now (z .s)) (r .result)) (c .before .before .past2 .given .1) (r .ensures .1)
 
 returns : tie.Need-returns
 returns c =
     let z = c .before .before .before .before .before .before .args in
     let r = c .before .before .before .before .read-beginning in
     let g = c .before .before .past .given in
-    let t = subst (BegunAs 1000 (now (z .s)) (r .result)) (g .1) (r .ensures .1) in
+    let t = subst (BegunAs 1 1000 (now (z .s)) (r .result)) (g .1) (r .ensures .1) in
     (c .refused .ensures ∙ sym (beginning-refused (now (z .s)) (g .0 .0) (t .1)), refused-sized (c .refused .result) _ (c .refused .ensures))
 
 returns-2 : tie.Need-returns-2
@@ -38,7 +38,7 @@ returns-2 c =
     let z = c .before .before .before .before .before .before .before .args in
     let r = c .before .before .before .before .before .read-beginning in
     let g = c .before .before .before .past2 .given in
-    let t = subst (BegunAs 1000 (now (z .s)) (r .result)) (g .1) (r .ensures .1) in (
+    let t = subst (BegunAs 1 1000 (now (z .s)) (r .result)) (g .1) (r .ensures .1) in (
       c .read-body .ensures .0 ∙ sym (beginning-read (now (z .s)) (r .result .beginning) (g .0 .0) (t .0)),
       c .read-body .ensures .1,
     )
