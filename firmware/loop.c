@@ -17,7 +17,7 @@ static void stop(uint64_t number, uint64_t place, uint64_t step)
 
 void hold(const struct stored *s)
 {
-    uint64_t out[4], place = 0, left = 0;
+    uint64_t out[5], place = 0, left = 0;
     int64_t x[4] = {0};
     board_off();
     uint64_t number = hoachulim_check(s->plant, s->plant_length, s->file, s->file_length, out);
@@ -28,11 +28,11 @@ void hold(const struct stored *s)
     while (board_reading(x)) {
         uint64_t mode = hoachulim_control(s->plant, s->plant_length, s->file, s->file_length, place, left, x[0], x[1], x[2], x[3], out);
         if (mode == NO_MODE) {
-            stop(out[0], out[1], 0);
+            stop(out[0], out[1], out[2]);
             return;
         }
-        place = out[2];
-        left = out[3];
+        place = out[3];
+        left = out[4];
         board_apply(mode);
     }
     board_off();

@@ -11,7 +11,7 @@ enum { ROOMS = 4, MODES = 256 };
 static struct {
     int64_t n, modes, q;
     int64_t edges[ROOMS][4]; /* R lo, R hi, S lo, S hi */
-    int64_t band[ROOMS][2];
+    int64_t bands[MODES][ROOMS][2];
     int64_t rows[MODES][ROOMS][ROOMS + 1];
 } plant;
 
@@ -39,9 +39,17 @@ static int64_t signed_at(const uint8_t **at)
     return number % 2 == 0 ? (int64_t)(number / 2) : -(int64_t)(number / 2) - 1;
 }
 
+static void read_band(const uint8_t **at, int64_t band[ROOMS][2])
+{
+    for (int i = 0; i < plant.n; i++)
+        for (int end = 0; end < 2; end++)
+            band[i][end] = signed_at(at);
+}
+
+/* In form 1 mode 0's band stands for all, before the first row; in form 2 each mode begins with its own. */
 static void read_plant(const uint8_t *at)
 {
-    unsigned_at(&at); /* the form */
+    uint64_t form = unsigned_at(&at);
     plant.n = (int64_t)unsigned_at(&at);
     plant.modes = (int64_t)unsigned_at(&at);
     plant.q = (int64_t)unsigned_at(&at);
@@ -50,13 +58,15 @@ static void read_plant(const uint8_t *at)
     for (int i = 0; i < plant.n; i++)
         for (int edge = 0; edge < 4; edge++)
             plant.edges[i][edge] = signed_at(&at);
-    for (int i = 0; i < plant.n; i++)
-        for (int end = 0; end < 2; end++)
-            plant.band[i][end] = signed_at(&at);
-    for (int mode = 0; mode < plant.modes; mode++)
+    for (int mode = 0; mode < plant.modes; mode++) {
+        if (mode == 0 || form == 2)
+            read_band(&at, plant.bands[mode]);
+        else
+            memcpy(plant.bands[mode], plant.bands[0], sizeof plant.bands[0]);
         for (int i = 0; i < plant.n; i++)
             for (int j = 0; j <= plant.n; j++)
                 plant.rows[mode][i][j] = signed_at(&at);
+    }
 }
 
 static int inside(const int64_t x[4], int edge)
@@ -91,7 +101,7 @@ static int64_t floor_of(int64_t a, int64_t q)
     return a >= 0 ? a / q : -((-a + q - 1) / q);
 }
 
-/* A reading that may follow: q y - (A x + b) lies in the band, in every room. */
+/* A reading that may follow: q y - (A x + b) lies in the mode's band, in every room. */
 static void follow(uint64_t mode)
 {
     int64_t following[ROOMS];
@@ -100,7 +110,7 @@ static void follow(uint64_t mode)
         int64_t sum = row[plant.n];
         for (int j = 0; j < plant.n; j++)
             sum += row[j] * reading[j];
-        int64_t low = -floor_of(-(sum + plant.band[i][0]), plant.q), high = floor_of(sum + plant.band[i][1], plant.q);
+        int64_t low = -floor_of(-(sum + plant.bands[mode][i][0]), plant.q), high = floor_of(sum + plant.bands[mode][i][1], plant.q);
         int lower = run.next == LOWEST || (run.next == BY_TURNS && (seen.samples + (unsigned)i) % 2 == 0);
         following[i] = run.next == ANY ? low + up_to(high - low) : lower ? low : high;
     }

@@ -10,6 +10,8 @@
 
 STORED(p_plant, "P.plant")
 STORED(p_table, "P.table")
+STORED(fan_plant, "fan.plant")
+STORED(fan_table, "fan.table")
 STORED(house_plant, "house.plant")
 STORED(house_table, "house.table")
 STORED(four_plant, "four.plant")
@@ -39,7 +41,7 @@ uint64_t __wrap_hoachulim_control(const uint8_t *plant, uint64_t plant_length, c
                                   uint64_t left, int64_t x0, int64_t x1, int64_t x2, int64_t x3, uint64_t *out)
 {
     uint64_t mode = __real_hoachulim_control(plant, plant_length, table, table_length, place, left, x0, x1, x2, x3, out);
-    tell_answer(left == 0, (int64_t[]){x0, x1, x2, x3}, mode, out, 4);
+    tell_answer(left == 0, (int64_t[]){x0, x1, x2, x3}, mode, out, 5);
     return mode;
 }
 
@@ -113,8 +115,9 @@ static void refused(const struct stored *p, const struct stored *house, const st
 int main(void)
 {
     const struct stored p = BOTH(p_plant, p_table), house = BOTH(house_plant, house_table), four = BOTH(four_plant, four_table);
-    const struct stored start = BOTH(cold_plant, cold_start);
+    const struct stored fan = BOTH(fan_plant, fan_table), start = BOTH(cold_plant, cold_start);
     held("P", &p, (int64_t[]){195, 0, 0, 0});
+    held("fan", &fan, (int64_t[]){195, 0, 0, 0});
     held("house", &house, (int64_t[]){2000, 2200, 0, 0});
     held("four", &four, (int64_t[]){2000, 2100, 2500, 2200});
     cold(&start);

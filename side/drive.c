@@ -19,7 +19,7 @@ static int64_t floor_of(int64_t a, int64_t q)
 
 int main(void)
 {
-    uint64_t out[4];
+    uint64_t out[5];
     if (hoachulim_plant(plant, sizeof plant, out) != 0 || hoachulim_check(plant, sizeof plant, table, sizeof table, out) != 0) {
         printf("refused %llu %llu\n", (unsigned long long)out[0], (unsigned long long)out[1]);
         return 1;
@@ -31,18 +31,18 @@ int main(void)
             if (x < 190 || x > 230 || (left == 0 && (x < 195 || x > 225)))
                 return 2;
             uint64_t mode = hoachulim_control(plant, sizeof plant, table, sizeof table, place, left, x, 0, 0, 0, out);
-            if (mode > 1 || out[0] != 0 || out[1] != 0)
+            if (mode > 1 || out[0] != 0 || out[1] != 0 || out[2] != 0)
                 return 3;
-            place = out[2];
-            left = out[3];
+            place = out[3];
+            left = out[4];
             int64_t high = floor_of(9 * x + offset[mode] + 4, 10), low = -floor_of(-(9 * x + offset[mode] - 5), 10);
             x = sample % 3 == 0 ? low : sample % 3 == 1 ? high : (low + high) / 2;
         }
     }
     /* a reading outside R, a state that cannot be, and a table cut short are refused, and the controller is idle */
-    if (hoachulim_control(plant, sizeof plant, table, sizeof table, 0, 0, 230, 0, 0, 0, out) != 255 || out[0] != 11 || out[2] + out[3] != 0)
+    if (hoachulim_control(plant, sizeof plant, table, sizeof table, 0, 0, 230, 0, 0, 0, out) != 255 || out[0] != 11 || out[3] + out[4] != 0)
         return 4;
-    if (hoachulim_control(plant, sizeof plant, table, sizeof table, UINT64_MAX, 2, 200, 0, 0, 0, out) != 255 || out[0] != 12 || out[2] + out[3] != 0)
+    if (hoachulim_control(plant, sizeof plant, table, sizeof table, UINT64_MAX, 2, 200, 0, 0, 0, out) != 255 || out[0] != 12 || out[3] + out[4] != 0)
         return 5;
     if (hoachulim_control(plant, sizeof plant, table, 3, 0, 0, 200, 0, 0, 0, out) != 255 || out[0] != 1 || out[1] != 3)
         return 6;

@@ -17,7 +17,8 @@ use crate::results;
 /// Why a plant's file was refused.
 pub fn plant(bytes: &[u8], refusal: Refusal) -> String {
     let cause = match refusal.number {
-        4 | 5 => bounds(&Plant::read(bytes).map(|plant| (plant.rooms, plant.q)), refusal),
+        4 => outside(&whole(Plant::read(bytes)).rooms, refusal),
+        5 => narrow_in_plant(&whole(Plant::read(bytes)), refusal),
         9 => no_table(),
         _ => standing(bytes, refusal, |file| Plant::follow(file).is_some()),
     };
@@ -26,10 +27,11 @@ pub fn plant(bytes: &[u8], refusal: Refusal) -> String {
 
 /// Why a sheet's file was refused.
 pub fn sheet(bytes: &[u8], refusal: Refusal) -> String {
-    let sheet = || Sheet::read(bytes);
+    let sheet = || whole(Sheet::read(bytes));
     let cause = match refusal.number {
-        4 | 5 => bounds(&sheet().map(|sheet| (sheet.rooms.iter().map(|room| room.bounds).collect(), sheet.q)), refusal),
-        14 => results::cause(&accepted(sheet()), refusal.place as usize),
+        4 => outside(&sheet().rooms.iter().map(|room| room.bounds).collect::<Vec<_>>(), refusal),
+        5 => narrow("w", sheet().rooms[refusal.step as usize].w, sheet().q),
+        14 => results::cause(&sheet(), refusal.place as usize),
         _ => standing(bytes, refusal, |file| Sheet::follow(file).is_some()),
     };
     line(refusal, cause)
@@ -94,7 +96,8 @@ pub fn reading(plant: &Plant, largest: &[boxes::Side], state: State, x: Reading,
 fn line(refusal: Refusal, cause: String) -> String {
     let Refusal { number, place, step } = refusal;
     match number {
-        4 | 5 | 11 => format!("{number} in room {}: {cause}", place + 1),
+        4 | 11 => format!("{number} in room {}: {cause}", place + 1),
+        5 => format!("5 in room {}: {cause}", step + 1),
         7 | 8 => format!("{number} at byte {place}, step {step}: {cause}"),
         9 => format!("9: {cause}"),
         14 => format!("14 at number {place} of the plant: {cause}"),
@@ -115,14 +118,25 @@ fn standing(bytes: &[u8], refusal: Refusal, follow: impl FnOnce(&mut Reader) -> 
     }
 }
 
-/// 4 and 5, of a file that was read whole.
-fn bounds(read: &Option<(Vec<Bounds>, u64)>, refusal: Refusal) -> String {
-    let (rooms, q) = read.as_ref().expect("a file refused with 4 or 5 is read whole");
-    let Bounds { r, s, w } = rooms[refusal.place as usize];
-    match refusal.number {
-        4 => format!("R is {r}, S is {s}"),
-        _ => format!("w is {w}, which is {} wide, wanted at least q - 1 = {}", w.hi - w.lo, q - 1),
-    }
+/// A file refused for what its numbers are together, and not for one of them.
+fn whole<T>(read: Option<T>) -> T {
+    read.expect("a file refused with 4, 5 or 14 is read whole")
+}
+
+/// 4.
+fn outside(rooms: &[Bounds], refusal: Refusal) -> String {
+    let Bounds { r, s } = rooms[refusal.place as usize];
+    format!("R is {r}, S is {s}")
+}
+
+/// 5 of a plant; a form 1 plant has one band for all modes, and so no mode is named.
+fn narrow_in_plant(plant: &Plant, refusal: Refusal) -> String {
+    let name = if plant.form == 1 { "w".into() } else { format!("w of mode {}", refusal.place) };
+    narrow(&name, plant.modes[refusal.place as usize][refusal.step as usize].w, plant.q)
+}
+
+fn narrow(name: &str, w: boxes::Side, q: u64) -> String {
+    format!("{name} is {w}, which is {} wide, wanted at least q - 1 = {}", w.hi - w.lo, q - 1)
 }
 
 fn no_table() -> String {

@@ -5,7 +5,7 @@
 use crate::refusals::Refusal;
 
 /// The largest file of each kind, in bytes (docs/FORMATS.md, "Lengths").
-pub const LARGEST_PLANT: usize = 1_183;
+pub const LARGEST_PLANT: usize = 1_783;
 pub const LARGEST_TABLE: usize = 30_039;
 pub const LARGEST_START: usize = 270_476;
 
@@ -125,7 +125,7 @@ pub fn check(plant: &[u8], table: &[u8]) -> Result<(), Refusal> {
 
 /// One call of the controller on a table's file: the mode and the next state.
 pub fn control(plant: &[u8], table: &[u8], state: State, x: Reading) -> Result<(u64, State), Refusal> {
-    let mut out = [0; 4];
+    let mut out = [0; 5];
     let mode = unsafe {
         face::hoachulim_control(
             plant.as_ptr(),
@@ -142,8 +142,8 @@ pub fn control(plant: &[u8], table: &[u8], state: State, x: Reading) -> Result<(
         )
     };
     match mode {
-        NO_MODE => Err(Refusal { number: out[0], place: out[1], step: 0 }),
-        _ => Ok((mode, State { index: 0, place: out[2], left: out[3] })),
+        NO_MODE => Err(Refusal { number: out[0], place: out[1], step: out[2] }),
+        _ => Ok((mode, State { index: 0, place: out[3], left: out[4] })),
     }
 }
 

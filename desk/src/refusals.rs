@@ -22,7 +22,7 @@ impl fmt::Display for Refusal {
 pub fn row(number: u64) -> &'static str {
     match number {
         1 => "a number or float ends early, is over 5 bytes, or not shortest",
-        2 => "form is not 1",
+        2 => "form is not known",
         3 => "plant or sheet number out of range, lo > hi, emitter kind over 2, or bytes left over",
         4 => "R not in S",
         5 => "band too narrow",

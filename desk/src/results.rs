@@ -28,7 +28,7 @@ pub fn cause(sheet: &Sheet, number: usize) -> String {
 fn band_cause(sheet: &Sheet, room: usize, is_hi: bool) -> String {
     let edges = sheet.rooms.iter().flat_map(|room| [room.bounds.s.lo.abs(), room.bounds.s.hi.abs()]);
     let widening = (sheet.rooms.len() as i64 * edges.max().unwrap_or(0) + 2) / 2;
-    let w = sheet.rooms[room].bounds.w;
+    let w = sheet.rooms[room].w;
     let (end, value) = if is_hi { ("hi", w.hi + widening) } else { ("lo", w.lo - widening) };
     format!("w {end} of room {}, widened by {widening}, comes to {value}, wanted {} .. {MOST_BAND}", room + 1, -MOST_BAND)
 }

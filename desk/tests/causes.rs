@@ -7,8 +7,8 @@ use hoachulim::causes;
 use hoachulim::files::{House, Plant};
 use hoachulim::library::{self, State};
 use hoachulim::refusals::Refusal;
-use side::common::{file, line_13, p_fields, p_prime, two_room_sheet, with, Field, F, P, S, T1, T5, U};
-use side::inputs::{any_tree, damaged, made_table, other_table, plant_fields, random, rounds, sheet_fields, spoiled};
+use side::common::{file, in_form_2, line_13, p_fields, p_prime, two_room_sheet, two_rooms, with, Field, F, P, S, T1, T5, U};
+use side::inputs::{any_tree, damaged, made_table, other_forms, other_table, plant_fields, random, rounds, sheet_fields, spoiled};
 
 fn of_plant(plant: &[u8]) -> String {
     causes::plant(plant, library::make(plant).unwrap_err())
@@ -23,7 +23,7 @@ fn causes_of_plants() {
     assert_eq!(of_plant(&[]), "1 at byte 0: the form ends early");
     assert_eq!(of_plant(&[0x81, 0]), "1 at byte 0: the form is not in shortest form: its last byte is 00");
     assert_eq!(of_plant(&[1, 1, 2, 0x80, 0x80, 0x80, 0x80, 0x80, 1]), "1 at byte 3: q is over 5 bytes");
-    assert_eq!(of_p(0, U(2)), "2 at byte 0: the form is 2, wanted 1");
+    assert_eq!(of_p(0, U(3)), "2 at byte 0: the form is 3, wanted 1 or 2");
     assert_eq!(of_p(1, U(5)), "3 at byte 1: n is 5, wanted 1 .. 4");
     assert_eq!(of_p(2, U(17)), "3 at byte 2: N is 17, wanted 1 .. 16");
     assert_eq!(of_p(5, U(7)), "3 at byte 5: D is 7, wanted 0 .. 6");
@@ -35,6 +35,22 @@ fn causes_of_plants() {
     assert_eq!(of_p(8, S(196)), "4 in room 1: R is 195 .. 225, S is 196 .. 230");
     assert_eq!(of_p(11, S(3)), "5 in room 1: w is -5 .. 3, which is 8 wide, wanted at least q - 1 = 9");
     assert!(of_p(5, U(0)).starts_with("9: some box that can be split no further has no pattern that works"));
+}
+
+/// P with S 190..230 and two rooms in form 2: bands of a mode named by it.
+#[test]
+fn causes_of_plants_of_form_2() {
+    let of_p = |index, field| of_plant(&file(&with(&in_form_2(&p_fields()), index, field)));
+    assert_eq!(of_plant(&[&[2], &P[1..]].concat()), "1 at byte 22: A of mode 1, room 1, column 1, ends early");
+    assert_eq!(of_p(0, U(1)), "3 at byte 21: 3 bytes left over behind the last number");
+    assert_eq!(of_p(10, S(-1_000_000_001)), "3 at byte 14: w of mode 0, room 1, lo is -1000000001, wanted -1000000000 .. 1000000000");
+    assert_eq!(of_p(15, S(-6)), "3 at byte 20: w of mode 1, room 1, hi is -6, wanted -5, which is its lo, .. 1000000000");
+    assert_eq!(of_p(15, S(3)), "5 in room 1: w of mode 1 is -5 .. 3, which is 8 wide, wanted at least q - 1 = 9");
+    assert_eq!(of_p(11, S(3)), "5 in room 1: w of mode 0 is -5 .. 3, which is 8 wide, wanted at least q - 1 = 9");
+    // two rooms: mode 0 is fields 14..24, mode 1's second band 26 and 27
+    let two = with(&in_form_2(&two_rooms()), 27, S(-1));
+    assert_eq!(of_plant(&file(&two)), "5 in room 2: w of mode 1 is -3 .. -1, which is 2 wide, wanted at least q - 1 = 3");
+    assert_eq!(of_table(&sample("fan.plant"), &[1, 1, 1, 1]), "7 at byte 2, step 1: tile 195 .. 225 with modes 1: room 1 comes to 200 .. 238, S is 190 .. 230");
 }
 
 fn of_sheet(sheet: &[u8]) -> String {
@@ -50,6 +66,7 @@ fn causes_of_sheets() {
     assert_eq!(of(14, F(-1.0)), "13 at byte 32: the loss of room 1 is -1.0, wanted a finite float not below 0");
     assert_eq!(of(15, U(3)), "3 at byte 40: the emitter number of room 1 is 3, wanted 0 (none), 1 (heater) or 2 (steady)");
     assert_eq!(of_sheet(&file(&line_13()[..17])), "1 at byte 49: the water temperature of room 1's heater ends early: a float has 8 bytes, 0 are left");
+    assert_eq!(of(11, S(2)), "5 in room 1: w is -4 .. 2, which is 6 wide, wanted at least q - 1 = 7");
     let two = |index, field| of_sheet(&file(&with(&two_room_sheet(), index, field)));
     assert_eq!(two(21, F(-2.0)), "13 at byte 50: the exchange of room 1 with room 2 is -2.0, wanted a finite float not below 0");
     assert_eq!(two(21, F(1e9)), "14 at number 18 of the plant: A of mode 0, room 1, column 1, comes to about -4.000e9, wanted -20000 .. 20000");
@@ -114,6 +131,7 @@ fn whatever_is_refused_has_a_cause() {
         for fields in [plant_fields(&mut random), sheet_fields(&mut random)] {
             causes_of_plants(&file(&fields));
             spoiled(&fields).iter().for_each(|(bytes, _)| causes_of_plants(bytes));
+            other_forms(&fields).iter().for_each(|bytes| causes_of_plants(bytes));
             damaged(&mut random, &file(&fields), &mut causes_of_plants);
         }
     }

@@ -101,6 +101,19 @@ fn the_house_in_plain_words() {
     assert_eq!(page.classed("picture").len(), 2);
 }
 
+/// The fan's room: the modeller answers for the band of each mode.
+#[test]
+fn a_band_for_each_mode_in_plain_words() {
+    let plant = sample("fan.plant");
+    let bytes = library::make(&plant).unwrap();
+    let (of_fan, accepted) = page(&plant, &bytes);
+    assert!(accepted);
+    says(&read(&of_fan), "by no more than the band of the mode applied: in mode 0 room 1 by −0.5 to 0.4 counts; in mode 1 room 1 by −6 to 5.9 counts;");
+    let plant = sample("P.plant");
+    let (of_p, _) = page(&plant, &bytes);
+    says(&read(&of_p), "by no more than the band: room 1 by −0.5 to 0.4 counts;");
+}
+
 /// The defined tables of seeded plants: page and picture against the second program's listing.
 #[test]
 fn page_and_picture_are_the_listing_s() {
@@ -218,9 +231,9 @@ fn the_largest_pages_are_quick() {
 
 /// A room far under band: P's equation, S 100..300, R1 180..240 and R2 150..260, each with a table into the box below.
 fn far() -> (House, Vec<u8>) {
-    let room = Bounds { r: Side { lo: 195, hi: 225 }, s: Side { lo: 100, hi: 300 }, w: Side { lo: -5, hi: 4 } };
-    let modes = [100, 300].map(|b| vec![Row { a: vec![9], b }]).into();
-    let plant = Plant { q: 10, longest: 3, depth: 2, rooms: vec![room], modes };
+    let room = Bounds { r: Side { lo: 195, hi: 225 }, s: Side { lo: 100, hi: 300 } };
+    let modes = [100, 300].map(|b| vec![Row { w: Side { lo: -5, hi: 4 }, a: vec![9], b }]).into();
+    let plant = Plant { form: 1, q: 10, longest: 3, depth: 2, rooms: vec![room], modes };
     let boxes = vec![vec![Side { lo: 180, hi: 240 }], vec![Side { lo: 150, hi: 260 }]];
     let tables: [&[u8]; 3] = [&[1, 1, 0, 1, 1, 1, 0], &[1, 1, 0, 0, 2, 1, 1, 1, 1, 0, 1, 0, 2, 0, 0], &[1, 1, 0, 3, 1, 1, 1, 2, 0, 0]];
     let start = tables.iter().fold(Chain { boxes }.write(), |start, table| [&start[..], &[table.len() as u8], table].concat());

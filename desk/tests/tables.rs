@@ -52,8 +52,7 @@ fn runs_keep_equation_and_band_and_are_never_refused() {
             let y = draws.reading(&allowed(&house.plant, mode, x));
             for (i, row) in house.plant.modes[mode as usize].iter().enumerate() {
                 let sum: i64 = row.a.iter().zip(x).map(|(a, x)| a * x).sum::<i64>() + row.b;
-                let w = house.plant.rooms[i].w;
-                assert!((w.lo..=w.hi).contains(&(house.plant.q as i64 * y[i] - sum)));
+                assert!((row.w.lo..=row.w.hi).contains(&(house.plant.q as i64 * y[i] - sum)));
             }
             (x, state) = (y, next);
         }

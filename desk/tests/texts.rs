@@ -7,7 +7,7 @@ use hoachulim::files::{Chain, House, Side};
 use hoachulim::kinds::{self, As};
 use hoachulim::library;
 use hoachulim::text::{self, chains, shown::Shown, Said};
-use side::common::{file, Random};
+use side::common::{file, in_form_2, two_rooms, Random};
 use side::inputs::{plant_fields, random, rounds, sheet_fields};
 
 /// The sheet or plant, or what is for the plant of the same name.
@@ -41,7 +41,7 @@ fn every_sample_goes_round() {
 
 #[test]
 fn texts_of_the_samples_are_their_files() {
-    for (text, file) in [("P.txt", "P.plant"), ("house.txt", "house.sheet")] {
+    for (text, file) in [("P.txt", "P.plant"), ("fan.txt", "fan.plant"), ("house.txt", "house.sheet")] {
         assert_eq!(text::read(&sample(text)).unwrap().write(), sample(file), "{text}");
     }
 }
@@ -49,17 +49,18 @@ fn texts_of_the_samples_are_their_files() {
 #[test]
 fn seeded_files_go_round() {
     let mut random = random(21);
-    let mut sheets = 0;
+    let (mut sheets, mut forms) = (0, [0; 3]);
     for _ in 0..rounds(4_000) {
         let plant = file(&plant_fields(&mut random));
         goes_round(As::Plant(&plant), &plant);
+        forms[plant[0] as usize] += 1;
         let sheet = file(&sheet_fields(&mut random));
         if library::sheet(&sheet).is_ok() {
             goes_round(As::Sheet(&sheet), &sheet);
             sheets += 1;
         }
     }
-    assert!(sheets > 500, "only {sheets} sheets");
+    assert!(sheets > 500 && forms[1] > 500 && forms[2] > 500, "only {sheets} sheets, plants of forms {forms:?}");
 }
 
 #[test]
@@ -144,6 +145,26 @@ fn faults_say_line_column_and_what_was_expected() {
     assert_eq!(text::read(format!("{text}# a comment\nmore").as_bytes()).unwrap_err().to_string(), "line 26, column 1: expected the text's end, found `more`");
     assert_eq!(text::read(b"").unwrap_err().to_string(), "line 1, column 1: expected `sheet`, `plant` or `chain`, found the text's end");
     assert_eq!((text::read(b"plant form 1\n # \xC3\xA9 \xFF").unwrap_err().line, text::read(b"plant form 1\n # \xC3\xA9 \xFF").unwrap_err().column), (2, 6));
+}
+
+/// The line `w` stands where the form has it: before the row of each mode in form 2, in the room in form 1.
+#[test]
+fn a_band_in_each_mode() {
+    let text = As::Plant(&sample("fan.plant")).text();
+    assert!(text.starts_with("plant form 2\nrooms 1\n"), "{text}");
+    assert!(text.contains("S 190 .. 230 counts\n\nmode 0\nw -5 .. 4                        # in 1/10 counts\nA 9 b 100\n\nmode 1\nw -60 .. 59 "), "{text}");
+    let fault = |of: &str, by: &str| {
+        assert!(text.contains(of), "{of}");
+        text::read(text.replacen(of, by, 1).as_bytes()).unwrap_err().to_string()
+    };
+    assert_eq!(fault("form 2", "form 3"), "line 1, column 12: expected the form, a whole number of 1 .. 2, found `3`");
+    assert_eq!(fault("form 2", "form 1"), "line 12, column 1: expected `w`, found `mode`");
+    assert_eq!(fault("S 190 .. 230 counts", "S 190 .. 230 counts\nw -5 .. 4"), "line 11, column 1: expected `mode` of `mode 0`, found `w`");
+    assert_eq!(fault("w -60", "A 9 b 300 # w -60"), "line 17, column 1: expected `w`, found `A`");
+    assert_eq!(fault("-60 .. 59", "60 .. 59"), "line 17, column 9: expected w, a whole number of 60 .. 1000000000, found `59`");
+    // two rooms: a band and a row of each, though the file has the bands of a mode before its rows
+    let two = As::Plant(&file(&in_form_2(&two_rooms()))).text();
+    assert!(two.contains("mode 1\nw -2 .. 2                        # in 1/4 counts\nA 3 -1 b 15\nw -3 .. 3 "), "{two}");
 }
 
 #[test]

@@ -23,11 +23,11 @@ static void moved(uint64_t said[ANSWERS], uint64_t mode, const uint64_t refusal[
 
 static void control(const struct call *c, uint64_t said[ANSWERS])
 {
-    uint64_t out[4];
+    uint64_t out[5];
     memset(out, 0xFF, sizeof out);
     uint64_t mode =
         hoachulim_control(c->files[0], c->lengths[0], c->files[1], c->lengths[1], c->place, c->left, c->x[0], c->x[1], c->x[2], c->x[3], out);
-    moved(said, mode, (uint64_t[]){out[0], out[1], 0}, (uint64_t[]){0, out[2], out[3]});
+    moved(said, mode, out, (uint64_t[]){0, out[3], out[4]});
 }
 
 static void start_control(const struct call *c, uint64_t said[ANSWERS])

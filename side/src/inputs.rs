@@ -3,7 +3,7 @@
 //! cut and damaged. HOACHULIM_SEED gives another seed, HOACHULIM_ROUNDS a
 //! factor for longer runs.
 
-use crate::common::{broken, encode, file, with, Field, Random, F, S, U};
+use crate::common::{broken, encode, file, in_form_2, p_fields, two_rooms, with, Field, Random, Raw, F, S, U};
 use crate::Told;
 use second::boxes::Box;
 use second::plant::Plant;
@@ -43,7 +43,7 @@ impl Random {
     }
 }
 
-/// R, S and the bands of n rooms, sound; wild ones reach the ends of the ranges.
+/// R, S and the one band of n rooms, sound; wild ones reach the ends of the ranges.
 fn edges(random: &mut Random, wild: bool, n: i64, q: i64) -> Vec<Field> {
     let mut fields = Vec::new();
     for _ in 0..n {
@@ -53,16 +53,40 @@ fn edges(random: &mut Random, wild: bool, n: i64, q: i64) -> Vec<Field> {
         let s_hi = if wild && random.chance(3) { EDGE } else { (hi + random.within(0, 30)).min(EDGE) };
         fields.extend([lo, hi, s_lo, s_hi].map(S));
     }
-    for _ in 0..n {
-        let lo = random.extreme(wild, -20, 20, BAND).min(BAND - q - 12);
-        let hi = if wild && random.chance(3) { BAND } else { lo + q - 1 + random.within(0, 12) };
-        fields.extend([lo, hi].map(S));
+    fields.extend((0..n).flat_map(|_| band(random, wild, q)));
+    fields
+}
+
+/// The ends of a room's band, sound.
+fn band(random: &mut Random, wild: bool, q: i64) -> [Field; 2] {
+    let lo = random.extreme(wild, -20, 20, BAND).min(BAND - q - 12);
+    let hi = if wild && random.chance(3) { BAND } else { lo + q - 1 + random.within(0, 12) };
+    [lo, hi].map(S)
+}
+
+/// A sound plant of either form.
+pub fn plant_fields(random: &mut Random) -> Vec<Field> {
+    let fields = form_1_fields(random);
+    if random.chance(2) { fields } else { with_own_bands(random, &fields) }
+}
+
+/// A form 1 plant as one of form 2: its band in each mode, then another in one mode, in one room of it, in every mode, or in none.
+fn with_own_bands(random: &mut Random, fields: &[Field]) -> Vec<Field> {
+    let mut fields = in_form_2(fields);
+    let (n, modes, q) = (rooms(&fields), modes(&fields), width(&fields) + 1);
+    let (mode, room) = (random.within(0, modes as i64 - 1) as usize, random.within(0, n as i64 - 1) as usize);
+    let (kind, wild) = (random.within(0, 3), random.chance(8));
+    for (u, i) in (0..modes).flat_map(|u| (0..n).map(move |i| (u, i))) {
+        if [u == mode, (u, i) == (mode, room), true, false][kind as usize] {
+            let at = band_at(&fields, u, i);
+            fields[at..at + 2].clone_from_slice(&band(random, wild, q));
+        }
     }
     fields
 }
 
-/// A sound plant of 1 to 4 rooms. Half of them are steered: each mode draws towards a point in or about R, so that many have a table.
-pub fn plant_fields(random: &mut Random) -> Vec<Field> {
+/// A sound plant of form 1, of 1 to 4 rooms. Half of them are steered: each mode draws towards a point in or about R, so that many have a table.
+fn form_1_fields(random: &mut Random) -> Vec<Field> {
     let (wild, steered) = (random.chance(8), random.chance(2));
     let (n, q) = (random.within(1, 4), if wild { random.one(&[1, 2, 10_000]) } else { random.within(1, 20) });
     let modes = if random.chance(20) { 16 } else { random.within(1, 4) };
@@ -176,9 +200,42 @@ pub fn sheet_fields(random: &mut Random) -> Vec<Field> {
     fields
 }
 
+/// P, P' and two rooms, in form 1 and in form 2, and in form 2 with another band in the last mode.
+pub fn papers_plants() -> Vec<Vec<u8>> {
+    let p_prime = with(&with(&p_fields(), 8, S(180)), 9, S(240));
+    let mut plants = Vec::new();
+    for fields in [p_fields(), p_prime, two_rooms()] {
+        let equal = in_form_2(&fields);
+        let at = band_at(&equal, modes(&equal) - 1, 0) + 1;
+        let wider = with(&equal, at, S(signed(&equal[at]) + 3));
+        plants.extend([fields, equal, wider].iter().map(|fields| file(fields)));
+    }
+    plants
+}
+
 fn rooms(fields: &[Field]) -> usize {
     let U(n) = fields[1] else { panic!("no n") };
     n as usize
+}
+
+/// The modes of a plant that have a band of their own in its file; a form 1 plant and a sheet have one band, which is mode 0's.
+fn modes(fields: &[Field]) -> usize {
+    match fields[..3] {
+        [U(2), _, U(modes)] => modes as usize,
+        _ => 1,
+    }
+}
+
+/// The least w hi − w lo, q − 1.
+fn width(fields: &[Field]) -> i64 {
+    let U(q) = fields[3] else { panic!("no q") };
+    q as i64 - 1
+}
+
+/// Where w lo of a room stands, in form 2 that of a mode; w hi is behind it.
+fn band_at(fields: &[Field], mode: usize, room: usize) -> usize {
+    let n = rooms(fields);
+    6 + 4 * n + mode * (2 * n + n * (n + 1)) + 2 * room
 }
 
 pub fn signed(field: &Field) -> i64 {
@@ -199,18 +256,25 @@ fn range(fields: &[Field], at: usize) -> Option<(i64, i64)> {
     let of_pair = |limit: i64| (if at % 2 == 0 { -limit } else { signed(&fields[at - 1]) }, limit);
     Some(match at {
         _ if matches!(fields[at], F(_)) => return None,
-        0 => (1, 1),
+        0 if sheet => (1, 1),
+        0 => (1, 2),
         1 => (1, 4),
         2 => (1, if sheet { 1_000 } else { 16 }),
         3 => (1, 10_000),
         4 => (1, 6),
         5 => (0, 6.min(12 / n as i64)),
         _ if at < 6 + 4 * n => of_pair(EDGE),
-        _ if at < 6 + 6 * n => of_pair(BAND),
+        _ if in_mode(fields, at) < 2 * n => of_pair(BAND),
         _ if sheet => (0, 2),
-        _ if (at - 6 - 6 * n) % (n + 1) == n => (-B, B),
+        _ if (in_mode(fields, at) - 2 * n) % (n + 1) == n => (-B, B),
         _ => (-A, A),
     })
+}
+
+/// Which number behind the edges it is; in form 2 each mode counts from its own band on.
+fn in_mode(fields: &[Field], at: usize) -> usize {
+    let (first, next) = (band_at(fields, 0, 0), band_at(fields, 1, 0));
+    if matches!(fields[0], U(2)) { (at - first) % (next - first) } else { at - first }
 }
 
 /// Whether a sheet's float may be below 0: outside and water temperature, and a rate.
@@ -245,7 +309,7 @@ pub fn outside(field: &Field, least: i64, greatest: i64) -> Vec<Field> {
     }
 }
 
-/// A plant or a sheet in order, with each of its numbers made wrong in every way and each dimension's 4 and 5, and what is told of each.
+/// A plant or a sheet in order, with each of its numbers made wrong in every way, each dimension's 4 and each band's 5, and what is told of each.
 pub fn spoiled(fields: &[Field]) -> Vec<(Vec<u8>, Told)> {
     let (bytes, places) = encode(fields);
     let mut all = Vec::new();
@@ -257,19 +321,38 @@ pub fn spoiled(fields: &[Field]) -> Vec<(Vec<u8>, Told)> {
     for behind in [0, 1, 0x80] {
         all.push(([&bytes[..], &[behind]].concat(), (3, bytes.len() as u64, 0)));
     }
-    let (n, U(q)) = (rooms(fields), &fields[3]) else { panic!("no q") };
-    for i in 0..n {
-        let (r, w) = (6 + 4 * i, 6 + 4 * n + 2 * i);
+    for i in 0..rooms(fields) {
+        let r = 6 + 4 * i;
         if signed(&fields[r + 2]) > -EDGE {
             all.push((file(&with(fields, r, S(signed(&fields[r + 2]) - 1))), (4, i as u64, 0)));
         }
         if signed(&fields[r + 3]) < EDGE {
             all.push((file(&with(fields, r + 1, S(signed(&fields[r + 3]) + 1))), (4, i as u64, 0)));
         }
-        if *q > 1 {
-            all.push((file(&with(fields, w + 1, S(signed(&fields[w]) + *q as i64 - 2))), (5, i as u64, 0)));
+    }
+    all.extend(narrow_bands(fields));
+    all
+}
+
+/// Each band, of each mode and room, one count narrower than it may be.
+fn narrow_bands(fields: &[Field]) -> Vec<(Vec<u8>, Told)> {
+    let mut all = Vec::new();
+    for (mode, i) in (0..modes(fields)).flat_map(|mode| (0..rooms(fields)).map(move |i| (mode, i))) {
+        let at = band_at(fields, mode, i);
+        let (lo, hi) = (signed(&fields[at]), signed(&fields[at + 1]));
+        for narrow in [with(fields, at, S(hi - width(fields) + 1)), with(fields, at + 1, S(lo + width(fields) - 1))] {
+            if width(fields) > 0 {
+                all.push((file(&narrow), (5, mode as u64, i as u64)));
+            }
         }
     }
+    all
+}
+
+/// A plant's bytes with another first byte, the other form among them, and with a form of two bytes.
+pub fn other_forms(fields: &[Field]) -> Vec<Vec<u8>> {
+    let mut all: Vec<_> = [0, 1, 2, 3, 0x80, 129].map(|form| file(&with(fields, 0, Raw(vec![form])))).to_vec();
+    all.extend([129, 130, 258].map(|form| file(&with(fields, 0, U(form)))));
     all
 }
 

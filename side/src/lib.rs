@@ -113,9 +113,9 @@ pub fn make(plant: &[u8], buffer: &mut [u8]) -> Told {
     (number, out[0], out[1])
 }
 
-/// One call of the controller: the mode, and number, place, next place, next left.
-pub fn control(plant: &[u8], table: &[u8], place: u64, left: u64, x: [i64; 4]) -> (u64, [u64; 4]) {
-    let mut out = [u64::MAX; 4];
+/// One call of the controller: the mode, and number, place, step, next place, next left.
+pub fn control(plant: &[u8], table: &[u8], place: u64, left: u64, x: [i64; 4]) -> (u64, [u64; 5]) {
+    let mut out = [u64::MAX; 5];
     let mode = unsafe {
         hoachulim_control(
             plant.as_ptr(),

@@ -82,11 +82,11 @@ impl Seen {
     }
 
     /// The second program's answer is taken as the face shows it.
-    pub fn control(&mut self, plant: &[u8], table: &[u8], place: u64, left: u64, x: [i64; 4]) -> (u64, [u64; 4]) {
+    pub fn control(&mut self, plant: &[u8], table: &[u8], place: u64, left: u64, x: [i64; 4]) -> (u64, [u64; 5]) {
         let answer = crate::control(plant, table, place, left, x);
         let shown = match second::control::control(plant, table, State { place, left }, x) {
-            Ok((mode, state)) => (mode.into(), [0, 0, state.place, state.left]),
-            Err(refusal) => (255, [refusal.number.into(), refusal.place, 0, 0]),
+            Ok((mode, state)) => (mode.into(), [0, 0, 0, state.place, state.left]),
+            Err(refusal) => (255, [refusal.number.into(), refusal.place, refusal.step, 0, 0]),
         };
         assert_eq!(answer, shown, "control {plant:?} {table:?} {place} {left} {x:?}");
         self.control[answer.1[0] as usize] += 1;

@@ -2,15 +2,15 @@
 //! tables, each cut at every length, damaged at every byte, and with bytes
 //! behind; seeded trees over seeded plants. Every answer is number, place and step.
 
-use side::common::{file, p_fields, p_prime, two_rooms};
-use side::inputs::{any_tree, damaged, made_table, plant_fields, random, rounds};
+use side::common::file;
+use side::inputs::{any_tree, damaged, made_table, papers_plants, plant_fields, random, rounds};
 use side::largest_table_plant;
 use side::seen::Seen;
 
 #[test]
 fn the_papers_plants_and_tables() {
     let (mut random, mut seen) = (random(1), Seen::default());
-    for bytes in [file(&p_fields()), p_prime(), file(&two_rooms())] {
+    for bytes in papers_plants() {
         damaged(&mut random, &bytes, |other| {
             seen.plant(other);
         });

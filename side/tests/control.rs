@@ -1,15 +1,14 @@
 //! The controller's call side by side: readings around R and S, states that
 //! can be and cannot, tables whole, cut and damaged.
 
-use side::common::{file, p_fields, p_prime, two_rooms};
-use side::inputs::{made_table, random, rounds};
+use side::inputs::{made_table, papers_plants, random, rounds};
 use side::largest_table_plant;
 use side::seen::Seen;
 
 #[test]
 fn states_and_readings_of_the_papers_plants() {
     let (mut random, mut seen) = (random(3), Seen::default());
-    for plant in [file(&p_fields()), p_prime(), file(&two_rooms())] {
+    for plant in papers_plants() {
         let Some(table) = made_table(&plant) else { continue };
         let length = table.len() as i64;
         for _ in 0..rounds(20_000) {
@@ -49,7 +48,7 @@ fn every_corner_of_the_largest_table() {
             if mode == 255 {
                 break;
             }
-            (place, left) = (out[2], out[3]);
+            (place, left) = (out[3], out[4]);
             // the plant's own equation, q being 1 and the band 0
             x = [4 * x[0] - 13 * x[1], x[0] - 3 * x[1], 0, 0];
         }

@@ -1,8 +1,8 @@
 //! The maker side by side: answer and every byte of the buffer, on plants with
 //! and without a table, in buffers long enough, just long enough and too short.
 
-use side::common::{file, p_fields, p_prime, two_rooms, Random, S, U};
-use side::inputs::{plant_fields, random, rounds};
+use side::common::{file, Random, S, U};
+use side::inputs::{papers_plants, plant_fields, random, rounds};
 use side::largest_table_plant;
 use side::seen::Seen;
 
@@ -21,7 +21,7 @@ fn every_buffer(seen: &mut Seen, plant: &[u8]) {
 #[test]
 fn the_papers_plants() {
     let mut seen = Seen::default();
-    for plant in [file(&p_fields()), p_prime(), file(&two_rooms())] {
+    for plant in papers_plants() {
         every_buffer(&mut seen, &plant);
         for length in 0..plant.len() {
             seen.make(&plant[..length], 40);

@@ -8,7 +8,7 @@
 use second::plant::read_plant;
 use side::common::{file, Field, Random, S, U};
 use side::inputs::{
-    any_reading, any_state, any_tree, damaged, made_table, other_table, plant_fields, random, rounds, sheet_fields, spoiled,
+    any_reading, any_state, any_tree, damaged, made_table, other_forms, other_table, plant_fields, random, rounds, sheet_fields, spoiled,
 };
 use side::seen::{each_came, Seen};
 
@@ -51,7 +51,11 @@ fn plants(random: &mut Random, seen: &mut Seen, fields: &[Field]) {
         assert_eq!(seen.plant(&bytes), wanted);
         assert_eq!(seen.make(&bytes, 9), wanted);
         assert_eq!(seen.check(&bytes, &[1, 1, 1, 0]), wanted);
-        assert_eq!(seen.control(&bytes, &[1, 1, 1, 0], 0, 0, [0; 4]), (255, [wanted.0.into(), wanted.1, 0, 0]));
+        assert_eq!(seen.control(&bytes, &[1, 1, 1, 0], 0, 0, [0; 4]), (255, [wanted.0, wanted.1, wanted.2, 0, 0]));
+    }
+    for bytes in other_forms(fields) {
+        seen.plant(&bytes);
+        seen.control(&bytes, &[1, 1, 1, 0], 0, 0, [0; 4]);
     }
     let sound = file(fields);
     assert_eq!(seen.plant(&sound), (0, 0, 0));
@@ -83,7 +87,7 @@ fn tables(random: &mut Random, seen: &mut Seen, bytes: &[u8]) {
             let (place, left) = any_state(random, &other);
             let x = any_reading(random, &plant);
             let (_, out) = seen.control(bytes, &other, place, left, x);
-            seen.control(bytes, &other, out[2], out[3], any_reading(random, &plant));
+            seen.control(bytes, &other, out[3], out[4], any_reading(random, &plant));
         }
     }
 }
@@ -157,13 +161,13 @@ fn every_kind_of_place_in_tables(seen: &mut Seen) {
         // the same of a split with no depth left and of one with no side left; and by the controller, idle
         for plant in [adding(1, 1), adding(1, 2)] {
             assert_eq!(seen.check(&plant, table), (number, place, 0), "{table:?}");
-            assert_eq!(seen.control(&plant, table, 0, 0, [0; 4]), (255, [number, place, 0, 0]), "{table:?}");
+            assert_eq!(seen.control(&plant, table, 0, 0, [0; 4]), (255, [number, place, 0, 0, 0]), "{table:?}");
         }
     }
     // what is behind the tile is told by the checker alone; a tile that is passed is read
     assert_eq!(seen.check(&plant, &[1, 1, 1, 0, 9]), (6, 4, 0));
-    assert_eq!(seen.control(&plant, &[1, 1, 1, 0, 9], 0, 0, [0; 4]), (0, [0; 4]));
-    assert_eq!(seen.control(&plant, &[1, 1, 0, 1, 3, 1, 0], 0, 0, [1; 4]), (255, [6, 4, 0, 0]));
+    assert_eq!(seen.control(&plant, &[1, 1, 1, 0, 9], 0, 0, [0; 4]), (0, [0; 5]));
+    assert_eq!(seen.control(&plant, &[1, 1, 0, 1, 3, 1, 0], 0, 0, [1; 4]), (255, [6, 4, 0, 0, 0]));
 }
 
 /// 11 at each dimension, idle and running; 12 of each cause.
@@ -179,17 +183,17 @@ fn every_kind_of_state_and_reading(seen: &mut Seen) {
                     assert_ne!(mode, 255);
                     x[i..].fill(end + beyond);
                     let (mode, out) = seen.control(&plant, &table, place, left, x);
-                    assert!(if i < n { (mode, out) == (255, [11, i as u64, 0, 0]) } else { mode != 255 });
+                    assert!(if i < n { (mode, out) == (255, [11, i as u64, 0, 0, 0]) } else { mode != 255 });
                 }
             }
         }
-        assert_eq!(seen.control(&plant, &table, 5, 1, [0; 4]), (2, [0; 4]));
+        assert_eq!(seen.control(&plant, &table, 5, 1, [0; 4]), (2, [0; 5]));
         let cannot_be = [(2, 7), (1, 0), (2, 0), (6, 0), (0, 1), (1, 1), (5, 2), (6, 1), (2, 5), (u64::MAX, 1), (u64::MAX - 1, 6), (2, u64::MAX)];
         for (place, left) in cannot_be {
-            assert_eq!(seen.control(&plant, &table, place, left, [0; 4]), (255, [12, 0, 0, 0]), "{place} {left}");
+            assert_eq!(seen.control(&plant, &table, place, left, [0; 4]), (255, [12, 0, 0, 0, 0]), "{place} {left}");
         }
         // the mode there is no mode: the tile's own 3, and a byte with the high bit set
-        assert_eq!(seen.control(&plant, &table, 2, 1, [0; 4]), (255, [12, 0, 0, 0]));
-        assert_eq!(seen.control(&plant, &[1, n as u8, 1, 0x80], 3, 1, [0; 4]), (255, [12, 0, 0, 0]));
+        assert_eq!(seen.control(&plant, &table, 2, 1, [0; 4]), (255, [12, 0, 0, 0, 0]));
+        assert_eq!(seen.control(&plant, &[1, n as u8, 1, 0x80], 3, 1, [0; 4]), (255, [12, 0, 0, 0, 0]));
     }
 }

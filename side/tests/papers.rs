@@ -51,8 +51,8 @@ fn drive(bytes: &[u8], plant: &Plant, table: &[u8], next: Next, random: &mut Ran
         let zone = if (place, left) == (0, 0) { plant.r() } else { plant.s() };
         assert!(zone.contains(&x), "{x:?} outside {zone:?}");
         let (mode, out) = control(bytes, table, place, left, x);
-        assert!(mode != 255 && out[..2] == [0, 0], "refused {out:?} at {x:?}");
-        (place, left) = (out[2], out[3]);
+        assert!(mode != 255 && out[..3] == [0; 3], "refused {out:?} at {x:?}");
+        (place, left) = (out[3], out[4]);
         x = following(random, next, sample, plant, mode, &x);
     }
 }

@@ -1,6 +1,7 @@
 //! Image, split and tile rule, which no exported function hands out: each is
 //! determined through the functions that are exported, to the last count.
 
+use second::band::Band;
 use second::boxes::Box;
 use second::image::image;
 use second::plant::{read_plant, write_plant, Plant};
@@ -27,19 +28,33 @@ fn any_side(random: &mut Random) -> (i64, i64) {
 
 // ---- image
 
-/// Sixteen modes or fewer, R any box, no depth, patterns of one: coefficients and bands of both signs, often the ends of their ranges.
+/// A sound band: ends of both signs, often those of the range.
+fn any_band(random: &mut Random, n: usize, q: i64) -> Band {
+    let mut band = Band::ZEROS;
+    for i in 0..n {
+        let (near, far) = (random.within(-2 * q, 2 * q), random.within(-BAND, BAND));
+        band.lo[i] = random.one(&[near, near, far, -BAND, BAND]).min(BAND - q + 1);
+        let (few, many) = (random.within(0, 2 * q), random.within(0, BAND));
+        band.hi[i] = (band.lo[i] + q - 1 + random.one(&[0, 0, few, many])).min(BAND);
+    }
+    band
+}
+
+/// Sixteen modes or fewer, R any box, no depth, patterns of one: coefficients and bands of both signs, often the ends of their ranges. In form 2 each
+/// mode has a band of its own.
 fn any_plant(random: &mut Random) -> Plant {
-    let mut plant = Plant { n: random.within(1, 4) as u64, modes: random.one(&[1, 3, 16]), k: 1, ..Plant::ZEROS };
+    let mut plant =
+        Plant { form: random.one(&[1, 2]), n: random.within(1, 4) as u64, modes: random.one(&[1, 3, 16]), k: 1, ..Plant::ZEROS };
     let any = random.within(1, 10_000);
     let q = random.one(&[1, 2, 3, 10, 9_999, 10_000, any]);
     plant.q = q as u64;
     for i in 0..plant.rooms() {
         let e = &mut plant.edges;
         (e.r_lo[i], e.r_hi[i]) = any_side(random);
-        let (near, far) = (random.within(-2 * q, 2 * q), random.within(-BAND, BAND));
-        e.w_lo[i] = random.one(&[near, near, far, -BAND, BAND]).min(BAND - q + 1);
-        let (few, many) = (random.within(0, 2 * q), random.within(0, BAND));
-        e.w_hi[i] = (e.w_lo[i] + q - 1 + random.one(&[0, 0, few, many])).min(BAND);
+    }
+    let one = any_band(random, plant.rooms(), q);
+    for band in &mut plant.bands {
+        *band = if plant.form == 1 { one } else { any_band(random, plant.n as usize, q) };
     }
     for coefficient in &mut plant.coefficients {
         let (near, far) = (random.within(-20, 20), random.within(-A, A));
@@ -48,12 +63,14 @@ fn any_plant(random: &mut Random) -> Plant {
     plant
 }
 
-/// Low and high edges by dimension; among the rows those with an entry at the end of its range, and with an offset beyond any reading.
+/// Low and high edges by dimension; among the rows those with an entry at the end of its range, with an offset beyond any reading, and with a band that
+/// mode 0 does not have.
 #[derive(Default, Debug)]
 struct Pinned {
     edges: [[usize; 2]; 4],
     steep: usize,
     far: usize,
+    own_band: usize,
 }
 
 /// The mode's offsets moved by q·t, so that its image moves by t counts and ends so far beyond R: its high edges beyond R's, or its low ones.
@@ -94,6 +111,7 @@ fn pin_image(random: &mut Random, pinned: &mut Pinned, up: bool) {
         let row = plant.row(mode, i);
         pinned.steep += usize::from(row[..plant.rooms()].iter().any(|a| a.abs() == A));
         pinned.far += usize::from(row[plant.rooms()].abs() > 1_000_000_000);
+        pinned.own_band += usize::from(plant.bands[mode] != plant.bands[0]);
     }
 }
 
@@ -106,18 +124,18 @@ fn every_edge_of_an_image() {
     }
     println!("{pinned:?}");
     assert!(pinned.edges.iter().flatten().all(|times| *times > 150), "{pinned:?}");
-    assert!(pinned.steep > 1_000 && pinned.far > 1_000, "{pinned:?}");
+    assert!(pinned.steep > 1_000 && pinned.far > 1_000 && pinned.own_band > 1_000, "{pinned:?}");
 }
 
 /// Any plant of one mode whose image may be no wider than R: sides of one width, rows of entries that add up to q or less, narrow bands.
 fn narrowing(random: &mut Random) -> Plant {
     let mut plant = Plant { modes: 1, ..any_plant(random) };
-    let (n, q, e) = (plant.rooms(), plant.q as i64, &mut plant.edges);
+    let (n, q, e, band) = (plant.rooms(), plant.q as i64, &mut plant.edges, &mut plant.bands[0]);
     let width = random.one(&[0, 1, 7, 40, 1_000]);
     for i in 0..n {
         e.r_lo[i] = e.r_lo[i].min(EDGE - width);
         e.r_hi[i] = e.r_lo[i] + width;
-        e.w_hi[i] = e.w_lo[i] + q - 1;
+        band.hi[i] = band.lo[i] + q - 1;
     }
     for entry in &mut plant.coefficients {
         *entry = random.within(-q / n as i64, q / n as i64);
@@ -165,7 +183,7 @@ fn images_just_in_r() {
 /// R any box, one split, sixteen modes under which every reading stays, so that a table of one split and one tile to a child is a table.
 fn staying(random: &mut Random) -> Plant {
     let n = random.within(1, 4) as usize;
-    let mut plant = Plant { n: n as u64, modes: 16, q: 1, k: 1, d: 1, ..Plant::ZEROS };
+    let mut plant = Plant { form: random.one(&[1, 2]), n: n as u64, modes: 16, q: 1, k: 1, d: 1, ..Plant::ZEROS };
     for i in 0..n {
         let (lo, hi) = any_side(random);
         let e = &mut plant.edges;
@@ -203,7 +221,7 @@ fn pin_split(random: &mut Random) -> usize {
     let mut table = vec![1, plant.n as u8, 0];
     let Some(children) = r.split() else {
         assert_eq!(check(&bytes, &table), (6, 2, 0), "{plant:?}");
-        assert_eq!(control(&bytes, &table, 0, 0, plant.edges.r_lo), (255, [6, 2, 0, 0]), "{plant:?}");
+        assert_eq!(control(&bytes, &table, 0, 0, plant.edges.r_lo), (255, [6, 2, 0, 0, 0]), "{plant:?}");
         return 0;
     };
     let children: Vec<Box> = children.collect();
@@ -214,8 +232,8 @@ fn pin_split(random: &mut Random) -> usize {
     for x in readings {
         let held_by: Vec<usize> = (0..children.len()).filter(|c| children[*c].contains(&x)).collect();
         let wanted = match (r.first_outside(&x), &held_by[..]) {
-            (None, [c]) => (*c as u64, [0; 4]),
-            (Some(dimension), []) => (255, [11, dimension as u64, 0, 0]),
+            (None, [c]) => (*c as u64, [0; 5]),
+            (Some(dimension), []) => (255, [11, dimension as u64, 0, 0, 0]),
             _ => panic!("{x:?} is held by {held_by:?} of {children:?}"),
         };
         assert_eq!(control(&bytes, &table, 0, 0, x), wanted, "{x:?} in {plant:?}");

@@ -5,8 +5,8 @@
 //! samples as the table's longest pattern.
 
 use second::plant::read_plant;
-use side::common::{file, p_fields, p_prime, Random};
-use side::inputs::{other_table, plant_fields, random, rounds};
+use side::common::{file, Random};
+use side::inputs::{other_table, papers_plants, plant_fields, random, rounds};
 use side::rooms::{following, longest_pattern, Next, EVERY_NEXT};
 use side::{check, control, largest_table_plant, make};
 
@@ -22,10 +22,10 @@ fn run(random: &mut Random, next: Next, samples: usize, bytes: &[u8], table: &[u
             since_idle = 0;
         }
         let (mode, out) = control(bytes, table, place, left, x);
-        assert!(mode != 255 && out[..2] == [0, 0], "refused {out:?} at {x:?}: {bytes:?} {table:?}");
+        assert!(mode != 255 && out[..3] == [0; 3], "refused {out:?} at {x:?}: {bytes:?} {table:?}");
         since_idle += 1;
         assert!(since_idle <= longest, "{since_idle} samples: {bytes:?} {table:?}");
-        (place, left) = (out[2], out[3]);
+        (place, left) = (out[3], out[4]);
         x = following(random, next, sample, &plant, mode, &x);
     }
 }
@@ -55,9 +55,10 @@ fn made(bytes: &[u8]) -> Option<Vec<u8>> {
 #[test]
 fn accepted_tables_keep_their_promise() {
     let mut random = random(8);
-    let mut plants = vec![file(&p_fields()), p_prime(), include_bytes!("../../samples/house.plant").to_vec(), largest_table_plant()];
+    let mut plants = papers_plants();
+    plants.extend([include_bytes!("../../samples/house.plant").to_vec(), largest_table_plant()]);
     plants.extend((0..rounds(2_000)).map(|_| file(&plant_fields(&mut random))));
-    let (mut samples, mut tables, mut others, mut longer) = (0, 0, 0, 0);
+    let (mut samples, mut tables, mut others, mut longer, mut own_bands) = (0, 0, 0, 0, 0);
     for bytes in plants {
         let made = made(&bytes);
         let other = other_table(&mut random, &read_plant(&bytes).unwrap()).filter(|other| Some(other) != made.as_ref());
@@ -66,9 +67,10 @@ fn accepted_tables_keep_their_promise() {
         longer += usize::from(lengths[0] < lengths[1]);
         for table in [made, other].into_iter().flatten() {
             tables += 1;
+            own_bands += usize::from(bytes[0] == 2);
             samples += runs(&mut random, &bytes, &table);
         }
     }
-    println!("{samples} samples by {tables} tables, {others} of them not the made one, {longer} with a longer pattern");
-    assert!(samples >= 100_000 && others > 30 && longer > 10, "{samples} {others} {longer}");
+    println!("{samples} samples by {tables} tables, {others} of them not the made one, {longer} with a longer pattern, {own_bands} of plants of form 2");
+    assert!(samples >= 100_000 && others > 30 && longer > 10 && own_bands > 100, "{samples} {others} {longer} {own_bands}");
 }

@@ -97,8 +97,8 @@ fn without_boxes_the_answers_are_the_tables() {
         let start = Start { chain: vec![U(1), U(0)], tables: vec![table.clone()] }.bytes();
         for _ in 0..20 {
             let ((place, left), x) = (any_state(&mut random, &table), any_reading(&mut random, &plant));
-            let (mode, [number, at, next_place, next_left]) = seen.control(&bytes, &table, place, left, x);
-            let shown = (mode, [number, at, 0, 0, next_place, next_left]);
+            let (mode, [number, at, step, next_place, next_left]) = seen.control(&bytes, &table, place, left, x);
+            let shown = (mode, [number, at, step, 0, next_place, next_left]);
             assert_eq!(seen.start_control(&bytes, &start, [0, place, left], x), shown);
         }
     }
@@ -154,7 +154,8 @@ fn many_calls() {
         let chain = any_chain(&mut random, &plant);
         for (plant, wanted) in spoiled(&fields) {
             if random.chance(20) {
-                assert_eq!(seen.start_control(&plant, &[2], [9, 9, 9], [0; 4]), refused(wanted.0, wanted.1));
+                let shown = (255, [wanted.0, wanted.1, wanted.2, 0, 0, 0]);
+                assert_eq!(seen.start_control(&plant, &[2], [9, 9, 9], [0; 4]), shown);
             }
         }
         let mut all = vec![any_start(&mut random, &plant, &chain)];

@@ -54,7 +54,7 @@ impl Cold<'_> {
             let mode;
             (mode, standing) = self.answer(standing, x);
             let (alone, out) = control(self.bytes, &self.start.tables[0], place, left, x);
-            assert_eq!((mode, index, standing), (alone, 0, [0, out[2], out[3]]));
+            assert_eq!((mode, index, standing), (alone, 0, [0, out[3], out[4]]));
             x = following(random, next, later, &self.plant, mode, &x);
         }
         (sample, promised)

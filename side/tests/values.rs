@@ -6,11 +6,12 @@
 
 mod batch;
 
+use second::band::Band;
 use second::edges::Edges;
 use second::plant::Plant;
 use second::sheet::{Emitter, Room, Sheet};
-use side::common::{file, line_13, p_fields, plant_values, sheet_values, told, two_room_sheet, two_rooms, Field, S, U};
-use side::inputs::{damaged, plant_fields, random, rounds, sheet_fields, spoiled, A, B, BAND, EDGE};
+use side::common::{file, in_form_2, line_13, p_fields, plant_values, sheet_values, told, two_room_sheet, two_rooms, Field, S, U};
+use side::inputs::{damaged, other_forms, plant_fields, random, rounds, sheet_fields, spoiled, A, B, BAND, EDGE};
 use side::seen::{written, Numbers};
 use side::Told;
 
@@ -43,10 +44,13 @@ fn read_plant(seen: &mut Numbers, bytes: &[u8]) -> (Told, Plant) {
 #[test]
 fn plants_read() {
     let (mut random, mut seen) = (random(10), Numbers::default());
-    let mut plants = vec![p_fields(), two_rooms()];
+    let mut plants = vec![p_fields(), two_rooms(), in_form_2(&p_fields()), in_form_2(&two_rooms()), longest_plant(1), longest_plant(2)];
     plants.extend((0..rounds(300)).map(|_| plant_fields(&mut random)));
     for fields in plants {
         let bytes = file(&fields);
+        for other in other_forms(&fields) {
+            read_plant(&mut seen, &other);
+        }
         assert_eq!(read_plant(&mut seen, &bytes), ((0, 0, 0), plant_values(&fields, rooms(&fields))));
         for (other, wanted) in spoiled(&fields) {
             assert_eq!(read_plant(&mut seen, &other), (wanted, Plant::ZEROS));
@@ -58,7 +62,8 @@ fn plants_read() {
     all_seen("read_plant", &seen, &[0, 1, 2, 3, 4, 5]);
 }
 
-const NO_SHEET: Sheet = Sheet { n: 0, r: 0, q: 0, k: 0, d: 0, edges: Plant::ZEROS.edges, time: 0.0, outside: 0.0, rooms: [Room::ZEROS; 4] };
+const NO_SHEET: Sheet =
+    Sheet { n: 0, r: 0, q: 0, k: 0, d: 0, edges: Edges::ZEROS, band: Band::ZEROS, time: 0.0, outside: 0.0, rooms: [Room::ZEROS; 4] };
 
 fn read_sheet(seen: &mut Numbers, bytes: &[u8]) -> (Told, Sheet) {
     let (answer, sheet) = batch::read_sheet(bytes);
@@ -139,31 +144,47 @@ fn each<T: Copy, Value: Copy>(of: &T, place: impl Fn(&mut T) -> &mut Value, valu
     }
 }
 
-/// Each edge of R, S and w, beyond n too, at its extremes and about the others of its dimension.
-fn edges_at_extremes(edges: &Edges, q: u64, mut one: impl FnMut(&Edges)) {
-    let sides: [fn(&mut Edges) -> &mut [i64; 4]; 6] =
-        [|e| &mut e.r_lo, |e| &mut e.r_hi, |e| &mut e.s_lo, |e| &mut e.s_hi, |e| &mut e.w_lo, |e| &mut e.w_hi];
+/// Each edge of R and S, beyond n too, at its extremes and about the others of its dimension.
+fn edges_at_extremes(edges: &Edges, mut one: impl FnMut(&Edges)) {
+    let sides: [fn(&mut Edges) -> &mut [i64; 4]; 4] = [|e| &mut e.r_lo, |e| &mut e.r_hi, |e| &mut e.s_lo, |e| &mut e.s_hi];
     for i in 0..4 {
         let of_room = sides.map(|side| side(&mut edges.clone())[i]);
         let mut values = signed_counts();
         values.extend(of_room.iter().flat_map(|edge| [edge.saturating_sub(1), *edge, edge + 1]));
-        // the narrowest band there may be, and one narrower
-        let span = q.min(10_000) as i64 - 1;
-        let [w_lo, w_hi] = [edges.w_lo[i] + span, edges.w_hi[i].saturating_sub(span)];
-        values.extend([w_lo, w_lo - 1, w_hi, w_hi + 1]);
         for side in sides {
             each(edges, |e| &mut side(e)[i], &values, &mut one);
         }
     }
 }
 
+/// Each end of a band in the same way, and about the narrowest band there may be.
+fn band_at_extremes(band: &Band, q: u64, mut one: impl FnMut(&Band)) {
+    let ends: [fn(&mut Band) -> &mut [i64; 4]; 2] = [|band| &mut band.lo, |band| &mut band.hi];
+    let span = q.min(10_000) as i64 - 1;
+    for i in 0..4 {
+        let (lo, hi) = (band.lo[i], band.hi[i]);
+        let mut values = signed_counts();
+        for near in [lo, hi, lo + span, hi.saturating_sub(span)] {
+            values.extend([near.saturating_sub(1), near, near + 1]);
+        }
+        for end in ends {
+            each(band, |band| &mut end(band)[i], &values, &mut one);
+        }
+    }
+}
+
+/// Values one at a time, beyond n and N too; in form 1 also the bands behind mode 0's, which no file has.
 fn plants_at_extremes(plant: &Plant, mut one: impl FnMut(&Plant)) {
+    each(plant, |p| &mut p.form, &counts(), &mut one);
     each(plant, |p| &mut p.n, &counts(), &mut one);
     each(plant, |p| &mut p.modes, &counts(), &mut one);
     each(plant, |p| &mut p.q, &counts(), &mut one);
     each(plant, |p| &mut p.k, &counts(), &mut one);
     each(plant, |p| &mut p.d, &counts(), &mut one);
-    edges_at_extremes(&plant.edges, plant.q, |edges| one(&Plant { edges: *edges, ..*plant }));
+    edges_at_extremes(&plant.edges, |edges| one(&Plant { edges: *edges, ..*plant }));
+    for mode in 0..second::MOST_MODES {
+        band_at_extremes(&plant.bands[mode], plant.q, |band| each(plant, |p| &mut p.bands[mode], &[*band], &mut one));
+    }
     for at in 0..second::COEFFICIENTS {
         each(plant, |p| &mut p.coefficients[at], &signed_counts(), &mut one);
     }
@@ -175,7 +196,8 @@ fn sheets_at_extremes(sheet: &Sheet, mut one: impl FnMut(&Sheet)) {
     each(sheet, |h| &mut h.q, &counts(), &mut one);
     each(sheet, |h| &mut h.k, &counts(), &mut one);
     each(sheet, |h| &mut h.d, &counts(), &mut one);
-    edges_at_extremes(&sheet.edges, sheet.q, |edges| one(&Sheet { edges: *edges, ..*sheet }));
+    edges_at_extremes(&sheet.edges, |edges| one(&Sheet { edges: *edges, ..*sheet }));
+    band_at_extremes(&sheet.band, sheet.q, |band| one(&Sheet { band: *band, ..*sheet }));
     each(sheet, |h| &mut h.time, &floats(), &mut one);
     each(sheet, |h| &mut h.outside, &floats(), &mut one);
     for i in 0..4 {
@@ -210,12 +232,21 @@ fn about_its_length(mut write: impl FnMut(usize) -> Told) -> Told {
     answer
 }
 
-const FAR: Edges =
-    Edges { r_lo: [i64::MIN; 4], r_hi: [i64::MIN; 4], s_lo: [i64::MIN; 4], s_hi: [i64::MIN; 4], w_lo: [i64::MIN; 4], w_hi: [i64::MIN; 4] };
+const FAR: Edges = Edges { r_lo: [i64::MIN; 4], r_hi: [i64::MIN; 4], s_lo: [i64::MIN; 4], s_hi: [i64::MIN; 4] };
+const FAR_BAND: Band = Band { lo: [i64::MIN; 4], hi: [i64::MIN; 4] };
 
 /// Numbers of ten bytes wherever they do not end the file: the longest file that a plant's values would be.
-const FAR_PLANT: Plant =
-    Plant { n: 4, modes: 16, q: u64::MAX, k: u64::MAX, d: u64::MAX, edges: FAR, coefficients: [i64::MIN; second::COEFFICIENTS] };
+const FAR_PLANT: Plant = Plant {
+    form: 2,
+    n: 4,
+    modes: 16,
+    q: u64::MAX,
+    k: u64::MAX,
+    d: u64::MAX,
+    edges: FAR,
+    bands: [FAR_BAND; second::MOST_MODES],
+    coefficients: [i64::MIN; second::COEFFICIENTS],
+};
 
 /// The same of a sheet's.
 const FAR_SHEET: Sheet = Sheet {
@@ -225,27 +256,28 @@ const FAR_SHEET: Sheet = Sheet {
     k: u64::MAX,
     d: u64::MAX,
     edges: FAR,
+    band: FAR_BAND,
     time: f64::MAX,
     outside: f64::MAX,
     rooms: [Room { emitter: Emitter::Heater { p: f64::MAX, water: f64::MAX }, ..Room::ZEROS }; 4],
 };
 
-/// 1,183 bytes: every number as long as it can be.
-fn longest_plant() -> Vec<Field> {
+/// Every number as long as it can be: 1,183 bytes in form 1, 1,783 in form 2.
+fn longest_plant(form: u64) -> Vec<Field> {
     let mut fields = [1, 4, 16, 10_000, 6, 3].map(U).to_vec();
     fields.extend([-EDGE, EDGE].repeat(8).into_iter().map(S));
     fields.extend([-BAND, BAND].repeat(4).into_iter().map(S));
     fields.extend([A, -A, -A, A, -B].repeat(64).into_iter().map(S));
-    assert_eq!(file(&fields).len(), second::LARGEST_PLANT);
-    fields
+    assert_eq!((file(&fields).len(), file(&in_form_2(&fields)).len()), (1_183, second::LARGEST_PLANT));
+    if form == 1 { fields } else { in_form_2(&fields) }
 }
 
 #[test]
 fn plants_written() {
     let (mut random, mut seen) = (random(12), Numbers::default());
-    let mut plants = vec![p_fields(), two_rooms(), longest_plant()];
+    let mut plants = vec![p_fields(), two_rooms(), longest_plant(1), longest_plant(2), in_form_2(&p_fields())];
     plants.extend((0..rounds(10)).map(|_| plant_fields(&mut random)));
-    let mut values = vec![FAR_PLANT];
+    let mut values = vec![FAR_PLANT, Plant { form: 1, ..FAR_PLANT }];
     for fields in plants {
         let (plant, made) = (plant_values(&fields, rooms(&fields)), file(&fields).len());
         for length in 0..=made + 1 {
@@ -253,13 +285,17 @@ fn plants_written() {
             assert_eq!(write_plant(&mut seen, &plant, length), wanted);
         }
         values.push(plant);
+        // what stands behind mode 0's band of form 1, and behind N's of form 2
+        let mut behind = plant;
+        behind.bands[if plant.form == 1 { 1 } else { plant.mode_count() }..].fill(FAR_BAND);
+        assert_eq!(write_plant(&mut seen, &behind, made), (0, made as u64, 0));
     }
     for plant in values {
         plants_at_extremes(&plant, |other| {
             about_its_length(|length| write_plant(&mut seen, other, length));
         });
     }
-    all_seen("write_plant", &seen, &[0, 1, 3, 4, 5, 10]);
+    all_seen("write_plant", &seen, &[0, 1, 2, 3, 4, 5, 10]);
 }
 
 #[test]

@@ -47,7 +47,7 @@ pub fn tell(e: Refusal) {
 fn tell_row(number: u8) {
     match number {
         1 => say(b"a number or float ends early, is over 5 bytes, or not shortest"),
-        2 => say(b"form is not 1"),
+        2 => say(b"form is not known"),
         3 => say(
             b"plant or sheet number out of range, lo > hi, emitter kind over 2, or bytes left over",
         ),

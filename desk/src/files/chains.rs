@@ -2,7 +2,7 @@
 
 use super::boxes::Sides;
 use super::numbers::{self, Reader, Writer};
-use super::plants::{form, ranged, side, Plant};
+use super::plants::{form, ranged, side, Plant, FORM_1};
 use super::ranges::{MOST_BOXES, MOST_EDGE};
 use super::tables::{counted, Table};
 
@@ -20,7 +20,7 @@ impl Chain {
 
     /// Form, m and edges in file order.
     pub fn follow(file: &mut Reader, rooms: usize) -> Option<Chain> {
-        form(file)?;
+        form(file, FORM_1)?;
         let m = ranged(file, "m, the number of boxes,", 0, MOST_BOXES)?;
         let mut boxes = Vec::new();
         for index in 1..=m {
@@ -34,10 +34,7 @@ impl Chain {
         let mut file = Writer::default();
         file.number(1);
         file.number(self.boxes.len() as u64);
-        for side in self.boxes.iter().flatten() {
-            file.signed(side.lo);
-            file.signed(side.hi);
-        }
+        file.sides(self.boxes.iter().flatten().copied());
         file.0
     }
 }

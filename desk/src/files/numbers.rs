@@ -1,6 +1,8 @@
 //! Numbers and floats of a file, read one after the other, and written. A reader may be asked for what stands at a place: it ends there, and notes the
 //! cause for which a file is refused at that place. What stands before it the library has found right, so nothing here has to be judged.
 
+use super::boxes::Side;
+
 /// A file's bytes, read from the start on.
 pub struct Reader<'a> {
     bytes: &'a [u8],
@@ -124,6 +126,14 @@ impl Writer {
 
     pub fn signed(&mut self, value: i64) {
         self.number(if value >= 0 { 2 * value as u64 } else { 2 * (-(value + 1)) as u64 + 1 });
+    }
+
+    /// Both ends of each side.
+    pub fn sides(&mut self, sides: impl IntoIterator<Item = Side>) {
+        for side in sides {
+            self.signed(side.lo);
+            self.signed(side.hi);
+        }
     }
 
     pub fn float(&mut self, value: f64) {

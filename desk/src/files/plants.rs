@@ -1,4 +1,4 @@
-//! A plant's file, and the beginning that it shares with a sheet's: form, n, N or r, q, K, D, then R, S and w.
+//! A plant's file in either form (request 2026-09), and what it shares with a sheet's: form, n, N or r, q, K, D, then R and S, and the bands w.
 
 use super::boxes::{Side, Sides};
 use super::numbers::{Reader, Writer};
@@ -8,6 +8,8 @@ use std::fmt::Display;
 /// A plant's values, under document 01's letters.
 #[derive(Clone, Debug, PartialEq)]
 pub struct Plant {
+    /// 1, one band for all modes, or 2, a band in each.
+    pub form: u64,
     /// q, the denominator of A and b.
     pub q: u64,
     /// K, the longest pattern.
@@ -19,17 +21,17 @@ pub struct Plant {
     pub modes: Vec<Vec<Row>>,
 }
 
-/// R, S and w of a room.
+/// R and S of a room.
 #[derive(Clone, Copy, Debug, PartialEq, Eq)]
 pub struct Bounds {
     pub r: Side,
     pub s: Side,
-    pub w: Side,
 }
 
-/// A row of a mode: an entry of A for each room, and b.
+/// A room in a mode: its band, which is the same in all modes of form 1, an entry of A for each room, and b.
 #[derive(Clone, Debug, PartialEq, Eq)]
 pub struct Row {
+    pub w: Side,
     pub a: Vec<i64>,
     pub b: i64,
 }
@@ -52,21 +54,32 @@ impl Plant {
 
     /// The plant's numbers in file order.
     pub fn follow(file: &mut Reader) -> Option<Plant> {
-        let head = Head::follow(file, "N", MOST_MODES)?;
+        let head = Head::follow(file, PLANT_FORMS, "N", MOST_MODES)?;
         let rooms = bounds(file, head.rooms)?;
-        let modes = (0..head.second).map(|mode| rows(file, mode, head.rooms)).collect::<Option<_>>()?;
-        Some(Plant { q: head.q, longest: head.longest, depth: head.depth, rooms, modes })
+        let shared = if head.form == 1 { Some(bands(file, head.rooms, "")?) } else { None };
+        let mode = |mode| {
+            let own = || bands(file, head.rooms, &format!(" mode {mode},"));
+            let bands = shared.clone().or_else(own)?;
+            rows(file, mode, &bands)
+        };
+        let modes = (0..head.second).map(mode).collect::<Option<_>>()?;
+        Some(Plant { form: head.form, q: head.q, longest: head.longest, depth: head.depth, rooms, modes })
     }
 
     pub fn write(&self) -> Vec<u8> {
         let mut file = Writer::default();
-        for number in [1, self.rooms.len() as u64, self.modes.len() as u64, self.q, self.longest, self.depth] {
+        for number in [self.form, self.rooms.len() as u64, self.modes.len() as u64, self.q, self.longest, self.depth] {
             file.number(number);
         }
-        write_bounds(&mut file, &self.rooms);
-        for row in self.modes.iter().flatten() {
-            row.a.iter().for_each(|&a| file.signed(a));
-            file.signed(row.b);
+        self.rooms.iter().for_each(|room| file.sides([room.r, room.s]));
+        for (mode, rows) in self.modes.iter().enumerate() {
+            if mode == 0 || self.form == 2 {
+                file.sides(rows.iter().map(|row| row.w));
+            }
+            for row in rows {
+                row.a.iter().for_each(|&a| file.signed(a));
+                file.signed(row.b);
+            }
         }
         file.0
     }
@@ -74,6 +87,7 @@ impl Plant {
 
 /// What plants and sheets begin with; `second` is N of a plant, r of a sheet.
 pub struct Head {
+    pub form: u64,
     pub rooms: u64,
     pub second: u64,
     pub q: u64,
@@ -82,8 +96,8 @@ pub struct Head {
 }
 
 impl Head {
-    pub fn follow(file: &mut Reader, second: &str, most: i64) -> Option<Head> {
-        form(file)?;
+    pub fn follow(file: &mut Reader, forms: &str, second: &str, most: i64) -> Option<Head> {
+        let form = form(file, forms)?;
         let rooms = ranged(file, "n", 1, MOST_ROOMS)?;
         let second = ranged(file, second, 1, most)?;
         let q = ranged(file, "q", 1, MOST_Q)?;
@@ -91,13 +105,17 @@ impl Head {
         let most = most_depth(rooms as i64);
         let product = if most < most_depth(1) { ", as n·D is at most 12" } else { "" };
         let depth = file.number(|| "D".into(), |value| format!("D is {value}, wanted 0 .. {most}{product}"))?;
-        Some(Head { rooms, second, q, longest, depth })
+        Some(Head { form, rooms, second, q, longest, depth })
     }
 }
 
-/// The form, 1 in every file.
-pub fn form(file: &mut Reader) -> Option<u64> {
-    file.number(|| "the form".into(), |value| format!("the form is {value}, wanted 1"))
+/// The forms of a plant, and of every other file.
+const PLANT_FORMS: &str = "1 or 2";
+pub const FORM_1: &str = "1";
+
+/// The form, of those that the file may have.
+pub fn form(file: &mut Reader, forms: &str) -> Option<u64> {
+    file.number(|| "the form".into(), |value| format!("the form is {value}, wanted {forms}"))
 }
 
 /// A number with the range that it may have.
@@ -117,33 +135,23 @@ pub fn side(file: &mut Reader, what: impl Display, most: i64) -> Option<Side> {
     Some(Side { lo, hi })
 }
 
-/// R and S of each room, then w of each.
+/// R and S of each room.
 pub fn bounds(file: &mut Reader, rooms: u64) -> Option<Vec<Bounds>> {
-    let mut boxes = Vec::new();
-    for room in 1..=rooms {
-        boxes.push((side(file, format_args!("R of room {room},"), MOST_EDGE)?, side(file, format_args!("S of room {room},"), MOST_EDGE)?));
-    }
-    let mut bounds = Vec::new();
-    for (room, (r, s)) in (1..).zip(boxes) {
-        bounds.push(Bounds { r, s, w: side(file, format_args!("w of room {room},"), MOST_BAND)? });
-    }
-    Some(bounds)
+    let mut edges = |name: &str, room: u64| side(file, format_args!("{name} of room {room},"), MOST_EDGE);
+    (1..=rooms).map(|room| Some(Bounds { r: edges("R", room)?, s: edges("S", room)? })).collect()
 }
 
-pub fn write_bounds(file: &mut Writer, rooms: &[Bounds]) {
-    let edges = rooms.iter().flat_map(|room| [room.r, room.s]);
-    for side in edges.chain(rooms.iter().map(|room| room.w)) {
-        file.signed(side.lo);
-        file.signed(side.hi);
-    }
+/// w of each room; `of` says the mode where it is one's own.
+pub fn bands(file: &mut Reader, rooms: u64, of: &str) -> Option<Sides> {
+    (1..=rooms).map(|room| side(file, format_args!("w of{of} room {room},"), MOST_BAND)).collect()
 }
 
-/// The rows of a mode.
-fn rows(file: &mut Reader, mode: u64, rooms: u64) -> Option<Vec<Row>> {
-    let row = |file: &mut Reader, i: u64| {
+/// The rows of a mode with these bands.
+fn rows(file: &mut Reader, mode: u64, bands: &[Side]) -> Option<Vec<Row>> {
+    let row = |file: &mut Reader, i: usize, w: Side| {
         let entry = |j| signed(file, || format!("A of mode {mode}, room {i}, column {j},"), MOST_A);
-        let a = (1..=rooms).map(entry).collect::<Option<_>>()?;
-        Some(Row { a, b: signed(file, || format!("b of mode {mode}, room {i},"), MOST_B)? })
+        let a = (1..=bands.len()).map(entry).collect::<Option<_>>()?;
+        Some(Row { w, a, b: signed(file, || format!("b of mode {mode}, room {i},"), MOST_B)? })
     };
-    (1..=rooms).map(|i| row(file, i)).collect()
+    (1..).zip(bands).map(|(i, &w)| row(file, i, w)).collect()
 }

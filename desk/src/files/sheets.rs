@@ -1,7 +1,8 @@
-//! A sheet's file. Its beginning is a plant's (`plants`).
+//! A sheet's file. Its beginning is a plant's of form 1 (`plants`).
 
+use super::boxes::Side;
 use super::numbers::{Reader, Writer};
-use super::plants::{bounds, write_bounds, Bounds, Head};
+use super::plants::{bands, bounds, Bounds, Head, FORM_1};
 use super::ranges::MOST_COUNTS;
 
 /// A sheet's values.
@@ -25,6 +26,7 @@ pub struct Sheet {
 #[derive(Clone, Debug, PartialEq)]
 pub struct Room {
     pub bounds: Bounds,
+    pub w: Side,
     pub loss: f64,
     /// The exchanges with the other rooms, in their order.
     pub exchanges: Vec<f64>,
@@ -46,13 +48,13 @@ impl Sheet {
 
     /// The sheet's numbers and floats in file order.
     pub fn follow(file: &mut Reader) -> Option<Sheet> {
-        let head = Head::follow(file, "r, counts a degree,", MOST_COUNTS)?;
-        let bounds = bounds(file, head.rooms)?;
+        let head = Head::follow(file, FORM_1, "r, counts a degree,", MOST_COUNTS)?;
+        let (bounds, bands) = (bounds(file, head.rooms)?, bands(file, head.rooms, "")?);
         let time = float(file, || "the sample time".into(), "above 0")?;
         let outside = float(file, || "the outside temperature".into(), "a finite float")?;
         let mut rooms = Vec::new();
-        for (room, bounds) in (1..).zip(bounds) {
-            rooms.push(self::room(file, room, head.rooms, bounds)?);
+        for (room, (bounds, w)) in (1..).zip(bounds.into_iter().zip(bands)) {
+            rooms.push(self::room(file, room, head.rooms, bounds, w)?);
         }
         Some(Sheet { counts: head.second, q: head.q, longest: head.longest, depth: head.depth, time, outside, rooms })
     }
@@ -62,7 +64,8 @@ impl Sheet {
         for number in [1, self.rooms.len() as u64, self.counts, self.q, self.longest, self.depth] {
             file.number(number);
         }
-        write_bounds(&mut file, &self.rooms.iter().map(|room| room.bounds).collect::<Vec<_>>());
+        self.rooms.iter().for_each(|room| file.sides([room.bounds.r, room.bounds.s]));
+        file.sides(self.rooms.iter().map(|room| room.w));
         file.float(self.time);
         file.float(self.outside);
         for room in &self.rooms {
@@ -82,7 +85,7 @@ fn float(file: &mut Reader, name: impl Fn() -> String, wanted: &str) -> Option<f
 const NOT_BELOW: &str = "a finite float not below 0";
 
 /// The room's record.
-fn room(file: &mut Reader, room: u64, rooms: u64, bounds: Bounds) -> Option<Room> {
+fn room(file: &mut Reader, room: u64, rooms: u64, bounds: Bounds, w: Side) -> Option<Room> {
     let loss = float(file, || format!("the loss of room {room}"), NOT_BELOW)?;
     let mut exchanges = Vec::new();
     for other in (1..=rooms).filter(|&other| other != room) {
@@ -101,7 +104,7 @@ fn room(file: &mut Reader, room: u64, rooms: u64, bounds: Bounds) -> Option<Room
         2 => Emitter::Steady { rate: float(file, || format!("the rate of room {room}'s steady emitter"), "a finite float")? },
         _ => return None,
     };
-    Some(Room { bounds, loss, exchanges, emitter })
+    Some(Room { bounds, w, loss, exchanges, emitter })
 }
 
 fn write_emitter(file: &mut Writer, emitter: Emitter) {

@@ -2,7 +2,7 @@
 
 use super::boxes::{self, Side, Sides};
 use super::numbers::Reader;
-use super::plants::{form, Plant};
+use super::plants::{form, Plant, FORM_1};
 
 /// A table's tiles in file order, which is that of the listing.
 #[derive(Clone, Debug, Default, PartialEq, Eq)]
@@ -35,7 +35,7 @@ impl Table {
 
     /// The table's numbers in file order, from box `root` on. What was read before the reader ended stays in the table.
     pub fn follow(&mut self, file: &mut Reader, plant: &Plant, root: &[Side]) -> Option<()> {
-        form(file)?;
+        form(file, FORM_1)?;
         let rooms = plant.rooms.len();
         file.number(|| "the table's n".into(), |n| format!("the table is for {}, the plant has {rooms}", counted(n, "room")))?;
         self.node(file, plant, root, 0)

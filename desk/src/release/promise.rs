@@ -4,7 +4,7 @@
 use super::{Accepted, Files};
 use crate::controls::Control;
 use crate::files::tables::counted;
-use crate::files::{Side, Sides};
+use crate::files::{Plant, Side, Sides};
 use crate::pictures::chart::minutes;
 use crate::pictures::svg::escape;
 use crate::units::counts;
@@ -127,17 +127,12 @@ fn boxes(accepted: &Accepted) -> String {
 
 /// What the modeller answers for.
 pub fn modeller(accepted: &Accepted) -> String {
-    let plant = &accepted.house.plant;
-    let bands = match &accepted.house.sheet {
-        Some(sheet) => sheet.rooms.iter().map(|room| room.bounds.w).collect::<Vec<_>>(),
-        None => plant.rooms.iter().map(|room| room.w).collect(),
+    let (whose, bands) = match &accepted.house.sheet {
+        Some(sheet) => ("sheet’s", format!("the band: {}", by_room(sheet.rooms.iter().map(|room| room.w), sheet.q))),
+        None => ("plant’s", bands(&accepted.house.plant)),
     };
-    let band = |(number, w): (usize, &Side)| format!("room {number} by {} to {} counts", part(w.lo, plant.q), part(w.hi, plant.q));
-    let bands: Vec<String> = (1..).zip(&bands).map(band).collect();
     let mut points = vec![format!(
-        "that from one sample to the next the rooms follow the {} equation, each reading departing from it by no more than the band: {};",
-        if accepted.house.sheet.is_some() { "sheet’s" } else { "plant’s" },
-        bands.join(", ")
+        "that from one sample to the next the rooms follow the {whose} equation, each reading departing from it by no more than {bands};"
     )];
     if let Some(sheet) = &accepted.house.sheet {
         points.push(format!(
@@ -151,6 +146,22 @@ pub fn modeller(accepted: &Accepted) -> String {
     points.push("that whatever the equation leaves out, weather, doors, people and the step from sample to sample itself, fits in the band.".into());
     let points: String = points.iter().map(|point| format!("<li>{point}</li>\n")).collect();
     format!("<section>\n<h2>What the modeller answers for</h2>\n<ul>\n{points}</ul>\n</section>\n")
+}
+
+/// A plant's band, or in form 2 those of its modes.
+fn bands(plant: &Plant) -> String {
+    let of = |mode: usize| by_room(plant.modes[mode].iter().map(|row| row.w), plant.q);
+    if plant.form == 1 {
+        return format!("the band: {}", of(0));
+    }
+    let bands: Vec<String> = (0..plant.modes.len()).map(|mode| format!("in mode {mode} {}", of(mode))).collect();
+    format!("the band of the mode applied: {}", bands.join("; "))
+}
+
+/// A band, room by room.
+fn by_room(band: impl Iterator<Item = Side>, q: u64) -> String {
+    let room = |(number, w): (usize, Side)| format!("room {number} by {} to {} counts", part(w.lo, q), part(w.hi, q));
+    (1..).zip(band).map(room).collect::<Vec<_>>().join(", ")
 }
 
 /// An end of a band in counts, exactly: in decimals where q has them, else as a fraction.

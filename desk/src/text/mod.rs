@@ -47,11 +47,14 @@ pub fn read(text: &[u8]) -> Result<Said, Fault> {
     let wanted = "`sheet`, `plant` or `chain`";
     let mut line = lines.next(wanted)?;
     let kind = line.word(wanted, |word| Kind::of(word).filter(|kind| [Kind::Sheet, Kind::Plant, Kind::Chain].contains(kind)))?;
-    line.words("form 1")?;
+    let form = match kind {
+        Kind::Plant => plants::form(&mut line)?,
+        _ => line.words("form 1").map(|()| 1)?,
+    };
     line.end()?;
     let said = match kind {
         Kind::Sheet => Said::Sheet(sheets::read(&mut lines)?),
-        Kind::Plant => Said::Plant(plants::read(&mut lines)?),
+        Kind::Plant => Said::Plant(plants::read(&mut lines, form)?),
         _ => Said::Chain(chains::read(&mut lines)?),
     };
     lines.end()?;

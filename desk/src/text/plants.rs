@@ -1,62 +1,82 @@
-//! A plant as text, and what it shares with a sheet's and a chain's. The edges are shown in counts: a plant does not know how many a degree has.
+//! A plant as text, and what it shares with a sheet's and a chain's. In form 1 the line `w` stands in each room, in form 2 (request 2026-09) in each mode,
+//! for each room, before its row. The edges are shown in counts: a plant does not know how many a degree has.
 //! A text may say so in a line `counts a degree R` behind `rooms`, and then give edges in degrees; no file keeps that line.
 
-use super::lines::{Fault, Lines};
+use super::lines::{Fault, Line, Lines};
 use super::shown::Shown;
 use super::values::{band, box_words, side, whole};
 use crate::files::plants::{Bounds, Row};
 use crate::files::ranges::{most_depth, MOST_A, MOST_B, MOST_BAND, MOST_COUNTS, MOST_EDGE, MOST_LONGEST, MOST_MODES, MOST_Q, MOST_ROOMS};
-use crate::files::Plant;
+use crate::files::{Plant, Side, Sides};
 
-/// The plant that a text says, behind its first line.
-pub fn read(lines: &mut Lines) -> Result<Plant, Fault> {
+/// The form that a plant's first line says.
+pub fn form(line: &mut Line) -> Result<u64, Fault> {
+    line.words("form")?;
+    whole(line, "the form", 1, 2).map(|form| form as u64)
+}
+
+/// The plant of a form that a text says, behind its first line.
+pub fn read(lines: &mut Lines, form: u64) -> Result<Plant, Fault> {
     let rooms = count(lines, "rooms", 1, MOST_ROOMS)?;
     let counts = counts_if(lines)?;
     let modes = count(lines, "modes", 1, MOST_MODES)?;
     let (q, longest, depth) = limits(lines, rooms)?;
-    let rooms = (1..=rooms).map(|room| read_room(lines, room, counts)).collect::<Result<Vec<_>, _>>()?;
-    let modes = (0..modes).map(|mode| read_mode(lines, mode, rooms.len())).collect::<Result<_, _>>()?;
-    Ok(Plant { q, longest, depth, rooms, modes })
+    let (mut bounds, mut shared) = (Vec::new(), Sides::new());
+    for room in 1..=rooms {
+        lines.line(&format!("room {room}"))?.end()?;
+        bounds.push(self::bounds(lines, counts)?);
+        if form == 1 {
+            shared.push(read_band(lines)?);
+        }
+    }
+    let modes = (0..modes).map(|mode| read_mode(lines, mode, bounds.len(), &shared)).collect::<Result<_, _>>()?;
+    Ok(Plant { form, q, longest, depth, rooms: bounds, modes })
 }
 
 /// The canonical text of a plant.
 pub fn show(plant: &Plant, shown: &mut Shown) {
-    shown.line("plant form 1");
+    shown.line(format!("plant form {}", plant.form));
     shown.line(format!("rooms {}", plant.rooms.len()));
     shown.line(format!("modes {}", plant.modes.len()));
     show_limits(plant.q, plant.longest, plant.depth, shown);
-    for (bounds, room) in plant.rooms.iter().zip(1..) {
+    for (room, bounds) in plant.rooms.iter().enumerate() {
         shown.gap();
-        shown.line(format!("room {room}"));
-        show_bounds(bounds, plant.q, None, shown);
+        shown.line(format!("room {}", room + 1));
+        show_bounds(bounds, None, shown);
+        if plant.form == 1 {
+            show_band(plant.modes[0][room].w, plant.q, shown);
+        }
     }
     for (rows, mode) in plant.modes.iter().zip(0..) {
         shown.gap();
         shown.line(format!("mode {mode}"));
         for row in rows {
+            if plant.form == 2 {
+                show_band(row.w, plant.q, shown);
+            }
             let a: Vec<String> = row.a.iter().map(i64::to_string).collect();
             shown.line(format!("A {} b {}", a.join(" "), row.b));
         }
     }
 }
 
-fn read_room(lines: &mut Lines, room: i64, counts: Option<i64>) -> Result<Bounds, Fault> {
-    lines.line(&format!("room {room}"))?.end()?;
-    bounds(lines, counts)
-}
-
-fn read_mode(lines: &mut Lines, mode: i64, rooms: usize) -> Result<Vec<Row>, Fault> {
+/// A mode with the bands that the rooms have said, or else with its own.
+fn read_mode(lines: &mut Lines, mode: i64, rooms: usize, shared: &[Side]) -> Result<Vec<Row>, Fault> {
     lines.line(&format!("mode {mode}"))?.end()?;
-    (0..rooms).map(|_| read_row(lines, rooms)).collect()
+    let row = |room| {
+        let w = shared.get(room).map_or_else(|| read_band(lines), |&w| Ok(w))?;
+        read_row(lines, rooms, w)
+    };
+    (0..rooms).map(row).collect()
 }
 
-fn read_row(lines: &mut Lines, rooms: usize) -> Result<Row, Fault> {
+fn read_row(lines: &mut Lines, rooms: usize, w: Side) -> Result<Row, Fault> {
     let mut line = lines.line("A")?;
     let a = (0..rooms).map(|_| whole(&mut line, "an entry of A", -MOST_A, MOST_A)).collect::<Result<_, _>>()?;
     line.words("b")?;
     let b = whole(&mut line, "b", -MOST_B, MOST_B)?;
     line.end()?;
-    Ok(Row { a, b })
+    Ok(Row { w, a, b })
 }
 
 /// A line with one whole number.
@@ -93,7 +113,7 @@ pub fn show_limits(q: u64, longest: u64, depth: u64, shown: &mut Shown) {
     shown.noted(format!("depth {depth}"), "D".into());
 }
 
-/// R, S and w of a room.
+/// R and S of a room.
 pub fn bounds(lines: &mut Lines, counts: Option<i64>) -> Result<Bounds, Fault> {
     let mut edges = |name: &str| {
         let mut line = lines.line(name)?;
@@ -101,17 +121,24 @@ pub fn bounds(lines: &mut Lines, counts: Option<i64>) -> Result<Bounds, Fault> {
         line.end()?;
         Ok(side)
     };
-    let (r, s) = (edges("R")?, edges("S")?);
+    Ok(Bounds { r: edges("R")?, s: edges("S")? })
+}
+
+/// The line `w`.
+pub fn read_band(lines: &mut Lines) -> Result<Side, Fault> {
     let mut line = lines.line("w")?;
     let w = band(&mut line, "w", MOST_BAND)?;
     line.end()?;
-    Ok(Bounds { r, s, w })
+    Ok(w)
 }
 
-pub fn show_bounds(bounds: &Bounds, q: u64, counts: Option<i64>, shown: &mut Shown) {
+pub fn show_band(w: Side, q: u64, shown: &mut Shown) {
+    shown.noted(format!("w {w}"), format!("in 1/{q} counts"));
+}
+
+pub fn show_bounds(bounds: &Bounds, counts: Option<i64>, shown: &mut Shown) {
     for (name, side) in [("R", bounds.r), ("S", bounds.s)] {
         let (words, comment) = box_words(&[side], counts);
         shown.noted(format!("{name} {words}"), comment);
     }
-    shown.noted(format!("w {}", bounds.w), format!("in 1/{q} counts"));
 }

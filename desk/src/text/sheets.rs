@@ -1,7 +1,7 @@
 //! A sheet as text. Its edges are shown in degrees, in counts where one count has no decimal of a degree.
 
 use super::lines::{Fault, Line, Lines};
-use super::plants::{bounds, count, limits, show_bounds, show_limits, COUNTS};
+use super::plants::{bounds, count, limits, read_band, show_band, show_bounds, show_limits, COUNTS};
 use super::shown::Shown;
 use super::values::{float, float_words, Sign};
 use crate::files::ranges::{MOST_COUNTS, MOST_ROOMS};
@@ -35,7 +35,8 @@ pub fn show(sheet: &Sheet, shown: &mut Shown) {
 
 fn show_room(record: &Room, room: usize, sheet: &Sheet, shown: &mut Shown) {
     shown.line(format!("room {room}"));
-    show_bounds(&record.bounds, sheet.q, Some(sheet.counts as i64), shown);
+    show_bounds(&record.bounds, Some(sheet.counts as i64), shown);
+    show_band(record.w, sheet.q, shown);
     shown.line(format!("loss {}", float_words(record.loss)));
     for (other, &g) in others(room, sheet.rooms.len()).zip(&record.exchanges) {
         shown.line(format!("exchange with room {other} {}", float_words(g)));
@@ -54,7 +55,7 @@ fn others(room: usize, rooms: usize) -> impl Iterator<Item = usize> {
 
 fn read_room(lines: &mut Lines, room: i64, rooms: i64, counts: i64) -> Result<Room, Fault> {
     lines.line(&format!("room {room}"))?.end()?;
-    let bounds = bounds(lines, Some(counts))?;
+    let (bounds, w) = (bounds(lines, Some(counts))?, read_band(lines)?);
     let loss = one_float(lines, "loss", Sign::NotBelow0)?;
     let exchanges = others(room as usize, rooms as usize)
         .map(|other| one_float(lines, &format!("exchange with room {other}"), Sign::NotBelow0))
@@ -62,7 +63,7 @@ fn read_room(lines: &mut Lines, room: i64, rooms: i64, counts: i64) -> Result<Ro
     let mut line = lines.line("emitter")?;
     let emitter = read_emitter(&mut line)?;
     line.end()?;
-    Ok(Room { bounds, loss, exchanges, emitter })
+    Ok(Room { bounds, w, loss, exchanges, emitter })
 }
 
 fn read_emitter(line: &mut Line) -> Result<Emitter, Fault> {

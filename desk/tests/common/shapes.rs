@@ -17,9 +17,8 @@ impl Random {
 
 /// A plant whose every mode leads to the middle of R whatever the reading, so that every table of sound shape is accepted for it.
 pub fn steady(rooms: usize, modes: usize, longest: u64, depth: u64, r: Side, s: Side) -> House {
-    let bounds = Bounds { r, s, w: Side { lo: 0, hi: 0 } };
-    let row = Row { a: vec![0; rooms], b: (r.lo + r.hi).div_euclid(2) };
-    let plant = Plant { q: 1, longest, depth, rooms: vec![bounds; rooms], modes: vec![vec![row; rooms]; modes] };
+    let row = Row { w: Side { lo: 0, hi: 0 }, a: vec![0; rooms], b: (r.lo + r.hi).div_euclid(2) };
+    let plant = Plant { form: 1, q: 1, longest, depth, rooms: vec![Bounds { r, s }; rooms], modes: vec![vec![row; rooms]; modes] };
     House::of(plant.write(), None)
 }
 

@@ -15,7 +15,7 @@ use second::plant::read_plant;
 use second::refusal::Refusal;
 use second::start::{start_check, start_control, start_make_into, StartState};
 use side::common::{file, marked, Field, Random};
-use side::inputs::{any_reading, any_state, any_tree, damaged, made_table, other_table, plant_fields, random, sheet_fields, spoiled};
+use side::inputs::{any_reading, any_state, any_tree, damaged, made_table, other_forms, other_table, plant_fields, random, sheet_fields, spoiled};
 use side::seen::{each_came, Numbers};
 use side::starts::{any_chain, any_reading_about, any_standing, any_start, made_start, other_start, spoiled_chain, spoiled_lengths, turning, Start};
 use side::{largest_table_plant, Standing};
@@ -154,7 +154,7 @@ fn some_spoiled(random: &mut Random, fields: &[Field], count: usize) -> Vec<Vec<
 fn plants(random: &mut Random, cases: &mut Cases, fields: &[Field]) {
     let bytes = file(fields);
     cases.plant(&bytes);
-    for other in some_damaged(random, &bytes, EACH / 2) {
+    for other in [some_damaged(random, &bytes, EACH / 2), other_forms(fields)].concat() {
         cases.plant(&other);
     }
     for (at, other) in some_spoiled(random, fields, EACH / 2).iter().enumerate() {

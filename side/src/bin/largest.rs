@@ -2,7 +2,7 @@
 //! firmware/figures: written to the folder that is named.
 //!
 //! - `table`: the plant with the largest table there is, two rooms split six times;
-//! - `plant`: a plant of the largest length, four rooms and every mode, with a table
+//! - `plant`: a plant of the largest length, form 2, four rooms and every mode, with a table
 //!   of the deepest split and the longest patterns, which the checker accepts;
 //! - `sheet`: the largest sheet;
 //! - `start`: a plant, its chain of eight boxes, and the start file of them.
@@ -21,13 +21,13 @@ const Q: i64 = 10_000;
 /// follows alike; so after two samples all rooms stand at the centre, whatever the pattern.
 fn largest_plant() -> Vec<u8> {
     let (limit, band) = (1_000_000, 500_000_000);
-    let mut fields = vec![U(1), U(ROOMS as u64), U(MODES as u64), U(Q as u64), U(second::LONGEST_PATTERN as u64), U(3)];
+    let mut fields = vec![U(2), U(ROOMS as u64), U(MODES as u64), U(Q as u64), U(second::LONGEST_PATTERN as u64), U(3)];
     for _ in 0..ROOMS {
         fields.extend([CENTRE - 4, CENTRE + 3, -limit, limit].map(S));
     }
-    fields.extend([band, band + Q - 1].repeat(ROOMS).into_iter().map(S));
-    for _ in 0..MODES * ROOMS {
-        fields.extend([8_193, 8_193, -8_193, -8_193, Q * CENTRE - band - Q / 2].map(S));
+    for _ in 0..MODES {
+        fields.extend([band, band + Q - 1].repeat(ROOMS).into_iter().map(S));
+        fields.extend([8_193, 8_193, -8_193, -8_193, Q * CENTRE - band - Q / 2].repeat(ROOMS).into_iter().map(S));
     }
     file(&fields)
 }

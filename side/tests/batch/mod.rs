@@ -1,18 +1,23 @@
 //! The functions of crates/batch, called the way C calls them, with plants and
-//! sheets as the second program holds them. Values go over as arrays: n, N (or
-//! r), q, K, D; R lo, R hi, S lo, S hi, w lo, w hi, four each; then a plant's
-//! coefficients, or a sheet's time and outside temperature, emitter numbers and
-//! rooms. What is to be filled is marked, so that a value not handed over is
-//! noticed.
+//! sheets as the second program holds them. Values go over as arrays. A plant's:
+//! form, n, N, q, K, D; R lo, R hi, S lo, S hi, four each; the bands, that of mode
+//! u in dimension i at 2(u·n + i), w hi behind w lo; the coefficients. A sheet's:
+//! n, r, q, K, D; R lo, R hi, S lo, S hi, w lo, w hi, four each; time and outside
+//! temperature, emitter numbers and rooms. What is to be filled is marked, so
+//! that a value not handed over is noticed.
 
+use second::band::Band;
 use second::edges::Edges;
 use second::plant::Plant;
 use second::sheet::{Emitter, Room, Sheet};
 use side::Told;
 
+type PlantHeader = [u64; 6];
+type PlantEdges = [[i64; 4]; 4];
+type Bands = [i64; 128];
+type Coefficients = [i64; 320];
 type Header = [u64; 5];
 type Bounds = [[i64; 4]; 6];
-type Coefficients = [i64; 320];
 /// The emitters' numbers.
 type Kinds = [u8; 4];
 /// Loss, three exchanges and the emitter's own values.
@@ -23,14 +28,16 @@ extern "C" {
     fn batch_read_plant(
         plant: *const u8,
         plant_length: u64,
-        header: *mut Header,
-        bounds: *mut Bounds,
+        header: *mut PlantHeader,
+        edges: *mut PlantEdges,
+        bands: *mut Bands,
         coefficients: *mut Coefficients,
         out: *mut [u64; 2],
     ) -> u64;
     fn batch_write_plant(
-        header: *const Header,
-        bounds: *const Bounds,
+        header: *const PlantHeader,
+        edges: *const PlantEdges,
+        bands: *const Bands,
         coefficients: *const Coefficients,
         buffer: *mut u8,
         buffer_length: u64,
@@ -60,12 +67,36 @@ extern "C" {
 
 const MARK: u64 = 0xAAAA_AAAA;
 
-fn bounds_of(e: &Edges) -> Bounds {
-    [e.r_lo, e.r_hi, e.s_lo, e.s_hi, e.w_lo, e.w_hi]
+fn bounds_of(e: &Edges, w: &Band) -> Bounds {
+    [e.r_lo, e.r_hi, e.s_lo, e.s_hi, w.lo, w.hi]
 }
 
-fn edges_of([r_lo, r_hi, s_lo, s_hi, w_lo, w_hi]: Bounds) -> Edges {
-    Edges { r_lo, r_hi, s_lo, s_hi, w_lo, w_hi }
+fn edges_of([r_lo, r_hi, s_lo, s_hi]: PlantEdges) -> Edges {
+    Edges { r_lo, r_hi, s_lo, s_hi }
+}
+
+/// The bands of all sixteen modes, in n dimensions each; what is behind them no writer may look at.
+fn flat_bands(plant: &Plant) -> Bands {
+    let mut flat = [i64::MIN; 128];
+    let n = plant.rooms();
+    for (u, band) in plant.bands.iter().enumerate() {
+        for i in 0..n {
+            flat[2 * (u * n + i)..][..2].copy_from_slice(&[band.lo[i], band.hi[i]]);
+        }
+    }
+    flat
+}
+
+/// The same the other way; behind the bands of sixteen modes there are zeros.
+fn bands_of(flat: &Bands, n: usize) -> [Band; 16] {
+    assert!(flat[2 * 16 * n..].iter().all(|end| *end == 0), "{flat:?}");
+    let mut bands = [Band::ZEROS; 16];
+    for (u, band) in bands.iter_mut().enumerate() {
+        for i in 0..n {
+            (band.lo[i], band.hi[i]) = (flat[2 * (u * n + i)], flat[2 * (u * n + i) + 1]);
+        }
+    }
+    bands
 }
 
 fn kind_of(room: Room) -> u8 {
@@ -98,20 +129,23 @@ fn room_of(kind: u8, [loss, a, b, c, first, second]: [f64; 6]) -> Room {
 
 /// What the library says of a plant's bytes, and the plant's values.
 pub fn read_plant(bytes: &[u8]) -> (Told, Plant) {
-    let (mut header, mut bounds, mut coefficients) = ([MARK; 5], [[MARK as i64; 4]; 6], [MARK as i64; 320]);
-    let mut out = [MARK; 2];
-    let number = unsafe { batch_read_plant(bytes.as_ptr(), bytes.len() as u64, &mut header, &mut bounds, &mut coefficients, &mut out) };
-    let [n, modes, q, k, d] = header;
-    let plant = Plant { n, modes, q, k, d, edges: edges_of(bounds), coefficients };
+    let (mut header, mut edges) = ([MARK; 6], [[MARK as i64; 4]; 4]);
+    let (mut bands, mut coefficients, mut out) = ([MARK as i64; 128], [MARK as i64; 320], [MARK; 2]);
+    let number =
+        unsafe { batch_read_plant(bytes.as_ptr(), bytes.len() as u64, &mut header, &mut edges, &mut bands, &mut coefficients, &mut out) };
+    let [form, n, modes, q, k, d] = header;
+    assert!(n <= 4, "{n} rooms of {bytes:?}");
+    let plant = Plant { form, n, modes, q, k, d, edges: edges_of(edges), bands: bands_of(&bands, n as usize), coefficients };
     ((number, out[0], out[1]), plant)
 }
 
 /// The file that the library writes of a plant's values: number, and length written or place, and step.
 pub fn write_plant(plant: &Plant, buffer: &mut [u8]) -> Told {
-    let header = [plant.n, plant.modes, plant.q, plant.k, plant.d];
-    let bounds = bounds_of(&plant.edges);
-    let mut out = [MARK; 2];
-    let number = unsafe { batch_write_plant(&header, &bounds, &plant.coefficients, buffer.as_mut_ptr(), buffer.len() as u64, &mut out) };
+    let header = [plant.form, plant.n, plant.modes, plant.q, plant.k, plant.d];
+    let Edges { r_lo, r_hi, s_lo, s_hi } = plant.edges;
+    let (edges, bands, mut out) = ([r_lo, r_hi, s_lo, s_hi], flat_bands(plant), [MARK; 2]);
+    let number =
+        unsafe { batch_write_plant(&header, &edges, &bands, &plant.coefficients, buffer.as_mut_ptr(), buffer.len() as u64, &mut out) };
     (number, out[0], out[1])
 }
 
@@ -123,14 +157,16 @@ pub fn read_sheet(bytes: &[u8]) -> (Told, Sheet) {
     let number =
         unsafe { batch_read_sheet(bytes.as_ptr(), bytes.len() as u64, &mut header, &mut bounds, &mut times, &mut kinds, &mut rooms, &mut out) };
     let ([n, r, q, k, d], [time, outside]) = (header, times);
+    let [r_lo, r_hi, s_lo, s_hi, lo, hi] = bounds;
     let rooms = std::array::from_fn(|i| room_of(kinds[i], rooms[i]));
-    ((number, out[0], out[1]), Sheet { n, r, q, k, d, edges: edges_of(bounds), time, outside, rooms })
+    let edges = edges_of([r_lo, r_hi, s_lo, s_hi]);
+    ((number, out[0], out[1]), Sheet { n, r, q, k, d, edges, band: Band { lo, hi }, time, outside, rooms })
 }
 
 /// The file that the library writes of a sheet's values: number, and length written or place, and step.
 pub fn write_sheet(sheet: &Sheet, buffer: &mut [u8]) -> Told {
     let header = [sheet.n, sheet.r, sheet.q, sheet.k, sheet.d];
-    let (bounds, times) = (bounds_of(&sheet.edges), [sheet.time, sheet.outside]);
+    let (bounds, times) = (bounds_of(&sheet.edges, &sheet.band), [sheet.time, sheet.outside]);
     let (kinds, rooms) = (sheet.rooms.map(kind_of), sheet.rooms.map(floats_of));
     let mut out = [MARK; 2];
     let number = unsafe { batch_write_sheet(&header, &bounds, &times, &kinds, &rooms, buffer.as_mut_ptr(), buffer.len() as u64, &mut out) };
@@ -140,7 +176,7 @@ pub fn write_sheet(sheet: &Sheet, buffer: &mut [u8]) -> Told {
 /// Every value of a sheet as bits: minus zero is not zero.
 pub fn bits(sheet: &Sheet) -> Vec<u64> {
     let mut bits = vec![sheet.n, sheet.r, sheet.q, sheet.k, sheet.d];
-    bits.extend(bounds_of(&sheet.edges).iter().flatten().map(|edge| *edge as u64));
+    bits.extend(bounds_of(&sheet.edges, &sheet.band).iter().flatten().map(|edge| *edge as u64));
     bits.extend([sheet.time, sheet.outside].map(f64::to_bits));
     for room in sheet.rooms {
         bits.push(kind_of(room).into());
