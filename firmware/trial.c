@@ -97,11 +97,13 @@ static void cold(const struct stored *stored)
         }
 }
 
-/* A reading above S, idle and in mid-pattern; a first reading outside R, and outside every box; bytes that are not accepted: no sample is asked for. */
+/* A reading above S, idle and in mid-pattern; a first reading outside R, and outside every box; bytes that are not accepted, a plant whose band in mode 1
+   is too narrow among them: no sample is asked for. */
 static void refused(const struct stored *p, const struct stored *house, const struct stored *start)
 {
     static const uint8_t heat[] = {1, 1, 1, 1};
-    const struct stored unsound = {p->plant, heat, p->plant_length, sizeof heat};
+    static const uint8_t narrow[] = {2, 1, 2, 10, 2, 1, 0x86, 3, 0xC2, 3, 0xFC, 2, 0xCC, 3, 9, 8, 18, 0xC8, 1, 9, 6, 18, 0xD8, 4};
+    const struct stored unsound = {p->plant, heat, p->plant_length, sizeof heat}, thin = {narrow, p->file, sizeof narrow, p->file_length};
     const struct stored cut = {start->plant, start->file, start->plant_length, start->file_length - 1};
     trial("above S, idle", hold, p, &(struct run){{200}, HIGHEST, 50, 5}, 6, 11, 0);
     trial("above S, running", hold, house, &(struct run){{2100, 2100}, ANY, 50, 7}, 8, 11, 0);
@@ -109,6 +111,7 @@ static void refused(const struct stored *p, const struct stored *house, const st
     trial("outside R", hold, p, &(struct run){{226}, ANY, 50, -1}, 1, 11, 0);
     trial("outside every box", bring_home, start, &(struct run){{159}, ANY, 50, -1}, 1, 11, 0);
     trial("not accepted", hold, &unsound, &(struct run){{200}, ANY, 50, -1}, 0, 7, 0);
+    trial("too narrow", hold, &thin, &(struct run){{200}, ANY, 50, -1}, 0, 5, 0);
     trial("cut short", bring_home, &cut, &(struct run){{200}, ANY, 50, -1}, 0, 3, 0);
 }
 

@@ -1,5 +1,5 @@
-//! The image of a box under a mode (document 01, "Tiles and images"), by the mode's own band: to explain 7 and 8, which are the library's to tell, and to say what may follow a
-//! reading. Every box here lies in S or is the tile of an accepted shape, so that no sum passes 64 bits.
+//! The image of a box under a mode (document 01, "Tiles and images"), by the mode's own band: to explain 7 and 8, which are the library's to tell, and to
+//! say what may follow a reading. Every box here lies in S or is the tile of an accepted shape, so that no sum passes 64 bits.
 
 use crate::files::{Plant, Side, Sides};
 

@@ -61,13 +61,15 @@ impl Cold<'_> {
     }
 }
 
-/// What the runs came to: how many, how many took a sample at least, how many as many as promised, how many more than one pattern can take.
+/// What the runs came to: how many, how many took a sample at least, how many as many as promised, how many more than one pattern can take, and how many
+/// of plants whose modes differ in their bands took a sample.
 #[derive(Default, Debug)]
 struct Came {
     runs: usize,
     cold: usize,
     sharp: usize,
     far: usize,
+    own_bands: usize,
 }
 
 /// Runs of every kind from the corners of each box and from any reading in it.
@@ -90,6 +92,7 @@ fn runs(random: &mut Random, came: &mut Came, bytes: &[u8], start: &Start) {
                 came.cold += usize::from(samples > 0);
                 came.sharp += usize::from(samples > 0 && samples == promised);
                 came.far += usize::from(samples > plant.k as usize);
+                came.own_bands += usize::from(samples > 0 && plant.bands[..plant.mode_count()].iter().any(|band| *band != plant.bands[0]));
             }
         }
     }
@@ -121,5 +124,5 @@ fn cold_rooms_come_home() {
         }
     }
     println!("{came:?}, {others} start files not the made ones");
-    assert!(came.runs > 10_000 && came.cold > 1_000 && came.sharp > 500 && came.far > 20 && others > 30, "{came:?} {others}");
+    assert!(came.runs > 10_000 && came.cold > 1_000 && came.sharp > 500 && came.far > 20 && came.own_bands > 200 && others > 30, "{came:?} {others}");
 }
