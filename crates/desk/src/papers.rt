@@ -5,9 +5,9 @@
 use libc::STDERR_FILENO;
 ghost use Rattle.io.specs.Counts.{Counts};
 
-// Room for a file of each kind. No plant has more than 1,183 bytes, and a byte more settles any file. No table has more than 30,039; its last number
+// Room for a file of each kind. No plant has more than 1,783 bytes, and a byte more settles any file. No table has more than 30,039; its last number
 // begins at 30,038 at most, and five bytes tell what a number is.
-pub const PLANT: usize = 1_184;
+pub const PLANT: usize = 1_784;
 
 pub const TABLE: usize = 30_044;
 

@@ -49,7 +49,7 @@ fn lay(n: usize, u: usize, wlo: [i64; 4], whi: [i64; 4], bands: &mut [i64; BANDS
     }
 }
 
-// The modes of form 1: the beginning's bands for each, and then all rows.
+// The modes of form 1: the beginning's bands, which each mode has from the one before it, and then all rows.
 fn read_alike(
     s: &[u8],
     b: Beginning,
@@ -63,12 +63,16 @@ fn read_alike(
 {
     let n = b.n;
     let modes = b.m;
-    let mut u: usize = 0;
-    while u < modes {
-        let wlo = b.wlo;
-        let whi = b.whi;
-        lay(n, u, wlo, whi, bands);
-        u += 1;
+    let wlo = b.wlo;
+    let whi = b.whi;
+    lay(n, 0, wlo, whi, bands);
+    let size = 2 * n;
+    let ends = size * modes;
+    let mut k = size;
+    while k < ends {
+        let end = bands[k - size];
+        bands[k] = end;
+        k += 1;
     }
     rows::read_rows(s, at, n, modes * n, 0, coef)
 }

@@ -1,6 +1,6 @@
 -- Limits: where the sums of a row over a box have to lie for the side of the image to lie in a given side, so that no division is needed to
--- tell it; the array in which the search is lent them, mode by mode, with a mark where a mode's last row is that of the mode before it; and what the
--- search asks of all that it is lent. Definitions alone.
+-- tell it; the array in which the search is lent them, mode by mode, with what it is lent of each mode's last row: a mark where it is that of the mode
+-- before, and its offset; and what the search asks of all that it is lent. Definitions alone.
 use Prim.Native.Nat.{ℕ, _+_, _-_, _*_, _≤_, _<_}
 use mathlib.Core.Path.{_≡_}
 use mathlib.Core.Bool.{Bool, true}
@@ -31,17 +31,17 @@ sumSide n coef start b = side (extreme leastOf (entriesOf n coef start) b +ℤ a
 abbrev pub divided : ℕ → Side → Side → Side
 divided q w s = side (ceilZ (s .lo +ℤ w .lo) q) (floorZ (s .hi +ℤ w .hi) q)
 
--- ---- one array, mode by mode: two boxes, the limits of S and those of the goal, and the mode's mark
+-- ---- one array, mode by mode two boxes, the limits of S and those of the goal; then the marks of the modes, then the offsets of their last rows
 
--- as many modes as there may be, the numbers of a mode, and those of all
+-- as many modes as there may be, the limits of a mode, and the numbers of all
 abbrev pub mostModes : ℕ
 mostModes = 16
 
 abbrev pub modeSize : ℕ
-modeSize = 17
+modeSize = 16
 
 abbrev pub mostLimits : ℕ
-mostLimits = 272
+mostLimits = 288
 
 abbrev pub safeAt : ℕ → ℕ
 safeAt u = modeSize * u
@@ -50,7 +50,10 @@ abbrev pub goalAt : ℕ → ℕ
 goalAt u = modeSize * u + 8
 
 abbrev pub markAt : ℕ → ℕ
-markAt u = modeSize * u + 16
+markAt u = 256 + u
+
+abbrev pub offsetAt : ℕ → ℕ
+offsetAt u = 272 + u
 
 -- side i of the limits of a box lo, hi under mode u
 abbrev pub limitAt : ℕ → ℕ → List ℤ → ℕ → List ℤ → List ℤ → ℕ → Side
@@ -65,12 +68,20 @@ pub record LaidAt (n q : ℕ) (goal safe : ℕ → Side) (bands limits : List �
 abbrev pub Laid : ℕ → ℕ → ℕ → (ℕ → Side) → (ℕ → Side) → List ℤ → List ℤ → Type 0
 Laid n modes q goal safe bands limits = (u : ℕ) → u < modes → LaidAt n q goal safe bands limits u
 
--- the entries of the last row of mode u, and a mark: 0, unless mode u has those of the mode before it
+-- the entries of the last row of mode u, and its offset
 abbrev pub lastEntries : ℕ → List ℤ → ℕ → List ℤ
 lastEntries n coef u = entriesOf n coef (rowStart n u (n - 1))
 
+abbrev pub lastOffset : ℕ → List ℤ → ℕ → ℤ
+lastOffset n coef u = at coef (rowStart n u (n - 1) + n)
+
+-- what is lent of that row: a mark, 0 unless mode u has the entries of the mode before it, and the offset
+pub record MarkedAt (n : ℕ) (coef limits : List ℤ) (u : ℕ) : Type 0 where
+  pub shared : (at limits (markAt u) ≡ pos 0 → ⊥) → (1 ≤ u) × (lastEntries n coef (u - 1) ≡ lastEntries n coef u)
+  pub offset : at limits (offsetAt u) ≡ lastOffset n coef u
+
 abbrev pub Marked : ℕ → ℕ → List ℤ → List ℤ → Type 0
-Marked n modes coef limits = (u : ℕ) → u < modes → (at limits (markAt u) ≡ pos 0 → ⊥) → (1 ≤ u) × (lastEntries n coef (u - 1) ≡ lastEntries n coef u)
+Marked n modes coef limits = (u : ℕ) → u < modes → MarkedAt n coef limits u
 
 -- ---- tests of sums, and what the sums are divided to
 
@@ -135,7 +146,7 @@ pub record Lent (n modes q : ℕ) (bands coef limits : List ℤ) : Type 0 where
   pub marked : Marked n modes coef limits
   pub small : (u : ℕ) (b : List Side) → u < modes → Small edgeLimit b → staysLent n coef limits u b ≡ true → Small edgeLimit (imageLent n q bands coef u b)
 
--- of a frame, that it is sound, and of its limits and marks
+-- of a frame, that it is sound, and of its limits and last rows
 pub record LimitsLaid (f : Frame) (bands coef limits : List ℤ) : Type 0 where
   pub sound : FrameSound f bands coef
   pub laid : Laid (f .n) (f .modes) (f .q) (sideAt (f .goal .lo) (f .goal .hi)) (sideAt (f .safe .lo) (f .safe .hi)) bands limits

@@ -1,6 +1,6 @@
 // Limits: where the sums of a row have to lie for an image to lie in S or in the goal, with which the search tells both without dividing, mode by mode,
-// for each has its own band; and marks of modes whose last row is that of the mode before, as in every plant made of a sheet, with which it makes what it
-// needs of that row once for all of them.
+// for each has its own band; and of each mode's last row a mark where it is that of the mode before, as in every plant made of a sheet, with which the
+// search makes what it needs of that row once for all of them, and its offset.
 // Relies on frames, and on images for a pair of numbers and for where a band stands. Leaves out the sums themselves (levels) and who tests them (steps).
 use crate::boxes::Bx;
 use crate::frames::Frame;
@@ -20,16 +20,19 @@ ghost use Rattle.promises.specs.files.Sound.{Bounded};
 ghost use Rattle.tables.specs.Frames.{FrameSound};
 ghost use Rattle.tables.specs.Images.{entriesOf, RowSound};
 ghost use Rattle.tables.specs.Levels.{wide, sideIn, stored, Beside};
-ghost use Rattle.tables.specs.Limits.{limitSide, mostModes, mostLimits, limitAt, Laid, lastEntries, RowsSound, BandsSound, LimitsLaid};
+ghost use Rattle.tables.specs.Limits.{limitSide, mostModes, mostLimits, limitAt, Laid, lastEntries, lastOffset, RowsSound, BandsSound, LimitsLaid};
 
-// The numbers of a mode: the limits of S, then those of the goal, then its mark; and those of sixteen modes.
-pub const SPAN: usize = 17;
+// The limits of a mode: those of S, then those of the goal. Behind sixteen modes their marks, then the offsets of their last rows: the search reads these
+// two and one side for most modes, and a span of sixteen is found without a product.
+pub const SPAN: usize = 16;
 
 pub const GOAL: usize = 8;
 
-pub const MARK: usize = 16;
+pub const MARK: usize = 256;
 
-pub const LIMITS: usize = 272;
+pub const OFFSET: usize = 272;
+
+pub const LIMITS: usize = 288;
 
 // The limits of side l..h with the band wl..wh: q·(l - 1) + 1 - wl, and q·(h + 1) - 1 - wh.
 fn around(q: usize, wl: i64, wh: i64, l: i64, h: i64) -> Span
@@ -130,7 +133,16 @@ fn mark(n: usize, coef: &[i64; COEFFICIENTS], u: usize) -> i64
     0
 }
 
-// The boxes, and behind those of each mode its mark.
+// The offset of the last row of mode u.
+fn last_offset(n: usize, coef: &[i64; COEFFICIENTS], u: usize) -> i64
+    requires { ⌜ (1 ≤ n) × RowsSound n (now coef) u ⌝ }
+    ensures { λ r. ⌜ r ≡ lastOffset n (now (coef .entry)) u ⌝ }
+{
+    let start = images::row(n, u, n - 1);
+    coef[start + n]
+}
+
+// The boxes, and behind them what is lent of each mode's last row.
 pub fn lay(f: Frame, bands: &[i64; BANDS], coef: &[i64; COEFFICIENTS], limits: &mut [i64; LIMITS])
     requires { ⌜ FrameSound f (now bands) (now coef) × (length (now limits) ≡ mostLimits) ⌝ }
     ensures { λ _. ⌜ LimitsLaid f (now (bands .entry)) (now (coef .entry)) (now (limits .exit)) ⌝ }
@@ -139,7 +151,9 @@ pub fn lay(f: Frame, bands: &[i64; BANDS], coef: &[i64; COEFFICIENTS], limits: &
     let mut u: usize = 0;
     while u < f.modes {
         let m = mark(f.n, coef, u);
-        limits[SPAN * u + MARK] = m;
+        let o = last_offset(f.n, coef, u);
+        limits[MARK + u] = m;
+        limits[OFFSET + u] = o;
         u += 1;
     }
 }

@@ -12,6 +12,7 @@ use crate::levels::WIDE;
 use crate::limits::GOAL;
 use crate::limits::LIMITS;
 use crate::limits::MARK;
+use crate::limits::OFFSET;
 use crate::limits::SPAN;
 use meaning::BANDS;
 use meaning::COEFFICIENTS;
@@ -27,7 +28,7 @@ ghost use Rattle.meaning.specs.Plants.{edgeLimit};
 ghost use Rattle.tables.specs.Boxes.{Small};
 ghost use Rattle.tables.specs.Images.{RowSound, Extremes};
 ghost use Rattle.tables.specs.Levels.{wide, room, sideIn, boxIn, Beside};
-ghost use Rattle.tables.specs.Limits.{addLimit, markAt, mostModes, mostLimits, sumSide, sumsAt, covered, staysLent, landsLent, imageLent, landing, dividedIn, Within, RowsSound, BandsSound, lastEntries, Marked};
+ghost use Rattle.tables.specs.Limits.{addLimit, markAt, offsetAt, mostModes, mostLimits, sumSide, sumsAt, covered, staysLent, landsLent, imageLent, landing, dividedIn, Within, RowsSound, BandsSound, lastEntries, lastOffset, Marked};
 ghost use Rattle.tables.specs.Search.{oneOf};
 
 // The least and the greatest of A·x + b over the box at `place`, by the row that starts at `start`.
@@ -179,7 +180,7 @@ fn shared(
     requires kept { ⌜ ((at (now limits) (markAt u) ≡ pos 0 → ⊥) → Extremes (lastEntries n (now coef) u) (boxIn n (now boxes) place) (e .lo) (e .hi)) ⌝ }
     ensures { λ r. ⌜ Extremes (lastEntries n (now (coef .entry)) u) (boxIn n (now (boxes .entry)) place) (r .lo) (r .hi) ⌝ }
 {
-    let mark = limits[SPAN * u + MARK];
+    let mark = limits[MARK + u];
     if mark == 0 {
         let start = images::row(n, u, n - 1);
         return levels::extremes(n, coef, start, boxes, place);
@@ -198,11 +199,10 @@ fn lands(
     place: usize,
 ) -> bool
     requires row { ⌜ (u < mostModes) × (1 ≤ n) × RowsSound n (now coef) u × (place + wide ≤ room) × Small edgeLimit (boxIn n (now boxes) place) ⌝ }
-    requires last { ⌜ Extremes (lastEntries n (now coef) u) (boxIn n (now boxes) place) (e .lo) (e .hi) ⌝ }
+    requires last { ⌜ Extremes (lastEntries n (now coef) u) (boxIn n (now boxes) place) (e .lo) (e .hi) × (at (now limits) (offsetAt u) ≡ lastOffset n (now coef) u) ⌝ }
     ensures { λ r. ⌜ r ≡ landsLent n (now (coef .entry)) (now (limits .entry)) u (boxIn n (now (boxes .entry)) place) ⌝ }
 {
-    let start = images::row(n, u, n - 1);
-    let offset = coef[start + n];
+    let offset = limits[OFFSET + u];
     let base = SPAN * u + GOAL;
     if inside(limits, base, n - 1, e.lo + offset, e.hi + offset) {
         let mut slo = [0i64; 4];

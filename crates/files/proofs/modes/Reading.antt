@@ -1,16 +1,16 @@
 -- The modes of a plant's file, read: those of form 1, one of form 2, and all of form 2, of which u are done. Relies on page Laws.
-use Prim.Native.Nat.{ℕ, suc, _+_, _-_, _*_, _≤_, _<_}
+use Prim.Native.Nat.{ℕ, zero, suc, _+_, _-_, _*_, _≤_, _<_}
 use mathlib.Core.Path.{_≡_, refl, sym, ap, _∙_, subst}
 use mathlib.Core.Bool.{Bool, true, false}
 use mathlib.Core.List.{List, [], _∷_, _++_, map}
 use native.Mathlib.Omega.{arith}
 use native.Mathlib.Decide.{decLt}
-use native.Mathlib.Nat.{mul-le-mul, zero-add}
-use lib.ListN.{length, replicate}
+use native.Mathlib.Nat.{mul-le-mul, le-refl, zero-add}
+use lib.ListN.{set, replicate}
 use lib.IntN.{ℤ, pos}
-use Rattle.laws.specs.Columns.{tabs-tab, tabs-later}
+use Rattle.laws.specs.Columns.{tabs-tab, tabs-later, tab-moved}
 use Rattle.laws.specs.Lists.{at, tab, tabs, all, firstFalse}
-use Rattle.laws.specs.Tabs.{Filled, filled-none, length-tab, getD-tab, tab-same}
+use Rattle.laws.specs.Tabs.{Filled, filled-none, filled-more, length-tab, getD-tab, tab-same, at-below, at-stored}
 use Rattle.laws.specs.Tests.{never}
 use Rattle.meaning.specs.declared.Refusal.{Refusal}
 use Rattle.meaning.specs.declared.Verdict.{Verdict}
@@ -32,35 +32,64 @@ use Rattle.files.proofs.modes.Laws.{ends-few, rows-few, kept, bands-sid
 pub no-bands : (n : ℕ) → Filled mostBands (2 * n * 0) (replicate mostBands (pos 0))
 no-bands n = let z : 2 * n * 0 ≡ 0 = omega arith in rw z (filled-none mostBands)
 
--- ---- form 1: u modes have the bands of the beginning
+-- ---- form 1: the ends of mode 0, and up to k each is that of the mode before it
 
-pub record AlikeTo (b : Beginning) (u : ℕ) (bands : List ℤ) : Type 0 where
-  pub few : u ≤ b .m
-  pub each : (v : ℕ) → v < u → bandNumbers (b .n) bands v ≡ bandsIn b
-  pub filled : Filled mostBands (2 * b .n * u) bands
+pub record AlikeTo (n m : ℕ) (bands₀ : List ℤ) (k : ℕ) (bands : List ℤ) : Type 0 where
+  pub some : 2 * n ≤ k
+  pub few : k ≤ 2 * n * m
+  pub first : bandNumbers n bands 0 ≡ bandNumbers n bands₀ 0
+  pub before : (j : ℕ) → 2 * n ≤ j → j < k → at bands j ≡ at bands (j - 2 * n)
+  pub filled : Filled mostBands k bands
 
-pub alike-none : (b : Beginning) → AlikeTo b 0 (replicate mostBands (pos 0))
-alike-none b = record {
-  few = omega arith;
-  each = λ v h. absurd (omega arith);
-  filled = no-bands (b .n);
+pub alike-first : (n m : ℕ) (bands : List ℤ) → 1 ≤ m → Filled mostBands (2 * n * (0 + 1)) bands → AlikeTo n m bands (2 * n) bands
+alike-first n m bands h f = record {
+  some = omega arith;
+  few = let a : 2 * n * 1 ≤ 2 * n * m = mul-le-mul (le-refl (2 * n)) h in omega arith;
+  first = refl;
+  before = λ j a c. absurd (omega arith);
+  filled = let e : 2 * n * (0 + 1) ≡ 2 * n = omega arith in rw e at f;
 }
 
-pub alike-more : {b : Beginning} {u : ℕ} {bands₀ bands : List ℤ} → AlikeTo b u bands₀ → u < b .m → Laid (b .n) u (b .wlo) (b .whi) bands₀ bands → AlikeTo b (u + 1) bands
-alike-more {b} {u} {bands₀} {bands} w h l = record { few = omega arith; each = λ v g. go v (decLt v u) g; filled = l .filled }
+pub alike-more : {n m : ℕ} {bands₀ : List ℤ} {k : ℕ} {bands : List ℤ} → 1 ≤ n → AlikeTo n m bands₀ k bands → k < 2 * n * m → k < mostBands → AlikeTo n m bands₀ (k + 1) (set bands k (at bands (k - 2 * n)))
+alike-more {n} {m} {bands₀} {k} {bands} one w h room =
+    let v = at bands (k - 2 * n) in
+    record {
+      some = omega (arith, w .some);
+      few = omega arith;
+      first =
+          let z : 2 * n * 0 ≡ 0 = omega arith in
+          tab-same (at (set bands k v)) (at bands) (2 * n) (2 * n * 0) (λ j a c. at-below bands k v j (omega (arith, w .some))) ∙ w .first;
+      before = λ j a c. go j a (decLt j k) c;
+      filled = filled-more v (w .filled);
+    }
   where
-    go : (v : ℕ) → Dec (v < u) → v < u + 1 → bandNumbers (b .n) bands v ≡ bandsIn b
-    go v (yes g) _ = kept (2 * b .n) u bands₀ bands (l .below) v g ∙ w .each v g
-    go v (no g) k = let e : v ≡ u = omega arith in rw e (l .here)
+    go : (j : ℕ) → 2 * n ≤ j → Dec (j < k) → j < k + 1 → at (set bands k (at bands (k - 2 * n))) j ≡ at (set bands k (at bands (k - 2 * n))) (j - 2 * n)
+    go j a (yes c) _ =
+        at-below bands k (at bands (k - 2 * n)) j c ∙ w .before j a c ∙ sym (at-below bands k (at bands (k - 2 * n)) (j - 2 * n) (omega arith))
+    go j a (no c) d =
+        let e : j ≡ k = omega arith in
+        rw e (at-stored bands k (at bands (k - 2 * n)) (omega (arith, w .filled .size)) ∙ sym (at-below bands k (at bands (k - 2 * n)) (k - 2 * n) (omega (arith, w .some))))
+
+-- so each mode has the bands of mode 0
+alike-each : {n m : ℕ} {bands₀ : List ℤ} {k : ℕ} {bands : List ℤ} → AlikeTo n m bands₀ k bands → 2 * n * m ≤ k → (u : ℕ) → u < m → bandNumbers n bands u ≡ bandNumbers n bands₀ 0
+alike-each {n} {m} {bands₀} {k} {bands} w h zero l = w .first
+alike-each {n} {m} {bands₀} {k} {bands} w h (suc u) l =
+    let size = 2 * n in
+    let room : size * suc (suc u) ≤ size * m = mul-le-mul (le-refl size) l in
+    let e : size * suc u ≡ size * u + size = omega arith in
+    tab-moved (at bands) (at bands) size (size * suc u) (size * u) (λ t g.
+    let q : size * suc u + t - size ≡ size * u + t = omega arith in
+    w .before (size * suc u + t) (omega arith) (omega arith) ∙ ap (at bands) q)
+    ∙ alike-each w h u (omega arith)
 
 module _ (s : List ℕ) (b : Beginning) (at′ : ℕ) where
   pub alike-refused : (e : Refusal) → Fails (times (b .m * b .n) (row (b .n))) s at′ e → valuesAt (restBy false (b .n) (b .m)) s at′ ≡ refused e
   alike-refused e t = t .fails end
 
-  pub alike-held : {bands coef₀ coef : List ℤ} {next : ℕ} → AlikeTo b (b .m) bands → RowsRead s at′ (b .n) (b .m * b .n) 0 coef₀ coef next → AlikeHeld s b at′ bands coef next
-  alike-held {bands} {coef₀} {coef} {next} w r = record {
+  pub alike-held : {bands₀ bands coef₀ coef : List ℤ} {next : ℕ} → bandNumbers (b .n) bands₀ 0 ≡ bandsIn b → AlikeTo (b .n) (b .m) bands₀ (2 * b .n * b .m) bands → RowsRead s at′ (b .n) (b .m * b .n) 0 coef₀ coef next → AlikeHeld s b at′ bands coef next
+  alike-held {bands₀} {bands} {coef₀} {coef} {next} first w r = record {
     held = holds-last (r .part) ∙ ap (λ (vs : List ℤ). read vs next) (sym rows);
-    each = w .each;
+    each = λ u h. alike-each w (omega arith) u h ∙ first;
     bands-filled = let e : 2 * b .n * b .m ≡ bandCount (b .m) (b .n) = omega arith in rw e at (w .filled);
     coef-filled = let e : 0 + coefCount (b .m) (b .n) ≡ coefCount (b .m) (b .n) = zero-add _ in rw e at (r .filled);
   }
@@ -72,9 +101,10 @@ module _ (s : List ℕ) (b : Beginning) (at′ : ℕ) where
           tabs-tab (at coef) (rowNumbers n coef) (n * (n + 1)) 0 (b .m) (λ u h. let z : 0 + n * (n + 1) * u ≡ n * (n + 1) * u = zero-add _ in rw z refl)
           ∙ ap (λ (c : ℕ). tab (at coef) c 0) e
 
-  pub alike-read : {u : ℕ} {bands : List ℤ} (coef₀ coef : List ℤ) (r : Walk) → AlikeTo b u bands → b .m ≤ u → RowsTold s at′ (b .n) (b .m * b .n) 0 coef₀ coef r → AlikeTold s b at′ bands coef r
-  alike-read coef₀ coef (Walk.Refused e) w h t = alike-refused e t
-  alike-read {u} {bands} coef₀ coef (Walk.Next next) w h t = let j : u ≡ b .m = omega (arith, w .few) in alike-held (subst (λ (v : ℕ). AlikeTo b v bands) j w) t
+  pub alike-read : {k : ℕ} {bands₀ bands : List ℤ} (coef₀ coef : List ℤ) (r : Walk) → bandNumbers (b .n) bands₀ 0 ≡ bandsIn b → AlikeTo (b .n) (b .m) bands₀ k bands → 2 * b .n * b .m ≤ k → RowsTold s at′ (b .n) (b .m * b .n) 0 coef₀ coef r → AlikeTold s b at′ bands coef r
+  alike-read coef₀ coef (Walk.Refused e) first w h t = alike-refused e t
+  alike-read {k} {bands₀} {bands} coef₀ coef (Walk.Next next) first w h t =
+      let j : k ≡ 2 * b .n * b .m = omega (arith, w .few) in alike-held first (subst (λ (v : ℕ). AlikeTo (b .n) (b .m) bands₀ v bands) j w) t
 
 -- ---- one mode of form 2
 

@@ -1,4 +1,4 @@
--- Laws for the proof of module limits: limits fit the machine's words; the array is laid and marked mode by mode.
+-- Laws for the proof of module limits: limits fit the machine's words; the array is laid mode by mode, and marked.
 -- Assumes nothing.
 use Prim.Native.Nat.{ℕ, _+_, _-_, _≤_, _<_}
 use mathlib.Core.Path.{_≡_, refl, ap, _∙_}
@@ -6,17 +6,18 @@ use mathlib.Core.List.{List}
 use mathlib.Core.Logic.{inl}
 use native.Mathlib.Omega.{arith}
 use native.Mathlib.Decide.{ℕ-discrete}
-use lib.ListN.{length, set}
+use lib.ListN.{length, set, length-set}
 use lib.IntN.{ℤ, pos}
 use mir.Syntax.{w64}
 use mir.Val.{ofZ, toZ}
+use Rattle.laws.specs.Lists.{at}
 use Rattle.laws.specs.Tabs.{at-stored}
 use Rattle.laws.specs.Expressions.{Ex, var, lit, _⊕_, _⊝_, _⊗_, bound, size, exact}
 use Rattle.meaning.specs.Boxes.{Side, side}
 use Rattle.meaning.specs.Plants.{edgeLimit, bandLimit, bandSide}
 use Rattle.promises.specs.files.Sound.{Bounded}
 use Rattle.tables.specs.Levels.{wide, sideIn, Beside}
-use Rattle.tables.specs.Limits.{limitSide, safeAt, goalAt, markAt, lastEntries, LaidAt, Laid, Marked}
+use Rattle.tables.specs.Limits.{limitSide, mostModes, safeAt, goalAt, markAt, offsetAt, lastEntries, lastOffset, LaidAt, Laid, MarkedAt, Marked}
 use Rattle.tables.proofs.levels.Laws.{at-other}
 
 -- ---- what the machine holds of a side: itself, of a small one and of its limits
@@ -63,22 +64,41 @@ module _ (n q : ℕ) (rooms : n ≤ 4) (goal safe : ℕ → Side) (bands : List 
             in-goal = λ i k. before (goalAt v) i (omega arith) (omega arith) ∙ old v h .in-goal i k;
           }
 
-  -- a mark is of no box
-  pub laid-beside : (modes : ℕ) (l : List ℤ) (m : ℕ) (z : ℤ) → Laid n modes q goal safe bands l → Laid n modes q goal safe bands (set l (markAt m) z)
-  laid-beside modes l m z g u h = record {
+  -- what stands behind the boxes is of none
+  pub laid-beside : (modes : ℕ) (l : List ℤ) (p : ℕ) (z : ℤ) → modes ≤ mostModes → markAt 0 ≤ p → Laid n modes q goal safe bands l → Laid n modes q goal safe bands (set l p z)
+  laid-beside modes l p z few f g u h = record {
     in-safe = λ i k. same (safeAt u) i (λ e. absurd (omega arith)) (λ e. absurd (omega arith)) ∙ g u h .in-safe i k;
     in-goal = λ i k. same (goalAt u) i (λ e. absurd (omega arith)) (λ e. absurd (omega arith)) ∙ g u h .in-goal i k;
   }
     where
-      same : (base i : ℕ) → (base + i ≡ markAt m → ⊥) → (base + 4 + i ≡ markAt m → ⊥) → sideIn (set l (markAt m) z) base i ≡ sideIn l base i
-      same base i p r = rw (at-other l (markAt m) z (base + i) p, at-other l (markAt m) z (base + 4 + i) r) refl
+      same : (base i : ℕ) → (base + i ≡ p → ⊥) → (base + 4 + i ≡ p → ⊥) → sideIn (set l p z) base i ≡ sideIn l base i
+      same base i a b = rw (at-other l p z (base + i) a, at-other l p z (base + 4 + i) b) refl
 
--- ---- the marks
+-- ---- the last rows
 
-pub marked-more : (n : ℕ) (coef l : List ℤ) (m : ℕ) (z : ℤ) → markAt m < length l → ((z ≡ pos 0 → ⊥) → (1 ≤ m) × (lastEntries n coef (m - 1) ≡ lastEntries n coef m)) → Marked n m coef l
-    → Marked n (m + 1) coef (set l (markAt m) z)
-marked-more n coef l m z h new old u o k = go (ℕ-discrete u m)
+-- mode m behind m of them: its mark z, and its offset o
+pub marked-more : (n : ℕ) (coef l : List ℤ) (m : ℕ) (z o : ℤ) → m < mostModes → offsetAt m < length l → ((z ≡ pos 0 → ⊥) → (1 ≤ m) × (lastEntries n coef (m - 1) ≡ lastEntries n coef m)) → o ≡ lastOffset n coef m
+    → Marked n m coef l → Marked n (m + 1) coef (set (set l (markAt m) z) (offsetAt m) o)
+marked-more n coef l m z o few h new e old u k = go (ℕ-discrete u m)
   where
-    go : Dec (u ≡ m) → (1 ≤ u) × (lastEntries n coef (u - 1) ≡ lastEntries n coef u)
-    go (yes q) = rw q (new (λ e. k (rw q (at-stored l (markAt m) z h ∙ e))))
-    go (no q) = old u (omega arith) (λ e. k (at-other l (markAt m) z (markAt u) (λ p. absurd (omega arith)) ∙ e))
+    x : List ℤ
+    x = set l (markAt m) z
+
+    -- what stands at neither place
+    same : (p : ℕ) → (p ≡ markAt m → ⊥) → (p ≡ offsetAt m → ⊥) → at (set x (offsetAt m) o) p ≡ at l p
+    same p a b = at-other x (offsetAt m) o p b ∙ at-other l (markAt m) z p a
+
+    mark-is : at (set x (offsetAt m) o) (markAt m) ≡ z
+    mark-is = at-other x (offsetAt m) o (markAt m) (λ p. absurd (omega arith)) ∙ at-stored l (markAt m) z (omega arith)
+
+    offset-is : at (set x (offsetAt m) o) (offsetAt m) ≡ o
+    offset-is = at-stored x (offsetAt m) o (rw (length-set l (markAt m) z) h)
+
+    go : Dec (u ≡ m) → MarkedAt n coef (set x (offsetAt m) o) u
+    go (yes q) = rw q record { shared = λ f. new (λ w. f (mark-is ∙ w)); offset = offset-is ∙ e }
+    go (no q) =
+        let b : u < m = omega arith in
+        record {
+          shared = λ f. old u b .shared (λ w. f (same (markAt u) (λ p. absurd (omega arith)) (λ p. absurd (omega arith)) ∙ w));
+          offset = same (offsetAt u) (λ p. absurd (omega arith)) (λ p. absurd (omega arith)) ∙ old u b .offset;
+        }

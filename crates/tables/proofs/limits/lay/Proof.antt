@@ -1,4 +1,4 @@
--- `limits::lay`: the marks that are set are those of their modes, and the boxes stay as they were laid. Assumes nothing.
+-- `limits::lay`: the marks and offsets that are set are those of their modes, and the boxes stay as they were laid. Assumes nothing.
 use Prim.Native.Nat.{_-_, _≤_, _<_}
 use mathlib.Core.Path.{_≡_, _∙_}
 use native.Mathlib.Omega.{arith}
@@ -7,7 +7,7 @@ use denote.Ref.{now}
 use mir.Facts.{toZ-ofZ}
 use Rattle.laws.specs.Integers.{ok64}
 use Rattle.meaning.specs.Boxes.{sideAt}
-use Rattle.tables.specs.Limits.{mostModes, mostLimits, Laid, Marked}
+use Rattle.tables.specs.Limits.{mostModes, mostLimits, markAt, offsetAt, Laid, Marked}
 use Rattle.tables.proofs.limits.Laws.{laid-beside, marked-more}
 use Rattle.tables.proofs.limits.lay.Statement.{statement}
 use Rattle.tables.proofs.limits.lay.Tie as tie
@@ -40,35 +40,51 @@ mark-requires c κs =
     let f = few c in
     (g .some, f, λ i l. g .rows u i h l, λ k i l. g .rows (u - 1) i (omega arith) l)
 
-mul-m : tie.Need-mul-m Inv-loop μ-loop
-mul-m c = let f = few (c .before) in omega arith
+last-offset-requires : tie.Need-last-offset-requires Inv-loop μ-loop
+last-offset-requires c κs =
+    let g = from (c .before) .pre .0 in
+    (g .some, λ i l. g .rows (c .before .before .before .loop .u) i (c .before .if1 .taken) l)
 
 add-m : tie.Need-add-m Inv-loop μ-loop
-add-m c = let f = few (c .before) in omega arith
+add-m c = let f = few (c .before .before) in omega arith
 
-mul-m-2 : tie.Need-mul-m-2 Inv-loop μ-loop
-mul-m-2 c = let f = few (c .before) in omega arith
+mul-m : tie.Need-mul-m Inv-loop μ-loop
+mul-m c = let f = few (c .before .before) in omega arith
 
 element-set-from-m : tie.Need-element-set-from-m Inv-loop μ-loop
-element-set-from-m c = let f = few (c .before) in omega arith
+element-set-from-m c = let f = few (c .before .before) in omega arith
+
+add-o : tie.Need-add-o Inv-loop μ-loop
+add-o c = let f = few (c .before .before) in omega arith
+
+mul-o : tie.Need-mul-o Inv-loop μ-loop
+mul-o c = let f = few (c .before .before) in omega arith
+
+element-set-from-o : tie.Need-element-set-from-o Inv-loop μ-loop
+element-set-from-o c = let f = few (c .before .before) in omega arith
 
 add-u : tie.Need-add-u Inv-loop μ-loop
-add-u c = let f = few (c .before) in omega arith
+add-u c = let f = few (c .before .before) in omega arith
 
 loop-less : tie.Need-loop-less Inv-loop μ-loop
-loop-less c = let h = c .before .if1 .taken in omega arith
+loop-less c = let h = c .before .before .if1 .taken in omega arith
 
 loop-again : tie.Need-loop-again Inv-loop μ-loop
 loop-again c =
-    let l = c .before .before .before .loop in
-    let s = from (c .before) in
+    let t = c .before .before in
+    let l = t .before .before .loop in
+    let s = from t in
     let f = s .args .f in
-    let h = few (c .before) in
-    let k = toZ-ofZ (ok64 (c .mark .result) (c .mark .ok)) in (
+    let h = few t in
+    let m = c .before .mark in
+    let o = c .last-offset in
+    let modes = s .pre .0 .modes in
+    let beside = laid-beside (f .n) (f .q) (s .pre .0 .rooms) (sideAt (f .goal .lo) (f .goal .hi)) (sideAt (f .safe .lo) (f .safe .hi)) (now (s .args .bands)) (f .modes) in (
       omega arith,
       simp length-set (l .inv .1),
-      laid-beside (f .n) (f .q) (s .pre .0 .rooms) (sideAt (f .goal .lo) (f .goal .hi)) (sideAt (f .safe .lo) (f .safe .hi)) (now (s .args .bands)) (f .modes) (l .limits) (l .u) _ (l .inv .2),
-      marked-more (f .n) (now (s .args .coef)) (l .limits) (l .u) _ (omega (arith, l .inv .1)) (λ z. c .mark .ensures (λ e. z (k ∙ e))) (l .inv .3),
+      beside _ (offsetAt (l .u)) _ modes (omega arith) (beside (l .limits) (markAt (l .u)) _ modes (omega arith) (l .inv .2)),
+      marked-more (f .n) (now (s .args .coef)) (l .limits) (l .u) _ _ h (omega (arith, l .inv .1)) (λ z. m .ensures (λ e. z (toZ-ofZ (ok64 (m .result) (m .ok)) ∙ e)))
+          (toZ-ofZ (ok64 (o .result) (o .ok)) ∙ o .ensures) (l .inv .3),
     )
 
 returns : tie.Need-returns Inv-loop μ-loop
@@ -85,10 +101,13 @@ lay-spec =
     lay-boxes-requires
     loop-holds
     mark-requires
-    mul-m
+    last-offset-requires
     add-m
-    mul-m-2
+    mul-m
     element-set-from-m
+    add-o
+    mul-o
+    element-set-from-o
     add-u
     loop-less
     loop-again

@@ -1,18 +1,18 @@
 -- `steps::lands`: where the last row leaves the limits the image does, and otherwise all rows are tried. Assumes nothing.
-use Prim.Native.Nat.{ℕ, _+_, _-_, _<_}
+use Prim.Native.Nat.{ℕ, _-_, _≤_, _<_}
 use mathlib.Core.Path.{_≡_, refl, sym, ap, _∙_}
 use mathlib.Core.Bool.{Bool}
 use native.Mathlib.Omega.{arith}
 use borrow.Author.Needs.{needs}
 use denote.Ref.{now}
-use lib.IntN.{ℤ, _+ℤ_}
+use lib.IntN.{ℤ, natAbs, _+ℤ_}
 use Rattle.laws.specs.Lists.{at}
 use Rattle.laws.specs.Expressions.{Ex, var, _⊕_, need, exact}
 use Rattle.meaning.specs.Boxes.{Side, side, covers}
 use Rattle.meaning.specs.Plants.{offsetLimit, rowStart}
 use Rattle.tables.specs.Images.{rowLimit, RowSound}
 use Rattle.tables.specs.Levels.{sideIn, boxIn}
-use Rattle.tables.specs.Limits.{goalAt, sumsAt, coveredAt}
+use Rattle.tables.specs.Limits.{goalAt, offsetAt, lastOffset, sumsAt, coveredAt}
 use Rattle.tables.proofs.steps.Laws.{sides-are, one-fails}
 use Rattle.tables.proofs.steps.lands.Statement.{statement}
 use Rattle.tables.proofs.steps.lands.Tie as tie
@@ -30,31 +30,27 @@ module _ (s : tie.Start) where
   abbrev tests : ℕ → Bool
   tests = let a = s .args in coveredAt (a .n) (now (a .coef)) (now (a .limits)) (goalAt (a .u)) (a .u) (boxIn (a .n) (now (a .boxes)) (a .place))
 
--- the sums of the last row
-module _ (c : tie.After-row) where
+  -- its sums
   abbrev offset : ℤ
-  offset = at (now (c .before .args .coef)) (c .row .result + c .before .args .n)
+  offset = at (now (s .args .limits)) (offsetAt (s .args .u))
+
+  small : natAbs offset ≤ offsetLimit
+  small = rw (s .pre .1 .1) (last-row .offset)
 
   abbrev least : Ex
-  least = var (c .before .args .e .lo) rowLimit (c .before .pre .1 .low) ⊕ var offset offsetLimit (rw (c .row .ensures) (last-row (c .before) .offset))
+  least = var (s .args .e .lo) rowLimit (s .pre .1 .0 .low) ⊕ var offset offsetLimit small
 
   abbrev greatest : Ex
-  greatest = var (c .before .args .e .hi) rowLimit (c .before .pre .1 .high) ⊕ var offset offsetLimit (rw (c .row .ensures) (last-row (c .before) .offset))
-
-sub-row : tie.Need-sub-row
-sub-row c = search needs
-
-row-requires : tie.Need-row-requires
-row-requires c κs = last-row c .inside
+  greatest = var (s .args .e .hi) rowLimit (s .pre .1 .0 .high) ⊕ var offset offsetLimit small
 
 add-offset : tie.Need-add-offset
-add-offset c = omega (arith, c .row .ensures, last-row (c .before) .inside)
+add-offset c = search needs
 
 mul-offset : tie.Need-mul-offset
-mul-offset c = omega (arith, c .row .ensures, last-row (c .before) .inside)
+mul-offset c = search needs
 
 element-copy-out-offset : tie.Need-element-copy-out-offset
-element-copy-out-offset c = omega (arith, c .row .ensures, last-row (c .before) .inside)
+element-copy-out-offset c = search needs
 
 mul-base : tie.Need-mul-base
 mul-base c = search needs
@@ -72,11 +68,11 @@ add-inside-2 : tie.Need-add-inside-2
 add-inside-2 c = need (greatest (c .before .before .before .before .before)) tt
 
 inside-requires : tie.Need-inside-requires
-inside-requires c κs = let s = c .before .before .before .before .before .before in (omega arith, omega (arith, inside-rows s, last-row s .rooms))
+inside-requires c κs = let s = c .before .before .before .before .before in (omega arith, omega (arith, inside-rows s, last-row s .rooms))
 
 stays-requires : tie.Need-stays-requires
 stays-requires c κs =
-    let s = c .before .before .before .before .before .before .before .before .before .before in
+    let s = c .before .before .before .before .before .before .before .before .before in
     let few = s .pre .0 .0 in
     ((s .pre .0 .2, omega arith), (s .pre .0 .3, s .pre .0 .4, refl, refl))
 
@@ -84,26 +80,23 @@ returns : tie.Need-returns
 returns c = search needs
 
 -- the test of the last row
-tested : (c : tie.After-inside) → (let s = c .before .before .before .before .before .before .before in c .inside .result ≡ tests s (index s))
+tested : (c : tie.After-inside) → (let s = c .before .before .before .before .before .before in c .inside .result ≡ tests s (index s))
 tested c =
-    let t = c .before .before .before .before .before .before in
-    let s = t .before in
+    let s = c .before .before .before .before .before .before in
     let a = s .args in
-    let sums : side (s .args .e .lo +ℤ offset t) (s .args .e .hi +ℤ offset t) ≡ sumsAt (a .n) (now (a .coef)) (a .u) (boxIn (a .n) (now (a .boxes)) (a .place)) (index s) =
-    rw (t .row .ensures) (sides-are (s .pre .1) (at (now (a .coef)) (rowStart (a .n) (a .u) (index s) + a .n))) in
-    (rw (exact (least t) tt, exact (greatest t) tt) at (c .inside .ensures)) ∙ ap (λ (z : Side). covers (sideIn (now (a .limits)) (goalAt (a .u)) (index s)) z) sums
+    let sums : side (a .e .lo +ℤ offset s) (a .e .hi +ℤ offset s) ≡ sumsAt (a .n) (now (a .coef)) (a .u) (boxIn (a .n) (now (a .boxes)) (a .place)) (index s) =
+    rw (s .pre .1 .1) (sides-are (s .pre .1 .0) (lastOffset (a .n) (now (a .coef)) (a .u))) in
+    (rw (exact (least s) tt, exact (greatest s) tt) at (c .inside .ensures)) ∙ ap (λ (z : Side). covers (sideIn (now (a .limits)) (goalAt (a .u)) (index s)) z) sums
 
 returns-2 : tie.Need-returns-2
 returns-2 c =
-    let s = c .before .before .before .before .before .before .before .before in
+    let s = c .before .before .before .before .before .before .before in
     one-fails (tests s) (s .args .n) (index s) (inside-rows s) (sym (tested (c .before)) ∙ c .if1 .left)
 
 pub lands-spec : {M : Type 1} → statement M
 lands-spec =
     tie.close
     (tie.spec
-    sub-row
-    row-requires
     add-offset
     mul-offset
     element-copy-out-offset

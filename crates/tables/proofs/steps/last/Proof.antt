@@ -42,14 +42,14 @@ shared-requires c κs =
     let l = c .before .loop in
     let h = c .loop-test .taken in
     let few = s .pre .0 .2 in
-    ((omega arith, s .pre .0 .0, s .pre .0 .1 (l .u) h, s .pre .1 .0, s .pre .1 .1), λ z. let m = s .pre .0 .3 (l .u) h z in rw (← m .1) (l .inv .1 (m .0)))
+    ((omega arith, s .pre .0 .0, s .pre .0 .1 (l .u) h, s .pre .1 .0, s .pre .1 .1), λ z. let m = s .pre .0 .3 (l .u) h .shared z in rw (← m .1) (l .inv .1 (m .0)))
 
 lands-requires : tie.Need-lands-requires Inv-loop μ-loop
 lands-requires c κs =
     let t = c .before in
     let s = t .before .before in
     let few = s .pre .0 .2 in
-    ((omega (arith, t .loop-test .taken), s .pre .0 .0, s .pre .0 .1 (t .before .loop .u) (t .loop-test .taken), s .pre .1 .0, s .pre .1 .1), c .shared .ensures)
+    ((omega (arith, t .loop-test .taken), s .pre .0 .0, s .pre .0 .1 (t .before .loop .u) (t .loop-test .taken), s .pre .1 .0, s .pre .1 .1), (c .shared .ensures, s .pre .0 .3 (t .before .loop .u) (t .loop-test .taken) .offset))
 
 returns : tie.Need-returns Inv-loop μ-loop
 returns c =

@@ -14,14 +14,11 @@ use Rattle.tables.proofs.steps.shared.Tie as tie
 last-row : (s : tie.Start) → RowSound (s .args .n) (now (s .args .coef)) (rowStart (s .args .n) (s .args .u) (s .args .n - 1))
 last-row s = let k = s .pre .0 .1 in s .pre .0 .2 (s .args .n - 1) (omega arith)
 
-mul-mark : tie.Need-mul-mark
-mul-mark c = search needs
-
 add-mark : tie.Need-add-mark
 add-mark c = search needs
 
-mul-mark-2 : tie.Need-mul-mark-2
-mul-mark-2 c = search needs
+mul-mark : tie.Need-mul-mark
+mul-mark c = search needs
 
 element-copy-out-mark : tie.Need-element-copy-out-mark
 element-copy-out-mark c = search needs
@@ -45,9 +42,8 @@ pub shared-spec : {M : Type 1} → statement M
 shared-spec =
     tie.close
     (tie.spec
-    mul-mark
     add-mark
-    mul-mark-2
+    mul-mark
     element-copy-out-mark
     sub-row
     row-requires
