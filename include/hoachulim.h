@@ -2,6 +2,7 @@
    They are proved (crates/face); link target/library/TARGET/libface.a, which `./library TARGET` writes for a processor.
 
    A number is 0, or that of the refusal; out[0] is its place and out[1] its step, each 0 where it has none.
+   The two controllers answer a mode, and their out has the number before these.
    Every number is 64 bits wide, answers and lengths too, so that one proved module serves every processor. */
 #ifndef HOACHULIM_H
 #define HOACHULIM_H

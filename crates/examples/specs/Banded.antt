@@ -13,11 +13,14 @@ use Rattle.meaning.specs.Images.{follows, image}
 use Rattle.meaning.specs.Plants.{plantForm, plantOf, numbersOf, plantRead, stepOf}
 use Rattle.meaning.specs.Computing.{computing}
 
--- the bytes of reading 13
+-- the bytes of reading 13, but for the two of S lo and that of mode 1's w hi
+abbrev but : ℕ → ℕ → ℕ → List ℕ
+but slo slo′ hi =
+    0x02 ∷ 0x01 ∷ 0x02 ∷ 0x0A ∷ 0x02 ∷ 0x01 ∷ 0x86 ∷ 0x03 ∷ 0xC2 ∷ 0x03 ∷ slo ∷ slo′ ∷ 0xCC ∷ 0x03 ∷ 0x09 ∷ 0x08 ∷ 0x12 ∷ 0xC8 ∷ 0x01 ∷ 0x09
+    ∷ hi ∷ 0x12 ∷ 0xD8 ∷ 0x04 ∷ []
+
 abbrev P₂ : List ℕ
-P₂ =
-    0x02 ∷ 0x01 ∷ 0x02 ∷ 0x0A ∷ 0x02 ∷ 0x01 ∷ 0x86 ∷ 0x03 ∷ 0xC2 ∷ 0x03 ∷ 0xFC ∷ 0x02 ∷ 0xCC ∷ 0x03 ∷ 0x09 ∷ 0x08 ∷ 0x12 ∷ 0xC8 ∷ 0x01 ∷ 0x09
-    ∷ 0x08 ∷ 0x12 ∷ 0xD8 ∷ 0x04 ∷ []
+P₂ = but 0xFC 0x02 0x08
 
 abbrev front : ℕ → List ℤ
 front form = pos form ∷ pos 1 ∷ pos 2 ∷ pos 10 ∷ pos 2 ∷ pos 1 ∷ pos 195 ∷ pos 225 ∷ pos 190 ∷ pos 230 ∷ []
@@ -44,6 +47,11 @@ refused : (plantRead (file 3 4) .verdict ≡ Verdict.Refused (narrow 0 0)) × (p
     × (plantRead (3 ∷ []) .verdict ≡ Verdict.Refused wrongForm) × (plantRead (0 ∷ []) .verdict ≡ Verdict.Refused wrongForm)
 unfolding computing
 refused = (refl, refl, refl, refl, refl, refl)
+
+-- S lo 200 is above R lo 195: 4, before the narrow band of mode 1; and mode 1's w hi below its w lo: 3 at its byte, as the rows' numbers are told
+before : (plantRead (but 0x90 0x03 0x06) .verdict ≡ Verdict.Refused (notInSafe 0)) × (plantRead (but 0xFC 0x02 0x0B) .verdict ≡ Verdict.Refused (unfit 20))
+unfolding computing
+before = (refl, refl)
 
 -- two rooms and two modes, the second band of the second mode too narrow: 5, place 1, step 1
 abbrev rooms : ℕ → List ℤ

@@ -1,4 +1,4 @@
-// The rows of document 01's table of refusals that a file is refused by, each under the name of its definition.
+// The rows of the table of refusals that a file is refused by, each under the name of its definition.
 use meaning::Refusal;
 ghost use mathlib.Core.Path.{_≡_};
 ghost use Rattle.meaning.specs.Refusals as R;

@@ -1,4 +1,5 @@
--- What each number says: document 01's table of refusals and row 15 of document 02, one definition a row, and what each answer shows of it.
+-- What each number says: document 01's table of refusals, with rows 2 and 5 as request 2026-09 has them and row 15 of document 02, one definition a row,
+-- and what each answer shows of it.
 -- A place or step that the table does not name is 0. In a start file some rows say more (docs/REFUSALS.md), and the places of its tables are moved.
 use Prim.Native.Nat.{ℕ, _+_}
 use mathlib.Core.Bool.{Bool, _||_, cond}
