@@ -8,7 +8,7 @@
 
 use crate::boxes::Box;
 use crate::file::File;
-use crate::plant::{read_plant, Plant};
+use crate::plant::{read_plant_into, Plant};
 use crate::refusal::{Refusal, READING_OUTSIDE, STATE_CANNOT_BE};
 use crate::table::{read_header, read_node, Node, Pattern};
 use crate::MOST_ROOMS;
@@ -37,7 +37,8 @@ pub fn control(
     state: State,
     reading: [i64; MOST_ROOMS],
 ) -> Result<(u8, State), Refusal> {
-    let plant = read_plant(plant_bytes)?;
+    let mut plant = Plant::ZEROS;
+    read_plant_into(plant_bytes, &mut plant)?;
     call(&plant, &plant.r(), File::new(table_bytes), state, &reading)
 }
 

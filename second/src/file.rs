@@ -48,6 +48,7 @@ impl<'a> File<'a> {
     }
 
     /// The next number, whatever it is: refused with 1 alone.
+    #[inline]
     pub fn unsigned(&mut self) -> Result<u64, Refusal> {
         let (number, next) = read_unsigned(self.bytes, self.place)?;
         self.place = next;

@@ -8,9 +8,18 @@ use crate::refusal::{Refusal, BROKEN_NUMBER};
 pub const MOST_BYTES: usize = 5;
 
 /// The number that starts at `place`, with the place after it. A place at or
-/// beyond the end is a number that ends early.
+/// beyond the end is a number that ends early. Most numbers of a table are one
+/// byte.
 #[inline]
 pub fn read_unsigned(bytes: &[u8], place: usize) -> Result<(u64, usize), Refusal> {
+    match bytes.get(place) {
+        Some(byte) if *byte < 0x80 => Ok((u64::from(*byte), place + 1)),
+        _ => read_groups(bytes, place),
+    }
+}
+
+/// The same of a number of any length.
+fn read_groups(bytes: &[u8], place: usize) -> Result<(u64, usize), Refusal> {
     let refusal = Refusal::at(BROKEN_NUMBER, place as u64);
     let rest = bytes.get(place..).unwrap_or(&[]);
     let mut number = 0_u64;

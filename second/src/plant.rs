@@ -116,8 +116,15 @@ pub fn most_depth(n: u64) -> u64 {
 
 /// A plant's file, judged: 1, 2 and 3 number by number, leftover, 4, 5.
 pub fn read_plant(bytes: &[u8]) -> Result<Plant, Refusal> {
-    let mut file = File::new(bytes);
     let mut plant = Plant::ZEROS;
+    read_plant_into(bytes, &mut plant)?;
+    Ok(plant)
+}
+
+/// The same into a plant of zeros, where it is to stand: it is large to be handed
+/// on by value at every call.
+pub(crate) fn read_plant_into(bytes: &[u8], plant: &mut Plant) -> Result<(), Refusal> {
+    let mut file = File::new(bytes);
     plant.form = file.form(&[ONE_BAND, BAND_IN_MODE])?;
     plant.n = file.unsigned_in(1, MOST_ROOMS as u64)?;
     plant.modes = file.unsigned_in(1, MOST_MODES as u64)?;
@@ -125,11 +132,10 @@ pub fn read_plant(bytes: &[u8]) -> Result<Plant, Refusal> {
     plant.k = file.unsigned_in(1, LONGEST_PATTERN as u64)?;
     plant.d = file.unsigned_in(0, most_depth(plant.n))?;
     plant.edges = Edges::read(&mut file, plant.rooms())?;
-    read_modes(&mut file, &mut plant)?;
+    read_modes(&mut file, plant)?;
     file.end(OUT_OF_RANGE)?;
     plant.edges.judge(plant.rooms())?;
-    plant.judge_bands()?;
-    Ok(plant)
+    plant.judge_bands()
 }
 
 /// The bands and rows of all modes: form 1's one band before them, form 2's in
