@@ -31,15 +31,23 @@ pub struct Box {
     sides: [Side; MOST_ROOMS],
 }
 
-impl Box {
-    /// The box with these low and high edges, as many sides as both have.
-    pub fn new(lo: &[i64], hi: &[i64]) -> Box {
+impl FromIterator<Side> for Box {
+    /// The box of these sides, at most four.
+    #[inline]
+    fn from_iter<Sides: IntoIterator<Item = Side>>(sides: Sides) -> Box {
         let mut made = Box { n: 0, sides: [Side::default(); MOST_ROOMS] };
-        for (side, (lo, hi)) in made.sides.iter_mut().zip(lo.iter().zip(hi)) {
-            *side = Side { lo: *lo, hi: *hi };
+        for (slot, side) in made.sides.iter_mut().zip(sides) {
+            *slot = side;
             made.n += 1;
         }
         made
+    }
+}
+
+impl Box {
+    /// The box with these low and high edges, as many sides as both have.
+    pub fn new(lo: &[i64], hi: &[i64]) -> Box {
+        lo.iter().zip(hi).map(|(lo, hi)| Side { lo: *lo, hi: *hi }).collect()
     }
 
     /// Its sides, in order of dimension.

@@ -2,13 +2,16 @@
 //! mode and how many are left. A call takes plant, table, state and reading
 //! ... Idle: the reading must be in R; its tile is found, its first mode
 //! answered. Running: the reading must be in S; the mode at the place is
-//! answered. With modes left the state moves one on, else it is idle."
+//! answered. With modes left the state moves one on, else it is idle." A mode of
+//! 128 and above takes two bytes (request 2026-08), so one on is the byte behind
+//! its number.
 //! "Controller: plant, table header, 12, 11, then the tree; the walk tells 1
 //! and 6 of what it reads, passed tiles too, ... and tests no image."
 
 use crate::boxes::Box;
 use crate::file::File;
-use crate::plant::{read_plant_into, Plant};
+use crate::numbers::{groups_of, read_unsigned};
+use crate::plant::{read_past_modes, Plant};
 use crate::refusal::{Refusal, READING_OUTSIDE, STATE_CANNOT_BE};
 use crate::table::{read_header, read_node, Node, Pattern};
 use crate::MOST_ROOMS;
@@ -37,8 +40,7 @@ pub fn control(
     state: State,
     reading: [i64; MOST_ROOMS],
 ) -> Result<(u8, State), Refusal> {
-    let mut plant = Plant::ZEROS;
-    read_plant_into(plant_bytes, &mut plant)?;
+    let plant = read_past_modes(plant_bytes)?;
     call(&plant, &plant.r(), File::new(table_bytes), state, &reading)
 }
 
@@ -53,9 +55,9 @@ pub fn call(
 ) -> Result<(u8, State), Refusal> {
     read_header(plant, &mut file)?;
     match mode_there(plant, file.own_bytes(), state)? {
-        Some(mode) => {
+        Some((mode, next)) => {
             reading_in(&plant.s(), reading)?;
-            Ok((mode, State::after(state.place + 1, state.left - 1)))
+            Ok((mode, State::after(next, state.left - 1)))
         }
         None => {
             reading_in(root, reading)?;
@@ -64,10 +66,11 @@ pub fn call(
     }
 }
 
-/// The mode at a running state's place, None for idle; 12: "left over K; left
-/// 0 with a place other than 0; left above 0 with place below 2, place plus
-/// left beyond the table, or the mode there not below N".
-fn mode_there(plant: &Plant, table: &[u8], state: State) -> Result<Option<u8>, Refusal> {
+/// The mode at a running state's place and the place behind it, None for idle.
+/// 12: "left over K; left 0 with a place other than 0; left above 0 with place
+/// below 2", and "when reading the modes left from that place runs off the table,
+/// meets a broken number, or meets a mode not below N".
+fn mode_there(plant: &Plant, table: &[u8], state: State) -> Result<Option<(u8, u64)>, Refusal> {
     let cannot_be = Refusal::at(STATE_CANNOT_BE, 0);
     if state == State::IDLE {
         return Ok(None);
@@ -75,15 +78,16 @@ fn mode_there(plant: &Plant, table: &[u8], state: State) -> Result<Option<u8>, R
     if state.left == 0 || state.left > plant.k || state.place < 2 {
         return Err(cannot_be);
     }
-    let end = state.place.checked_add(state.left).ok_or(cannot_be)?;
-    if end > table.len() as u64 {
-        return Err(cannot_be);
+    let mode_at = |place| match read_unsigned(table, place) {
+        Ok((mode, next)) if mode < plant.modes => Ok((mode as u8, next)),
+        _ => Err(cannot_be),
+    };
+    let (mode, next) = mode_at(usize::try_from(state.place).map_err(|_| cannot_be)?)?;
+    let mut place = next;
+    for _ in 1..state.left {
+        (_, place) = mode_at(place)?;
     }
-    let mode = table.get(state.place as usize).copied().ok_or(cannot_be)?;
-    if u64::from(mode) >= plant.modes {
-        return Err(cannot_be);
-    }
-    Ok(Some(mode))
+    Ok(Some((mode, next as u64)))
 }
 
 /// 11 at the first dimension in which the reading is outside.
@@ -104,9 +108,10 @@ fn start_tile(
     let found = find_tile(plant, file, root, plant.d, reading)?;
     // The reading lies in the root and children cover their parent, so a tile is found.
     let (place, pattern) = found.ok_or(Refusal::at(READING_OUTSIDE, 0))?;
-    let left = pattern.modes().len() as u64 - 1;
-    // Node and modes are one byte each, being below 128: the second mode is two on.
-    Ok((pattern.modes()[0], State::after(place - file.first() + 2, left)))
+    let (first, left) = (pattern.modes()[0], pattern.modes().len() as u64 - 1);
+    // The tile's number is one byte, being at most K: the second mode stands behind the first's.
+    let second = place + 1 + groups_of(first.into()).1 as u64;
+    Ok((first, State::after(second - file.first(), left)))
 }
 
 /// Walks the tree of a box up to the tile that holds the reading: the tile's

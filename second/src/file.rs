@@ -5,7 +5,6 @@
 
 use crate::numbers::{groups_of, read_signed, read_unsigned, stored_of};
 use crate::refusal::{Refusal, BROKEN_NUMBER, FORM_NOT_KNOWN, OUT_OF_RANGE};
-use crate::LARGEST_PLANT;
 
 /// Bytes under judgement and the place of the next number in them. A file may
 /// stand inside another: its places are then those of the outer one, which
@@ -109,6 +108,9 @@ impl<'a> File<'a> {
     }
 }
 
+/// Room that most drafts never outgrow.
+const USUAL_DRAFT: usize = 1_024;
+
 /// "The file it would be": values written out before they are judged, so a
 /// number in it may be out of range or over 5 bytes.
 pub struct Draft {
@@ -118,7 +120,7 @@ pub struct Draft {
 impl Draft {
     /// A draft holding the form alone.
     pub fn new(form: u64) -> Draft {
-        let mut draft = Draft { bytes: Vec::with_capacity(LARGEST_PLANT) };
+        let mut draft = Draft { bytes: Vec::with_capacity(USUAL_DRAFT) };
         draft.unsigned(form);
         draft
     }

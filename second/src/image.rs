@@ -6,7 +6,6 @@
 
 use crate::boxes::{Box, Side};
 use crate::plant::Plant;
-use crate::MOST_ROOMS;
 
 /// The greatest whole number not above value / divisor, divisor above 0.
 pub fn floor_div(value: i64, divisor: i64) -> i64 {
@@ -20,17 +19,13 @@ pub fn ceil_div(value: i64, divisor: i64) -> i64 {
 
 /// The image of a box under a mode of a judged plant.
 pub fn image(plant: &Plant, mode: usize, from: &Box) -> Box {
-    let n = plant.rooms();
     let q = plant.q as i64;
     let band = &plant.bands[mode];
-    let mut lo = [0; MOST_ROOMS];
-    let mut hi = [0; MOST_ROOMS];
-    for i in 0..n {
-        let (least, greatest) = least_and_greatest(plant.row(mode, i), from.sides());
-        lo[i] = ceil_div(least + band.lo[i], q);
-        hi[i] = floor_div(greatest + band.hi[i], q);
-    }
-    Box::new(&lo[..n], &hi[..n])
+    let ends = band.lo.iter().zip(&band.hi);
+    plant.rows(mode).zip(ends).map(|(row, (w_lo, w_hi))| {
+        let (least, greatest) = least_and_greatest(row, from.sides());
+        Side { lo: ceil_div(least + w_lo, q), hi: floor_div(greatest + w_hi, q) }
+    }).collect()
 }
 
 /// The least and greatest of one row over a box.

@@ -22,13 +22,28 @@ impl<'a> Lent<'a> {
         self.length
     }
 
+    /// Adds a byte, written where the buffer goes that far.
+    #[inline]
+    pub fn put_byte(&mut self, byte: u8) {
+        if let Some(slot) = self.buffer.get_mut(self.length) {
+            *slot = byte;
+        }
+        self.length += 1;
+    }
+
     /// Adds bytes, writing as far as the buffer goes.
     pub fn put(&mut self, bytes: &[u8]) {
-        for byte in bytes {
-            if let Some(slot) = self.buffer.get_mut(self.length) {
-                *slot = *byte;
-            }
-            self.length += 1;
+        bytes.iter().for_each(|byte| self.put_byte(*byte));
+    }
+
+    /// Adds a mode, a number of one or two bytes: from 128 on the first is the
+    /// mode itself, its high bit being set.
+    #[inline]
+    pub fn put_mode(&mut self, mode: u8) {
+        if mode < 0x80 {
+            self.put_byte(mode);
+        } else {
+            self.put(&[mode, 1]);
         }
     }
 

@@ -1,10 +1,10 @@
 //! The independent second program of document 01 ("What the build includes
 //! and its rules"): plants, sheets, the table maker, the table checker, the
 //! controller and the listing, and of document 02's requests 2026-02, heaters
-//! that fade as the room warms, 2026-03, start files for cold rooms, and
-//! 2026-09, a band for each mode. Written from those papers and from the
-//! readings of their open words alone. One module per subject, named in the
-//! papers' words.
+//! that fade as the room warms, 2026-03, start files for cold rooms, 2026-08, up
+//! to 256 modes, and 2026-09, a band for each mode. Written from those papers and
+//! from the readings of their open words alone. One module per subject, named in
+//! the papers' words.
 
 #![forbid(unsafe_code)]
 
@@ -33,17 +33,18 @@ pub mod tile;
 
 /// The most rooms a plant or sheet has: "n 1..4".
 pub const MOST_ROOMS: usize = 4;
-/// The most modes: "modes N 1..16".
-pub const MOST_MODES: usize = 16;
+/// The most modes: "N up to 256". A mode is below it, so a u8 holds every mode.
+pub const MOST_MODES: usize = 256;
 /// The longest pattern there can be: "longest pattern K 1..6".
 pub const LONGEST_PATTERN: usize = 6;
-/// "The mode coefficients of the largest plant, 320 numbers."
-pub const COEFFICIENTS: usize = 320;
-/// The largest plant file: 1,183 bytes in form 1; in form 2 fifteen bands more,
-/// each of eight ends of 5 bytes.
-pub const LARGEST_PLANT: usize = 1_183 + 15 * 8 * 5;
-/// "Table file ... At most 30,039 bytes."
-pub const LARGEST_TABLE: usize = 30_039;
+/// The mode coefficients of the largest plant.
+pub const COEFFICIENTS: usize = MOST_MODES * MOST_ROOMS * (MOST_ROOMS + 1);
+/// The largest plant file: "a plant may reach 17,504 bytes" in form 1; in form 2
+/// a band more for each mode but one, each of eight ends of 5 bytes.
+pub const LARGEST_PLANT: usize = 17_504 + (MOST_MODES - 1) * 8 * 5;
+/// "A form 1 table 54,615": form and n, 1,365 splits, 4,096 tiles of six modes of
+/// two bytes.
+pub const LARGEST_TABLE: usize = 54_615;
 /// "A chain of boxes R = R0, R1, .. Rm (m up to 8)."
 pub const MOST_BOXES: usize = 8;
 /// The largest start file: form and m, the edges of eight boxes of two rooms

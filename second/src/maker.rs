@@ -52,8 +52,8 @@ impl<const N: usize> Maker<'_, '_, N> {
     fn make_box(&mut self, here: &Box, depth_left: u64) -> bool {
         let mut pattern = [0; LONGEST_PATTERN];
         if let Some(length) = self.search.first_pattern(here, &mut pattern) {
-            self.table.put(&[length as u8]);
-            self.table.put(&pattern[..length]);
+            self.table.put_byte(length as u8);
+            pattern[..length].iter().for_each(|mode| self.table.put_mode(*mode));
             return true;
         }
         if depth_left == 0 {
@@ -62,7 +62,7 @@ impl<const N: usize> Maker<'_, '_, N> {
         let Some(mut children) = here.split() else {
             return false;
         };
-        self.table.put(&[0]);
+        self.table.put_byte(0);
         children.all(|child| self.make_box(&child, depth_left - 1))
     }
 }

@@ -1,8 +1,8 @@
 //! The plant: "Ranges" and "Plant file: form 1, n, N, q, K, D; for each
 //! dimension R lo, R hi, S lo, S hi; for each dimension w lo, w hi; for each
-//! mode, for each i, A_i1..A_in, b_i." And request 2026-09: "Plant form 2 holds w
-//! lo and w hi for each dimension inside each mode, before its A rows ... a form 1
-//! plant reads as one with equal bands."
+//! mode, for each i, A_i1..A_in, b_i." Request 2026-09: "Plant form 2 holds w lo
+//! and w hi for each dimension inside each mode, before its A rows ... a form 1
+//! plant reads as one with equal bands." Request 2026-08: "N up to 256."
 
 use crate::band::Band;
 use crate::boxes::Box;
@@ -10,9 +10,9 @@ use crate::edges::Edges;
 use crate::file::{Draft, File};
 use crate::lent::{deliver, zero_if_refused};
 use crate::refusal::{Refusal, OUT_OF_RANGE};
-use crate::{COEFFICIENTS, LONGEST_PATTERN, MOST_MODES, MOST_ROOMS};
+use crate::{LONGEST_PATTERN, MOST_MODES, MOST_ROOMS};
 
-/// The form with one band for all modes, before them.
+/// The form with one band for all modes, before the first.
 const ONE_BAND: u64 = 1;
 /// The form with a band inside each mode.
 const BAND_IN_MODE: u64 = 2;
@@ -29,7 +29,7 @@ pub const A_LIMIT: i64 = 20_000;
 pub const B_LIMIT: i64 = 10_000_000_000;
 
 /// A plant as plain values. Nothing about them is promised until they are judged.
-#[derive(Clone, Copy, Debug, PartialEq, Eq)]
+#[derive(Clone, Debug, PartialEq, Eq)]
 pub struct Plant {
     /// The form it is read from and written in: "a form 2 plant with equal bands
     /// is written back as form 2".
@@ -43,16 +43,15 @@ pub struct Plant {
     /// The depth.
     pub d: u64,
     pub edges: Edges,
-    /// The band of each mode, zeros beyond N. Form 1 has one for all: its file
-    /// holds mode 0's.
-    pub bands: [Band; MOST_MODES],
-    /// Packed in file order, zeros beyond: mode u, row i, column j (b_i is
-    /// column n) stands at u*n*(n+1) + i*(n+1) + j.
-    pub coefficients: [i64; COEFFICIENTS],
+    /// The band of each mode. Form 1 has one for all: its file holds mode 0's.
+    pub bands: Vec<Band>,
+    /// Packed in file order: mode u, row i, column j (b_i is column n) stands at
+    /// u*n*(n+1) + i*(n+1) + j.
+    pub coefficients: Vec<i64>,
 }
 
 impl Plant {
-    /// All zeros.
+    /// All zeros, without any mode.
     pub const ZEROS: Plant = Plant {
         form: 0,
         n: 0,
@@ -61,9 +60,17 @@ impl Plant {
         k: 0,
         d: 0,
         edges: Edges::ZEROS,
-        bands: [Band::ZEROS; MOST_MODES],
-        coefficients: [0; COEFFICIENTS],
+        bands: Vec::new(),
+        coefficients: Vec::new(),
     };
+
+    /// Of so many rooms and modes, all else zeros.
+    pub fn zeros(n: u64, modes: u64) -> Plant {
+        let mut plant = Plant { n, modes, ..Plant::ZEROS };
+        plant.bands = vec![Band::ZEROS; plant.mode_count()];
+        plant.coefficients = vec![0; plant.mode_count() * plant.mode_numbers()];
+        plant
+    }
 
     /// How many rooms, never over the most there can be.
     pub fn rooms(&self) -> usize {
@@ -73,6 +80,17 @@ impl Plant {
     /// How many modes, never over the most there can be.
     pub fn mode_count(&self) -> usize {
         self.modes.min(MOST_MODES as u64) as usize
+    }
+
+    /// How many coefficients a mode has.
+    fn mode_numbers(&self) -> usize {
+        self.rooms() * (self.rooms() + 1)
+    }
+
+    /// The rows of mode u.
+    pub fn rows(&self, mode: usize) -> std::slice::ChunksExact<'_, i64> {
+        let numbers = self.mode_numbers();
+        self.coefficients[mode * numbers..][..numbers].chunks_exact(self.rooms() + 1)
     }
 
     /// Row i of mode u: its n entries of A, then b_i.
@@ -92,20 +110,10 @@ impl Plant {
         self.edges.s(self.rooms())
     }
 
-    /// Where the rows of a mode stand among the coefficients.
-    fn rows_of(&self, mode: usize) -> std::ops::Range<usize> {
-        let count = self.rooms() * (self.rooms() + 1);
-        mode * count..(mode + 1) * count
-    }
-
-    /// 5 at the first mode, and in it the first dimension. Of equal bands the
-    /// first tells all.
-    fn judge_bands(&self) -> Result<(), Refusal> {
-        let apart = if self.form == ONE_BAND { 1 } else { self.mode_count() };
-        for (mode, band) in self.bands[..apart].iter().enumerate() {
-            band.judge(mode, self.rooms(), self.q)?;
-        }
-        Ok(())
+    /// Whether a band stands before the rows of this mode: form 1's one band
+    /// before the first mode, form 2's before each.
+    fn band_stands_before(&self, mode: usize) -> bool {
+        mode == 0 || self.form == BAND_IN_MODE
     }
 }
 
@@ -116,15 +124,18 @@ pub fn most_depth(n: u64) -> u64 {
 
 /// A plant's file, judged: 1, 2 and 3 number by number, leftover, 4, 5.
 pub fn read_plant(bytes: &[u8]) -> Result<Plant, Refusal> {
-    let mut plant = Plant::ZEROS;
-    read_plant_into(bytes, &mut plant)?;
-    Ok(plant)
+    read::<true>(bytes)
 }
 
-/// The same into a plant of zeros, where it is to stand: it is large to be handed
-/// on by value at every call.
-pub(crate) fn read_plant_into(bytes: &[u8], plant: &mut Plant) -> Result<(), Refusal> {
+/// The same judgement with the modes read past, for a call, which looks up no row:
+/// the plant is left without them.
+pub(crate) fn read_past_modes(bytes: &[u8]) -> Result<Plant, Refusal> {
+    read::<false>(bytes)
+}
+
+fn read<const KEEP: bool>(bytes: &[u8]) -> Result<Plant, Refusal> {
     let mut file = File::new(bytes);
+    let mut plant = Plant::ZEROS;
     plant.form = file.form(&[ONE_BAND, BAND_IN_MODE])?;
     plant.n = file.unsigned_in(1, MOST_ROOMS as u64)?;
     plant.modes = file.unsigned_in(1, MOST_MODES as u64)?;
@@ -132,60 +143,69 @@ pub(crate) fn read_plant_into(bytes: &[u8], plant: &mut Plant) -> Result<(), Ref
     plant.k = file.unsigned_in(1, LONGEST_PATTERN as u64)?;
     plant.d = file.unsigned_in(0, most_depth(plant.n))?;
     plant.edges = Edges::read(&mut file, plant.rooms())?;
-    read_modes(&mut file, plant)?;
+    let bands = read_modes::<KEEP>(&mut file, &mut plant)?;
     file.end(OUT_OF_RANGE)?;
     plant.edges.judge(plant.rooms())?;
-    plant.judge_bands()
+    bands?;
+    Ok(plant)
 }
 
-/// The bands and rows of all modes: form 1's one band before them, form 2's in
-/// each before its rows.
-fn read_modes(file: &mut File, plant: &mut Plant) -> Result<(), Refusal> {
+/// The bands and rows of all modes, kept or read past: 1 and 3, else the bands'
+/// own 5, at the first mode and in it the first dimension, for later.
+fn read_modes<const KEEP: bool>(
+    file: &mut File,
+    plant: &mut Plant,
+) -> Result<Result<(), Refusal>, Refusal> {
     let n = plant.rooms();
-    if plant.form == ONE_BAND {
-        let band = Band::read(file, n)?;
-        plant.bands[..plant.modes as usize].fill(band);
+    let mut rows = [0; MOST_ROOMS * (MOST_ROOMS + 1)];
+    let rows = &mut rows[..plant.mode_numbers()];
+    if KEEP {
+        plant.bands.reserve_exact(plant.mode_count());
+        plant.coefficients.reserve_exact(plant.mode_count() * rows.len());
     }
+    let mut band = Band::ZEROS;
+    let mut wide_enough = Ok(());
     for mode in 0..plant.mode_count() {
-        if plant.form == BAND_IN_MODE {
-            plant.bands[mode] = Band::read(file, n)?;
+        if plant.band_stands_before(mode) {
+            band = Band::read(file, n)?;
+            wide_enough = wide_enough.and_then(|()| band.judge(mode, n, plant.q));
         }
-        let rows = plant.rows_of(mode);
-        for (number, slot) in plant.coefficients[rows].iter_mut().enumerate() {
+        for (number, slot) in rows.iter_mut().enumerate() {
             let limit = if number % (n + 1) == n { B_LIMIT } else { A_LIMIT };
             *slot = file.signed_in(-limit, limit)?;
         }
+        if KEEP {
+            plant.bands.push(band);
+            plant.coefficients.extend_from_slice(rows);
+        }
     }
-    Ok(())
+    Ok(wide_enough)
 }
 
 /// Writes a plant: its values "judged as the file it would be", then 10. What
 /// the values hold beyond n and N is ignored, and in form 1 the bands behind
-/// mode 0's.
+/// mode 0's; what they lack is zeros.
 pub fn write_plant(plant: &Plant, buffer: &mut [u8]) -> Result<usize, Refusal> {
     let draft = draft_plant(plant);
-    let answer = read_plant(draft.bytes()).and_then(|_| deliver(draft.bytes(), buffer));
+    let answer = read_past_modes(draft.bytes()).and_then(|_| deliver(draft.bytes(), buffer));
     zero_if_refused(answer, buffer)
 }
 
 /// The file any values would be; where the form, n or N is out of range the
 /// judge stops there, so what is drafted behind it does not matter.
 fn draft_plant(plant: &Plant) -> Draft {
-    let n = plant.rooms();
+    let (n, numbers) = (plant.rooms(), plant.mode_numbers());
     let mut draft = Draft::new(plant.form);
     for number in [plant.n, plant.modes, plant.q, plant.k, plant.d] {
         draft.unsigned(number);
     }
     plant.edges.draft(&mut draft, n);
-    if plant.form == ONE_BAND {
-        plant.bands[0].draft(&mut draft, n);
-    }
     for mode in 0..plant.mode_count() {
-        if plant.form == BAND_IN_MODE {
-            plant.bands[mode].draft(&mut draft, n);
+        if plant.band_stands_before(mode) {
+            plant.bands.get(mode).unwrap_or(&Band::ZEROS).draft(&mut draft, n);
         }
-        for coefficient in &plant.coefficients[plant.rows_of(mode)] {
-            draft.signed(*coefficient);
+        for number in mode * numbers..(mode + 1) * numbers {
+            draft.signed(plant.coefficients.get(number).copied().unwrap_or(0));
         }
     }
     draft

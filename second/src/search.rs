@@ -10,12 +10,13 @@
 //! twice the least is 2b + A*(lo+hi) - |A|*(hi-lo), twice the greatest the same
 //! with +. A mode's band is part of its rows: w lo + w hi is added to the middle,
 //! w hi - w lo to the reach, so that the limits are the same for every mode.
-//! Fixed memory: one box for each step of the beginning.
+//! Memory: the rows of the plant's modes, and one box for each step of the
+//! beginning.
 
 use crate::boxes::Box;
 use crate::image::{ceil_div, floor_div};
 use crate::plant::Plant;
-use crate::{LONGEST_PATTERN, MOST_MODES};
+use crate::LONGEST_PATTERN;
 
 /// One row of a mode: A_i1..A_in, their sizes, 2*b_i + w lo_i + w hi_i, and
 /// w hi_i - w lo_i.
@@ -45,8 +46,7 @@ struct Limits<const N: usize> {
 
 /// The plant of N rooms, laid out for the search.
 pub struct Search<const N: usize> {
-    modes: [[Row<N>; N]; MOST_MODES],
-    mode_count: usize,
+    modes: Vec<[Row<N>; N]>,
     longest: usize,
     q: i64,
     in_goal: Limits<N>,
@@ -56,21 +56,8 @@ pub struct Search<const N: usize> {
 impl<const N: usize> Search<N> {
     /// Lays a judged plant of N rooms out, for patterns that end in `goal`.
     pub fn new(plant: &Plant, goal: &Box) -> Search<N> {
-        let empty = Row { a: [0; N], size: [0; N], middle: 0, reach: 0 };
-        let mut modes = [[empty; N]; MOST_MODES];
-        for (u, mode) in modes.iter_mut().enumerate().take(plant.modes as usize) {
-            for (i, row) in mode.iter_mut().enumerate() {
-                let numbers = plant.row(u, i);
-                row.a.copy_from_slice(&numbers[..N]);
-                row.size = row.a.map(i64::abs);
-                let (w_lo, w_hi) = (plant.bands[u].lo[i], plant.bands[u].hi[i]);
-                row.middle = 2 * numbers[N] + w_lo + w_hi;
-                row.reach = w_hi - w_lo;
-            }
-        }
         Search {
-            modes,
-            mode_count: plant.modes as usize,
+            modes: (0..plant.mode_count()).map(|u| std::array::from_fn(|i| Row::new(plant, u, i))).collect(),
             longest: plant.k as usize,
             q: plant.q as i64,
             in_goal: limits(plant.q, goal),
@@ -104,8 +91,8 @@ impl<const N: usize> Search<N> {
                 None => false,
             };
         }
-        for mode in 0..self.mode_count {
-            let Some(next) = self.image_in_s(here, mode) else {
+        for (mode, rows) in self.modes.iter().enumerate() {
+            let Some(next) = self.image_in_s(here, rows) else {
                 continue;
             };
             if self.extend(&next, rest) {
@@ -118,8 +105,7 @@ impl<const N: usize> Search<N> {
 
     /// The first mode whose image lies in the goal, which lies in S.
     fn last_mode(&self, here: &Spread<N>) -> Option<usize> {
-        let modes = &self.modes[..self.mode_count];
-        modes.iter().position(|rows| {
+        self.modes.iter().position(|rows| {
             (0..N).all(|i| {
                 let (least, greatest) = rows[i].twice_least_and_greatest(here);
                 least > self.in_goal.above[i] && greatest < self.in_goal.below[i]
@@ -127,11 +113,11 @@ impl<const N: usize> Search<N> {
         })
     }
 
-    /// The image under a mode, where it lies in S.
-    fn image_in_s(&self, here: &Spread<N>, mode: usize) -> Option<Spread<N>> {
+    /// The image under a mode of these rows, where it lies in S.
+    fn image_in_s(&self, here: &Spread<N>, rows: &[Row<N>; N]) -> Option<Spread<N>> {
         let mut least = [0; N];
         let mut greatest = [0; N];
-        for (i, row) in self.modes[mode].iter().enumerate() {
+        for (i, row) in rows.iter().enumerate() {
             (least[i], greatest[i]) = row.twice_least_and_greatest(here);
             if least[i] <= self.in_s.above[i] || greatest[i] >= self.in_s.below[i] {
                 return None;
@@ -149,6 +135,14 @@ impl<const N: usize> Search<N> {
 }
 
 impl<const N: usize> Row<N> {
+    /// Row i of mode u, its band in it.
+    fn new(plant: &Plant, u: usize, i: usize) -> Row<N> {
+        let numbers = plant.row(u, i);
+        let a: [i64; N] = std::array::from_fn(|j| numbers[j]);
+        let (w_lo, w_hi) = (plant.bands[u].lo[i], plant.bands[u].hi[i]);
+        Row { a, size: a.map(i64::abs), middle: 2 * numbers[N] + w_lo + w_hi, reach: w_hi - w_lo }
+    }
+
     /// Twice the least and twice the greatest of the row over a box, its band
     /// added: both even.
     #[inline(always)]

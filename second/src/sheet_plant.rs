@@ -17,16 +17,14 @@ use crate::sheet::{Emitter, Room, Sheet};
 /// The plant of a sheet whose file was judged; 14, first in plant order.
 pub(crate) fn step_coefficients(sheet: &Sheet) -> Result<Plant, Refusal> {
     let n = sheet.room_count();
-    let mut plant = Plant::ZEROS;
+    let emitters = sheet.rooms[..n].iter().filter(|room| has_emitter(room)).count();
+    let mut plant = Plant::zeros(sheet.n, 1 << emitters);
     plant.form = 1;
-    plant.n = sheet.n;
-    plant.modes = 1 << sheet.rooms[..n].iter().filter(|room| has_emitter(room)).count();
     plant.q = sheet.q;
     plant.k = sheet.k;
     plant.d = sheet.d;
     plant.edges = sheet.edges;
-    let band = widened(sheet)?;
-    plant.bands[..plant.modes as usize].fill(band);
+    plant.bands.fill(widened(sheet)?);
     for mode in 0..plant.modes as usize {
         for i in 0..n {
             fill_row(sheet, mode, i, &mut plant)?;

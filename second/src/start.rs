@@ -10,7 +10,7 @@ use crate::control::{call, reading_in, State};
 use crate::file::File;
 use crate::lent::{zero_if_refused, Lent};
 use crate::maker::make_table;
-use crate::plant::{read_plant, read_plant_into, Plant};
+use crate::plant::{read_past_modes, read_plant, Plant};
 use crate::refusal::{Refusal, NO_TABLE, OUT_OF_RANGE, STATE_CANNOT_BE};
 use crate::{LARGEST_START, MOST_ROOMS};
 
@@ -106,8 +106,7 @@ pub fn start_control(
     state: StartState,
     reading: [i64; MOST_ROOMS],
 ) -> Result<(u8, StartState), Refusal> {
-    let mut plant = Plant::ZEROS;
-    read_plant_into(plant_bytes, &mut plant)?;
+    let plant = read_past_modes(plant_bytes)?;
     let mut file = File::new(start_bytes);
     let chain = read_beginning(&plant, &mut file)?;
     let index = answering(&chain, state, &reading)?;

@@ -8,7 +8,7 @@ use crate::plant::Plant;
 use crate::refusal::{Refusal, TABLE_RULE};
 use crate::LONGEST_PATTERN;
 
-/// A pattern of one to six modes.
+/// A pattern of one to six modes, each of one or two bytes in the file.
 #[derive(Clone, Copy, Debug, PartialEq, Eq)]
 pub struct Pattern {
     modes: [u8; LONGEST_PATTERN],

@@ -145,7 +145,7 @@ fn every_run_of_the_worked_example() {
     let plant = second::plant::read_plant(&bytes).expect("a plant");
     let chain: Vec<Wide> = vec![(vec![180], vec![225]), (vec![160], vec![230])];
     let start = start_make(&bytes, &chain_bytes(&chain)).expect("a start file");
-    let cold = Cold::new(plant, bytes, &chain, start);
+    let cold = Cold::new(plant.clone(), bytes, &chain, start);
     assert_eq!([0, 1, 2].map(|index| longest_pattern(&cold.tables[index])), [2, 2, 2]);
     assert_eq!(cold.bound(&[160, 0, 0, 0]), 4);
     let mut everywhere = Everywhere { cold: &cold, worst: HashMap::new() };
@@ -162,7 +162,7 @@ fn every_run_of_small_rooms() {
     let (mut rooms, mut sharp, mut far) = (0, 0, 0);
     for (plant, bytes, chain, start) in made_starts(210, 1_200) {
         if plant.n == 1 {
-            let (more_sharp, more_far) = every_run(&Cold::new(plant, bytes, &chain, start));
+            let (more_sharp, more_far) = every_run(&Cold::new(plant.clone(), bytes, &chain, start));
             (rooms, sharp, far) = (rooms + 1, sharp + more_sharp, far + more_far);
         }
     }
@@ -175,7 +175,7 @@ fn rooms_that_do_what_the_plant_allows() {
     let mut random = Random(22);
     let (mut late, mut last_box) = (0, 0);
     for (plant, bytes, chain, start) in made_starts(220, 300) {
-        let cold = Cold::new(plant, bytes, &chain, start);
+        let cold = Cold::new(plant.clone(), bytes, &chain, start);
         let rm = cold.boxes.last().expect("R").clone();
         for _ in 0..12 {
             let mut x = [i64::MIN; 4];

@@ -60,9 +60,8 @@ fn p_in_form_2() {
     assert_eq!(file(&p2_fields()), P2);
     let (one, two) = (read_plant(&P).expect("P"), read_plant(&P2).expect("P in form 2"));
     assert_eq!((one.form, two.form), (1, 2));
-    assert_eq!(Plant { form: 1, ..two }, one);
-    assert_eq!(one.bands[..2], [Band { lo: [-5, 0, 0, 0], hi: [4, 0, 0, 0] }; 2]);
-    assert_eq!(one.bands[2..], [Band::ZEROS; 14]);
+    assert_eq!(Plant { form: 1, ..two.clone() }, one);
+    assert_eq!(one.bands, [Band { lo: [-5, 0, 0, 0], hi: [4, 0, 0, 0] }; 2]);
     assert_eq!((written(&one), written(&two)), (Ok(P.to_vec()), Ok(P2.to_vec())));
     let mut table = marked(9);
     assert_eq!(make(&P2, &mut table), Ok(7));
@@ -99,7 +98,7 @@ fn a_form_1_record_is_written_with_mode_0s_band() {
     assert_eq!(written(&plant), Err((1, 14, 0)));
     // In form 2 each counts, and those beyond N do not.
     let mut plant = read_plant(&P2).expect("P in form 2");
-    plant.bands[2..].fill(Band { lo: [i64::MIN; 4], hi: [i64::MAX; 4] });
+    plant.bands.push(Band { lo: [i64::MIN; 4], hi: [i64::MAX; 4] });
     plant.bands[0].lo[1..].fill(i64::MIN);
     assert_eq!(written(&plant), Ok(P2.to_vec()));
     plant.bands[1].lo[0] = -1_000_000_001;
@@ -112,7 +111,7 @@ fn sheets_go_on_writing_form_1() {
     let length = sheet_to_plant(&file(&line_13()), &mut plant).expect("a plant");
     let read = read_plant(&plant[..length]).expect("a plant");
     assert_eq!((plant[0], read.form), (1, 1));
-    assert_eq!(read.bands[..2], [Band { lo: [-120, 0, 0, 0], hi: [119, 0, 0, 0] }; 2]);
+    assert_eq!(read.bands, [Band { lo: [-120, 0, 0, 0], hi: [119, 0, 0, 0] }; 2]);
 }
 
 // ---- 5, and 3 inside a mode
@@ -225,7 +224,7 @@ fn the_largest_plant_of_form_2() {
     mode.extend([20_000, -20_000, 20_000, -20_000, -10_000_000_000].repeat(4));
     fields.extend(mode.repeat(16).into_iter().map(S));
     let bytes = file(&fields);
-    assert_eq!((bytes.len(), second::LARGEST_PLANT), (1_783, 1_783));
+    assert_eq!(bytes.len(), 1_783);
     let plant = read_plant(&bytes).expect("the largest plant");
     assert_eq!(plant, plant_values(&fields, 4));
     let mut buffer = marked(1_784);
@@ -307,7 +306,7 @@ fn the_maker_agrees_over_own_bands() {
         let one = pulling_plant(&mut random);
         let plant = with_own_bands(&one, &mut random);
         let bytes = plant_bytes(&plant);
-        assert_eq!(read_plant(&bytes), Ok(plant));
+        assert_eq!(read_plant(&bytes).as_ref(), Ok(&plant));
         let mut buffer = marked(4_000);
         let answer = make(&bytes, &mut buffer);
         let slow = slow_table(&plant, &r_of(&plant), &r_of(&plant));

@@ -79,7 +79,7 @@ fn line_5() {
 
 #[test]
 fn line_6() {
-    let mut plant = Plant { n: 1, modes: 1, q: 10, ..Plant::ZEROS };
+    let mut plant = Plant { q: 10, ..Plant::zeros(1, 1) };
     (plant.bands[0].lo[0], plant.bands[0].hi[0]) = (-9, 0);
     plant.coefficients[..2].copy_from_slice(&[7, 0]);
     assert_eq!(sides(&image(&plant, 0, &Box::new(&[-20], &[-11]))), [(-14, -8)]);
@@ -87,7 +87,7 @@ fn line_6() {
 
 #[test]
 fn line_7() {
-    let mut plant = Plant { n: 2, modes: 1, q: 2, ..Plant::ZEROS };
+    let mut plant = Plant { q: 2, ..Plant::zeros(2, 1) };
     (plant.bands[0].lo, plant.bands[0].hi) = ([-1; 4], [0; 4]);
     plant.coefficients[..3].copy_from_slice(&[3, -2, 0]);
     let made = image(&plant, 0, &Box::new(&[10, 5], &[20, 8]));

@@ -195,7 +195,7 @@ fn row_3_header_numbers_out_of_range() {
         plant_field(&two_rooms(), 2, 1, U(n), 3);
         sheet_field(&two_room_sheet(), 2, 1, U(n), 3);
     }
-    for (index, value) in [(2, 17), (3, 10_001), (4, 7), (5, 7)] {
+    for (index, value) in [(2, 257), (3, 10_001), (4, 7), (5, 7)] {
         plant_field(&two_rooms(), 2, index, U(value), 3);
     }
     for (index, value) in [(2, 1_001), (3, 10_001), (4, 7), (5, 7)] {

@@ -13,7 +13,7 @@ use second::sheet::plant_of_sheet;
 #[test]
 fn the_low_corner_is_not_the_least_whatever_the_sign() {
     // Line 7: 3*10 - 2*5 = 20 would be taken for the least, giving 10; it is 3*10 - 2*8 = 14.
-    let mut plant = Plant { n: 2, modes: 1, q: 2, ..Plant::ZEROS };
+    let mut plant = Plant { q: 2, ..Plant::zeros(2, 1) };
     (plant.bands[0].lo[0], plant.bands[0].hi[0]) = (-1, 0);
     plant.coefficients[..3].copy_from_slice(&[3, -2, 0]);
     let made = image(&plant, 0, &Box::new(&[10, 5], &[20, 8]));
@@ -39,7 +39,7 @@ fn the_maker_too_minds_the_sign() {
 fn division_is_not_towards_zero() {
     // Line 6: the high edge is floor(-77/10) = -8, towards zero -7; the low
     // edge is ceil(-149/10) = -14.
-    let mut plant = Plant { n: 1, modes: 1, q: 10, ..Plant::ZEROS };
+    let mut plant = Plant { q: 10, ..Plant::zeros(1, 1) };
     (plant.bands[0].lo[0], plant.bands[0].hi[0]) = (-9, 0);
     plant.coefficients[..2].copy_from_slice(&[7, 0]);
     let made = image(&plant, 0, &Box::new(&[-20], &[-11]));

@@ -93,7 +93,7 @@ fn the_maker_agrees_at_the_limits() {
 fn small_plant(random: &mut Random) -> Plant {
     let n = random.within(1, 3) as usize;
     let q = random.within(1, 12);
-    let mut plant = Plant { n: n as u64, modes: 1, q: q as u64, ..Plant::ZEROS };
+    let mut plant = Plant { q: q as u64, ..Plant::zeros(n as u64, 1) };
     for i in 0..n {
         let band = &mut plant.bands[0];
         band.lo[i] = random.within(-20, 20);

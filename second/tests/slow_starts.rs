@@ -128,7 +128,7 @@ fn slow_start_control(
     } else {
         index as usize
     };
-    let mut other = *plant;
+    let mut other = plant.clone();
     for i in 0..n {
         (other.edges.r_lo[i], other.edges.r_hi[i]) = (boxes[index].0[i] as i64, boxes[index].1[i] as i64);
     }

@@ -10,7 +10,7 @@ use second::maker::make;
 use second::plant::read_plant;
 use second::refusal::Refusal;
 use second::start::{start_check, start_control, start_make, start_make_into, StartState};
-use second::{LARGEST_START, LARGEST_TABLE, MOST_BOXES};
+use second::MOST_BOXES;
 
 type Told = (u64, u64, u64);
 
@@ -677,10 +677,11 @@ fn without_boxes_the_answers_are_the_tables() {
 
 // ---- the largest ----
 
-/// n 2, D 6, m 8, every edge 3 bytes and every table the largest: a turn by a
-/// sixth brings each reading back to itself and no larger tile anywhere.
+/// n 2, D 6, m 8, every edge 3 bytes and every table the largest of modes of one
+/// byte: a turn by a sixth brings each reading back to itself and no larger tile
+/// anywhere.
 #[test]
-fn the_largest_start_file() {
+fn the_largest_start_file_of_short_modes() {
     let limit = 1_000_000;
     let mut fields = vec![U(1), U(2), U(1), U(1), U(6), U(6)];
     fields.extend([9000, 9063, -limit, limit, 9000, 9063, -limit, limit, 0, 0, 0, 0].map(S));
@@ -688,13 +689,13 @@ fn the_largest_start_file() {
     let plant = file(&fields);
     let chain = chain_fields(&[[(9000, 9063), (9000, 9063)]; MOST_BOXES]);
     let start = start_make(&plant, &file(&chain)).expect("a start file");
-    assert_eq!((start.len(), LARGEST_START), (270_476, 270_476));
+    assert_eq!(start.len(), 270_476);
     assert_eq!(start_check(&plant, &start), Ok(()));
-    let mut table = vec![0; LARGEST_TABLE];
-    assert_eq!(make(&plant, &mut table), Ok(LARGEST_TABLE));
+    let mut table = vec![0; 30_039];
+    assert_eq!(make(&plant, &mut table), Ok(30_039));
     assert_eq!(start, file(&start_fields(&chain, &[&table[..]; MOST_BOXES + 1])));
-    let mut buffer = marked(LARGEST_START);
-    assert_eq!(start_make_into(&plant, &file(&chain), &mut buffer), Ok(LARGEST_START));
+    let mut buffer = marked(270_476);
+    assert_eq!(start_make_into(&plant, &file(&chain), &mut buffer), Ok(270_476));
     assert_eq!(told(start_make_into(&plant, &file(&chain), &mut buffer[1..])), (10, 0, 0));
     // the last mode of the last table
     let last = state(8, 30_038, 1);

@@ -205,10 +205,8 @@ fn band_values(fields: &[Field]) -> Band {
 /// edges form 1 has one band and then the modes' rows, form 2 in each mode a band
 /// and its rows.
 pub fn plant_values(fields: &[Field], n: usize) -> Plant {
-    let mut plant = Plant::ZEROS;
+    let mut plant = Plant { n: unsigned(&fields[1]), modes: unsigned(&fields[2]), ..Plant::ZEROS };
     plant.form = unsigned(&fields[0]);
-    plant.n = unsigned(&fields[1]);
-    plant.modes = unsigned(&fields[2]);
     plant.q = unsigned(&fields[3]);
     plant.k = unsigned(&fields[4]);
     plant.d = unsigned(&fields[5]);
@@ -216,12 +214,10 @@ pub fn plant_values(fields: &[Field], n: usize) -> Plant {
     let own_band = plant.form == 2;
     let (shared, modes) = fields[6 + 4 * n..].split_at(if own_band { 0 } else { 2 * n });
     let rows = n * (n + 1);
-    for (u, mode) in modes.chunks(if own_band { 2 * n + rows } else { rows }).enumerate() {
+    for mode in modes.chunks(if own_band { 2 * n + rows } else { rows }) {
         let (own, mode) = mode.split_at(if own_band { 2 * n } else { 0 });
-        plant.bands[u] = band_values(if own_band { own } else { shared });
-        for (slot, field) in plant.coefficients[u * rows..].iter_mut().zip(mode) {
-            *slot = signed(field);
-        }
+        plant.bands.push(band_values(if own_band { own } else { shared }));
+        plant.coefficients.extend(mode.iter().map(signed));
     }
     plant
 }

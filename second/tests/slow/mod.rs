@@ -5,7 +5,7 @@
 
 pub mod plants;
 
-use crate::common::{chain_fields, file, Random};
+use crate::common::{chain_fields, file, groups, Random};
 use second::band::Band;
 use second::plant::{write_plant, Plant};
 use second::start::start_make;
@@ -125,7 +125,8 @@ pub fn slow_pattern(plant: &Plant, goal: &Wide, of: &Wide) -> Option<Vec<u8>> {
 /// The tree of a box, None where there is no table.
 pub fn slow_tree(plant: &Plant, goal: &Wide, of: &Wide, depth: u64) -> Option<Vec<u8>> {
     if let Some(pattern) = slow_pattern(plant, goal, of) {
-        return Some([&[pattern.len() as u8], &pattern[..]].concat());
+        let modes = pattern.iter().flat_map(|mode| groups(u128::from(*mode)));
+        return Some([pattern.len() as u8].into_iter().chain(modes).collect());
     }
     let children = slow_children(of);
     if depth == 0 || children.len() == 1 {
@@ -150,7 +151,7 @@ pub fn plant_around_r(random: &mut Random) -> Plant {
     let (modes, k) = [(4, 3), (2, 5), (16, 2), (1, 6), (3, 4)][random.within(0, 4) as usize];
     let q = random.within(1, 40);
     let d = random.within(0, if n < 3 { 3 } else { 1 });
-    let mut plant = Plant { form: 1, n: n as u64, modes, k, q: q as u64, d: d as u64, ..Plant::ZEROS };
+    let mut plant = Plant { form: 1, k, q: q as u64, d: d as u64, ..Plant::zeros(n as u64, modes) };
     let mut band = Band::default();
     for i in 0..n {
         let (lo, width) = (random.within(-60, 60), random.within(0, 24));
@@ -161,14 +162,43 @@ pub fn plant_around_r(random: &mut Random) -> Plant {
         band.lo[i] = random.within(-q, 0);
         band.hi[i] = band.lo[i] + q - 1 + random.within(0, q / 2);
     }
-    plant.bands[..modes as usize].fill(band);
+    plant.bands.fill(band);
     plant
 }
 
 /// A plant that tables are not rare for: each mode either pulls quickly to a
 /// point near R, or pushes slowly in the direction its bits tell.
 pub fn pulling_plant(random: &mut Random) -> Plant {
-    let mut plant = plant_around_r(random);
+    let plant = plant_around_r(random);
+    pulling(plant, random)
+}
+
+/// A pulling plant of over a hundred modes, of which those below some mode lead
+/// out of S, so that modes of two bytes come into its tables. For patterns of
+/// more than one mode there are fewer of them, and few that do not.
+pub fn many_modes_plant(random: &mut Random, k: u64) -> Plant {
+    let drawn = plant_around_r(random);
+    let modes = match k {
+        1 => [127, 128, 129, 200, 255, 256][random.within(0, 5) as usize],
+        _ => random.within(127, 131) as u64,
+    };
+    let mut plant = Plant { form: 1, q: drawn.q, k, d: drawn.d.min(2), edges: drawn.edges, ..Plant::zeros(drawn.n, modes) };
+    plant.bands.fill(drawn.bands[0]);
+    let mut plant = pulling(plant, random);
+    let useful = match k {
+        1 => random.within(0, modes as i64 - 1).max(random.within(0, modes as i64 - 1)) as usize,
+        _ => modes as usize - random.within(2, 4) as usize,
+    };
+    let (n, far) = (plant.n as usize, plant.q as i64 * 1_000);
+    for row in plant.coefficients[..useful * n * (n + 1)].chunks_mut(n + 1) {
+        row.fill(0);
+        row[n] = far;
+    }
+    plant
+}
+
+/// The rows of a plant's modes.
+fn pulling(mut plant: Plant, random: &mut Random) -> Plant {
     let (n, q) = (plant.n as usize, plant.q as i64);
     let slow = random.within(0, 2) > 0;
     for u in 0..plant.modes as usize {
@@ -204,11 +234,11 @@ pub fn pulling_plant(random: &mut Random) -> Plant {
 /// The same plant in form 2: a band of its own for each mode, for one mode only,
 /// or the one band still in all of them.
 pub fn with_own_bands(plant: &Plant, random: &mut Random) -> Plant {
-    let mut other = Plant { form: 2, ..*plant };
+    let mut other = Plant { form: 2, ..plant.clone() };
     let (modes, q) = (plant.modes as i64, plant.q as i64);
     let only = random.within(0, modes - 1) as usize;
     let kind = random.within(0, 4);
-    for (u, band) in other.bands[..modes as usize].iter_mut().enumerate() {
+    for (u, band) in other.bands.iter_mut().enumerate() {
         if kind == 0 || kind == 1 && u != only {
             continue;
         }
@@ -224,7 +254,7 @@ pub fn with_own_bands(plant: &Plant, random: &mut Random) -> Plant {
 pub fn extreme_plant(random: &mut Random, form: u64) -> Plant {
     let n = random.within(1, 4) as usize;
     let q = [1, 2, 9_999, 10_000][random.within(0, 3) as usize];
-    let mut plant = Plant { form, n: n as u64, modes: 2, k: 3, q, d: 1, ..Plant::ZEROS };
+    let mut plant = Plant { form, k: 3, q, d: 1, ..Plant::zeros(n as u64, 2) };
     let mut edge = |limit: i64| {
         let near = random.within(-2, 2);
         [limit - near.abs(), near, near - limit.min(limit / 2), near.abs() - limit]
@@ -246,8 +276,8 @@ pub fn extreme_plant(random: &mut Random, form: u64) -> Plant {
         band
     };
     let shared = band();
-    plant.bands[..2].copy_from_slice(&if form == 1 { [shared; 2] } else { [shared, band()] });
-    for (number, slot) in plant.coefficients[..2 * n * (n + 1)].iter_mut().enumerate() {
+    plant.bands = vec![shared, if form == 1 { shared } else { band() }];
+    for (number, slot) in plant.coefficients.iter_mut().enumerate() {
         *slot = edge(if number % (n + 1) == n { 10_000_000_000 } else { 20_000 });
     }
     plant

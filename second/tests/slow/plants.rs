@@ -52,7 +52,7 @@ fn judge(bytes: &[u8]) -> Result<(), Told> {
         return Err((2, 0, 0));
     }
     let n = file.count(1, 4)?;
-    let modes = file.count(1, 16)?;
+    let modes = file.count(1, 256)?;
     let q = file.count(1, 10_000)?;
     file.count(1, 6)?;
     file.count(0, if n == 4 { 3 } else if n == 3 { 4 } else { 6 })?;
