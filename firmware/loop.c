@@ -6,7 +6,7 @@
 #include "board.h"
 #include "hoachulim.h"
 
-enum { NO_MODE = 255 };
+enum { NO_MODE = 65535 };
 
 /* Heaters first, words second. */
 static void stop(uint64_t number, uint64_t place, uint64_t step)

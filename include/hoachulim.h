@@ -25,14 +25,14 @@ uint64_t hoachulim_sheet(const uint8_t *sheet, uint64_t sheet_length,
 uint64_t hoachulim_check(const uint8_t *plant, uint64_t plant_length,
                          const uint8_t *table, uint64_t table_length, uint64_t out[2]);
 
-/* The table of a plant, made into a lent buffer; no table has more than 30,039 bytes. out[0] is the length written where the number is 0.
+/* The table of a plant, made into a lent buffer; no table has more than 54,615 bytes. out[0] is the length written where the number is 0.
    Finished, only the table's bytes are changed; refused, the whole buffer is zeros. */
 uint64_t hoachulim_make(const uint8_t *plant, uint64_t plant_length,
                         uint8_t *buffer, uint64_t buffer_length, uint64_t out[2]);
 
 /* One call of the controller, once each sample. Idle is place 0, left 0; hand back out[3] and out[4] at the next call.
    x0..x3 is the reading; numbers beyond the plant's rooms are ignored.
-   The mode to apply, 255 where the call is refused; out: the refusal's number, place and step, the next place, the next left.
+   The mode to apply, 0..255, or 65535 where the call is refused; out: the refusal's number, place and step, the next place, the next left.
    A refused call leaves the controller idle: out[3] and out[4] are 0. */
 uint64_t hoachulim_control(const uint8_t *plant, uint64_t plant_length,
                            const uint8_t *table, uint64_t table_length,
@@ -42,7 +42,7 @@ uint64_t hoachulim_control(const uint8_t *plant, uint64_t plant_length,
 /* Start files, for rooms that begin far outside R: a chain of boxes R = R0, R1, .. Rm, each holding the one before, all in S, and for each box a table whose
    patterns end in the box below it.
 
-   The start file of a plant and a chain, made into a lent buffer; no start file has more than 270,476 bytes. A chain is form 1, m and the edges of
+   The start file of a plant and a chain, made into a lent buffer; no start file has more than 491,660 bytes. A chain is form 1, m and the edges of
    R1..Rm. out and buffer as for hoachulim_make; of refusal 9 out[0] is the first index without a table. */
 uint64_t hoachulim_start_make(const uint8_t *plant, uint64_t plant_length,
                               const uint8_t *chain, uint64_t chain_length,
@@ -53,7 +53,7 @@ uint64_t hoachulim_start_check(const uint8_t *plant, uint64_t plant_length,
                                const uint8_t *start, uint64_t start_length, uint64_t out[2]);
 
 /* One call of the controller on a start file, once each sample. Idle is index 0, place 0, left 0; hand back out[3], out[4] and out[5] at the next call.
-   The mode to apply, 255 where the call is refused; out: the refusal's number, place and step, the next index, the next place, the next left.
+   The mode to apply, 0..255, or 65535 where the call is refused; out: the refusal's number, place and step, the next index, the next place, the next left.
    A refused call leaves the controller idle: out[3], out[4] and out[5] are 0. */
 uint64_t hoachulim_start_control(const uint8_t *plant, uint64_t plant_length,
                                  const uint8_t *start, uint64_t start_length,

@@ -7,6 +7,8 @@
 
 #include <stdio.h>
 
+enum { NO_MODE = 65535 };
+
 static const uint8_t plant[] = {
     1, 1, 2, 10, 2, 1, 0x86, 3, 0xC2, 3, 0xAC, 2, 0xE0, 3, 9, 8, 18, 0xC8, 1, 18, 0xD8, 4};
 static const uint8_t chain[] = {1, 2, 0xE8, 2, 0xC2, 3, 0xC0, 2, 0xCC, 3};
@@ -88,13 +90,13 @@ static int refusals(void)
     uint8_t small[20];
     if (hoachulim_start_make(plant, sizeof plant, chain, sizeof chain, small, sizeof small, out) != 10)
         return 0;
-    if (hoachulim_start_control(plant, sizeof plant, start, start_length, 0, 0, 0, 159, 0, 0, 0, out) != 255 || out[0] != 11)
+    if (hoachulim_start_control(plant, sizeof plant, start, start_length, 0, 0, 0, 159, 0, 0, 0, out) != NO_MODE || out[0] != 11)
         return 0;
-    if (hoachulim_start_control(plant, sizeof plant, start, start_length, 3, 5, 1, 200, 0, 0, 0, out) != 255 || out[0] != 12)
+    if (hoachulim_start_control(plant, sizeof plant, start, start_length, 3, 5, 1, 200, 0, 0, 0, out) != NO_MODE || out[0] != 12)
         return 0;
-    if (hoachulim_start_control(plant, sizeof plant, start, start_length, 1, 0, 0, 200, 0, 0, 0, out) != 255 || out[0] != 12)
+    if (hoachulim_start_control(plant, sizeof plant, start, start_length, 1, 0, 0, 200, 0, 0, 0, out) != NO_MODE || out[0] != 12)
         return 0;
-    if (hoachulim_start_control(plant, sizeof plant, start, start_length - 1, 0, 0, 0, 160, 0, 0, 0, out) != 255 || out[0] != 3 || out[1] != 26)
+    if (hoachulim_start_control(plant, sizeof plant, start, start_length - 1, 0, 0, 0, 160, 0, 0, 0, out) != NO_MODE || out[0] != 3 || out[1] != 26)
         return 0;
     return out[3] + out[4] + out[5] == 0;
 }

@@ -5,6 +5,8 @@
 
 #include <stdio.h>
 
+enum { NO_MODE = 65535 };
+
 static const uint8_t plant[] = {
     1, 1, 2, 10, 2, 1, 0x86, 3, 0xC2, 3, 0xFC, 2, 0xCC, 3, 9, 8, 18, 0xC8, 1, 18, 0xD8, 4};
 static const uint8_t table[] = {1, 1, 0, 1, 1, 1, 0};
@@ -40,11 +42,11 @@ int main(void)
         }
     }
     /* a reading outside R, a state that cannot be, and a table cut short are refused, and the controller is idle */
-    if (hoachulim_control(plant, sizeof plant, table, sizeof table, 0, 0, 230, 0, 0, 0, out) != 255 || out[0] != 11 || out[3] + out[4] != 0)
+    if (hoachulim_control(plant, sizeof plant, table, sizeof table, 0, 0, 230, 0, 0, 0, out) != NO_MODE || out[0] != 11 || out[3] + out[4] != 0)
         return 4;
-    if (hoachulim_control(plant, sizeof plant, table, sizeof table, UINT64_MAX, 2, 200, 0, 0, 0, out) != 255 || out[0] != 12 || out[3] + out[4] != 0)
+    if (hoachulim_control(plant, sizeof plant, table, sizeof table, UINT64_MAX, 2, 200, 0, 0, 0, out) != NO_MODE || out[0] != 12 || out[3] + out[4] != 0)
         return 5;
-    if (hoachulim_control(plant, sizeof plant, table, 3, 0, 0, 200, 0, 0, 0, out) != 255 || out[0] != 1 || out[1] != 3)
+    if (hoachulim_control(plant, sizeof plant, table, 3, 0, 0, 200, 0, 0, 0, out) != NO_MODE || out[0] != 1 || out[1] != 3)
         return 6;
     printf("driven %d samples\n", 31 * 200);
     return 0;

@@ -5,7 +5,7 @@
 
 #include <string.h>
 
-enum { NO_MODE = 255 };
+enum { NO_MODE = 65535 };
 
 /* An answer that is a number, a place or a length, and a step. */
 static void told(uint64_t said[ANSWERS], uint64_t number, const uint64_t *out)

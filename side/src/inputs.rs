@@ -3,7 +3,7 @@
 //! cut and damaged. HOACHULIM_SEED gives another seed, HOACHULIM_ROUNDS a
 //! factor for longer runs.
 
-use crate::common::{broken, encode, file, in_form_2, p_fields, two_rooms, with, Field, Random, Raw, F, S, U};
+use crate::common::{broken, encode, file, groups, in_form_2, p_fields, two_rooms, with, Field, Random, Raw, F, S, U};
 use crate::Told;
 use second::boxes::Box;
 use second::plant::Plant;
@@ -85,17 +85,22 @@ fn with_own_bands(random: &mut Random, fields: &[Field]) -> Vec<Field> {
     fields
 }
 
-/// A sound plant of form 1, of 1 to 4 rooms. Half of them are steered: each mode draws towards a point in or about R, so that many have a table.
+/// A sound plant of form 1, of 1 to 4 rooms. Half of them are steered: each mode draws towards a point in or about R, so that many have a table. Some of
+/// one room have over a hundred modes, the first of them leading far away, so that tables have modes of two bytes.
 fn form_1_fields(random: &mut Random) -> Vec<Field> {
-    let (wild, steered) = (random.chance(8), random.chance(2));
-    let (n, q) = (random.within(1, 4), if wild { random.one(&[1, 2, 10_000]) } else { random.within(1, 20) });
-    let modes = if random.chance(20) { 16 } else { random.within(1, 4) };
-    let k = random.within(1, if modes == 16 { 2 } else { 7 - modes });
-    let deep = random.chance(4);
+    let (wild, steered, many) = (random.chance(8), random.chance(2), random.chance(30));
+    let n = if many { 1 } else { random.within(1, 4) };
+    let q = if wild { random.one(&[1, 2, 10_000]) } else { random.within(1, 20) };
+    let (few, hundreds) = (random.within(1, 4), random.one(&[127, 128, 129, 255, 256]));
+    let modes = if many { hundreds } else if random.chance(20) { 16 } else { few };
+    let away = if many { random.within(0, modes - 1).max(random.within(0, modes - 1)) } else { 0 };
+    let k = random.within(1, if modes > 4 { 2 } else { 7 - modes });
+    let deep = !many && random.chance(4);
     let d = random.within(0, if deep { 6.min(12 / n) } else { 2 });
     let mut fields = vec![U(1), U(n as u64), U(modes as u64), U(q as u64), U(k as u64), U(d as u64)];
     fields.extend(edges(random, wild, n, q));
-    for _ in 0..modes {
+    fields.extend([0, B].repeat(away as usize).into_iter().map(S));
+    for _ in away..modes {
         let r = fields[6..6 + 4 * n as usize].chunks(4).map(|room| (signed(&room[0]), signed(&room[1])));
         let towards: Vec<i64> = r.map(|(lo, hi)| random.within(lo - 3, hi + 3)).collect();
         for i in 0..n {
@@ -259,7 +264,7 @@ fn range(fields: &[Field], at: usize) -> Option<(i64, i64)> {
         0 if sheet => (1, 1),
         0 => (1, 2),
         1 => (1, 4),
-        2 => (1, if sheet { 1_000 } else { 16 }),
+        2 => (1, if sheet { 1_000 } else { 256 }),
         3 => (1, 10_000),
         4 => (1, 6),
         5 => (0, 6.min(12 / n as i64)),
@@ -379,10 +384,10 @@ pub fn made_table(plant: &[u8]) -> Option<Vec<u8>> {
     Some(table)
 }
 
-/// Bytes that are often splits, short tiles and modes.
+/// Bytes that are often splits, short tiles and modes, and now and then the first of a mode of two bytes.
 pub fn any_tree(random: &mut Random, n: u8) -> Vec<u8> {
     let mut table = vec![1, n];
-    table.extend((0..random.within(1, 60)).map(|_| random.within(0, 3) as u8));
+    table.extend((0..random.within(1, 60)).map(|_| if random.chance(40) { random.one(&[127, 128, 200, 255]) } else { random.within(0, 3) as u8 }));
     table
 }
 
@@ -405,7 +410,7 @@ fn grown(random: &mut Random, plant: &Plant, goal: &Box, here: &Box, depth_left:
             let pattern: Vec<u8> = (0..length).map(|_| random.within(0, plant.modes as i64 - 1) as u8).collect();
             if tile_rule(plant, goal, here, &pattern, 0).is_ok() {
                 table.push(length as u8);
-                table.extend(pattern);
+                table.extend(pattern.into_iter().flat_map(|mode| groups(mode.into())));
                 return true;
             }
         }

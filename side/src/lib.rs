@@ -4,12 +4,16 @@
 #[path = "../../second/tests/common/mod.rs"]
 pub mod common;
 pub mod inputs;
+pub mod largest;
 pub mod rooms;
 pub mod seen;
 pub mod starts;
 
 /// Number, place, step.
 pub type Told = (u64, u64, u64);
+
+/// What a refused call of a controller answers in place of a mode.
+pub const NO_MODE: u64 = 65_535;
 
 extern "C" {
     fn hoachulim_plant(plant: *const u8, plant_length: u64, out: *mut u64) -> u64;
@@ -185,34 +189,47 @@ pub fn start_control(plant: &[u8], start: &[u8], [index, place, left]: Standing,
     (mode, out)
 }
 
-/// The plant whose defined table has 30,039 bytes, the most there can be.
+/// The plant whose defined table has 30,039 bytes, the most there can be of modes of one byte.
 pub fn largest_table_plant() -> Vec<u8> {
-    largest_table_plant_at(1000)
+    turn_as_mode(0, 1000)
 }
 
-/// The same with R elsewhere: it is 64 by 64 counts from `lo` on.
-pub fn largest_table_plant_at(lo: i64) -> Vec<u8> {
+/// The plant whose defined table has 54,615 bytes, the most there can be.
+pub fn longest_table_plant() -> Vec<u8> {
+    turn_as_mode(128, 1000)
+}
+
+/// R is 64 by 64 counts from `lo` on. The last mode turns a reading by a sixth, so that six times it is back, and no larger tile works; each mode before
+/// it leads out of S at once.
+pub fn turn_as_mode(mode: usize, lo: i64) -> Vec<u8> {
     use common::{file, S, U};
     let limit = 1_000_000;
-    let mut fields = vec![U(1), U(2), U(1), U(1), U(6), U(6)];
+    let mut fields = vec![U(1), U(2), U(mode as u64 + 1), U(1), U(6), U(6)];
     fields.extend([lo, lo + 63, -limit, limit, lo, lo + 63, -limit, limit, 0, 0, 0, 0].map(S));
+    fields.extend([0, 0, 2 * limit, 0, 0, 0].repeat(mode).into_iter().map(S));
     fields.extend([4, -13, 0, 1, -3, 0].map(S));
     file(&fields)
 }
 
 /// Four rooms, sixteen modes, patterns of six: every image stays in S and none ends in R, so that the first box costs all the images it can.
 pub fn four_rooms_without_a_table() -> Vec<u8> {
+    four_rooms(16, 6)
+}
+
+/// The same of so many modes and so long a pattern: a valve for each bit of the mode's number, the first four of them the rooms' heaters, each further
+/// one a little more heat in a room.
+pub fn four_rooms(modes: i64, k: u64) -> Vec<u8> {
     use common::{file, S, U};
     let limit = 1_000_000;
-    let mut fields = vec![U(1), U(4), U(16), U(1000), U(6), U(0)];
+    let mut fields = vec![U(1), U(4), U(modes as u64), U(1000), U(k), U(0)];
     for (lo, hi) in [(2000, 2250), (2000, 2250), (2000, 2250), (9000, 9100)] {
         fields.extend([lo, hi, -limit, limit].map(S));
     }
     fields.extend([-500, 499].repeat(4).into_iter().map(S));
-    for mode in 0..16 {
+    for mode in 0..modes {
         for i in 0..4 {
             fields.extend((0..4).map(|j| S(if i == j { 900 } else { 30 - 3 * ((i + j) % 3) })));
-            fields.push(S(20_000 + 30_000 * (mode >> i & 1)));
+            fields.push(S(20_000 + 30_000 * (mode >> i & 1) + 5_000 * (mode >> (i + 4) & 1)));
         }
     }
     file(&fields)

@@ -3,7 +3,7 @@
 //! is counted, by function and by number.
 
 use crate::common::{marked, told};
-use crate::{Standing, Told};
+use crate::{Standing, Told, NO_MODE};
 use second::control::State;
 use second::refusal::Refusal;
 use second::start::StartState;
@@ -86,7 +86,7 @@ impl Seen {
         let answer = crate::control(plant, table, place, left, x);
         let shown = match second::control::control(plant, table, State { place, left }, x) {
             Ok((mode, state)) => (mode.into(), [0, 0, 0, state.place, state.left]),
-            Err(refusal) => (255, [refusal.number.into(), refusal.place, refusal.step, 0, 0]),
+            Err(refusal) => (NO_MODE, [refusal.number.into(), refusal.place, refusal.step, 0, 0]),
         };
         assert_eq!(answer, shown, "control {plant:?} {table:?} {place} {left} {x:?}");
         self.control[answer.1[0] as usize] += 1;
@@ -117,7 +117,7 @@ impl Seen {
         let [index, place, left] = standing;
         let shown = match second::start::start_control(plant, start, StartState { index, place, left }, x) {
             Ok((mode, next)) => (mode.into(), [0, 0, 0, next.index, next.place, next.left]),
-            Err(refusal) => (255, [refusal.number.into(), refusal.place, refusal.step, 0, 0, 0]),
+            Err(refusal) => (NO_MODE, [refusal.number.into(), refusal.place, refusal.step, 0, 0, 0]),
         };
         assert_eq!(answer, shown, "start control {plant:?} {start:?} {standing:?} {x:?}");
         self.start_control[answer.1[0] as usize] += 1;

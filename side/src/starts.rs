@@ -162,10 +162,11 @@ pub fn spoiled_lengths(start: &Start) -> Vec<(Vec<u8>, Told)> {
         for length in [1 << 35, (1 << 35) + table.len() as u64, u64::MAX] {
             spoil(&with(&fields, at, U(length)), (1, place, 0));
         }
-        // a shorter number moves what stands behind it
+        // the last mode ends early, be it of one byte or of two; a shorter number moves what stands behind it
+        let last = table.len() - if table[table.len() - 2] < 128 { 1 } else { 2 };
         let short = with(&fields, at, U(table.len() as u64 - 1));
         let (_, moved) = encode(&short);
-        spoil(&short, (1, moved[at + 1] + table.len() as u64 - 1, 0));
+        spoil(&short, (1, moved[at + 1] + last as u64, 0));
         let surplus = start.with_table(index, &[&table[..], &[0x80]].concat());
         spoil(&surplus.fields(), (3, place, 0));
     }

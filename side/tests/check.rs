@@ -4,8 +4,8 @@
 
 use side::common::file;
 use side::inputs::{any_tree, damaged, made_table, papers_plants, plant_fields, random, rounds};
-use side::largest_table_plant;
 use side::seen::Seen;
+use side::{largest_table_plant, longest_table_plant};
 
 #[test]
 fn the_papers_plants_and_tables() {
@@ -25,17 +25,18 @@ fn the_papers_plants_and_tables() {
 }
 
 #[test]
-fn the_largest_table() {
+fn the_largest_tables() {
     let mut seen = Seen::default();
-    let bytes = largest_table_plant();
-    let table = made_table(&bytes).expect("a plant with a table");
-    assert_eq!(table.len(), 30_039);
-    seen.check(&bytes, &table);
-    for at in (0..table.len()).step_by(997).chain(30_030..30_039) {
-        let mut other = table.clone();
-        other[at] ^= 1;
-        seen.check(&bytes, &other);
-        seen.check(&bytes, &table[..at]);
+    for (bytes, length) in [(largest_table_plant(), 30_039), (longest_table_plant(), second::LARGEST_TABLE)] {
+        let table = made_table(&bytes).expect("a plant with a table");
+        assert_eq!(table.len(), length);
+        seen.check(&bytes, &table);
+        for at in (0..length).step_by(997).chain(length - 9..length) {
+            let mut other = table.clone();
+            other[at] ^= 1;
+            seen.check(&bytes, &other);
+            seen.check(&bytes, &table[..at]);
+        }
     }
 }
 

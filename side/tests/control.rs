@@ -2,8 +2,8 @@
 //! can be and cannot, tables whole, cut and damaged.
 
 use side::inputs::{made_table, papers_plants, random, rounds};
-use side::largest_table_plant;
 use side::seen::Seen;
+use side::{largest_table_plant, longest_table_plant, NO_MODE};
 
 #[test]
 fn states_and_readings_of_the_papers_plants() {
@@ -36,16 +36,21 @@ fn states_and_readings_of_the_papers_plants() {
 }
 
 #[test]
-fn every_corner_of_the_largest_table() {
+fn every_corner_of_the_largest_tables() {
+    for plant in [largest_table_plant(), longest_table_plant()] {
+        every_corner(&plant);
+    }
+}
+
+fn every_corner(plant: &[u8]) {
     let mut seen = Seen::default();
-    let plant = largest_table_plant();
-    let table = made_table(&plant).expect("a plant with a table");
+    let table = made_table(plant).expect("a plant with a table");
     for (a, b) in [(1000, 1000), (1063, 1063), (1000, 1063), (1031, 1032), (999, 1000), (1063, 1064)] {
         let (mut place, mut left) = (0, 0);
         let mut x = [a, b, 0, 0];
         for _ in 0..8 {
-            let (mode, out) = seen.control(&plant, &table, place, left, x);
-            if mode == 255 {
+            let (mode, out) = seen.control(plant, &table, place, left, x);
+            if mode == NO_MODE {
                 break;
             }
             (place, left) = (out[3], out[4]);

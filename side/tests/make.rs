@@ -3,8 +3,8 @@
 
 use side::common::{file, Random, S, U};
 use side::inputs::{papers_plants, plant_fields, random, rounds};
-use side::largest_table_plant;
 use side::seen::Seen;
+use side::{largest_table_plant, longest_table_plant};
 
 fn every_buffer(seen: &mut Seen, plant: &[u8]) {
     let (number, made, _) = seen.make(plant, second::LARGEST_TABLE + 1);
@@ -30,10 +30,12 @@ fn the_papers_plants() {
 }
 
 #[test]
-fn the_largest_table() {
-    let (mut seen, plant) = (Seen::default(), largest_table_plant());
-    assert_eq!(seen.make(&plant, second::LARGEST_TABLE), (0, 30_039, 0));
-    assert_eq!(seen.make(&plant, second::LARGEST_TABLE - 1), (10, 0, 0));
+fn the_largest_tables() {
+    let mut seen = Seen::default();
+    for (plant, length) in [(largest_table_plant(), 30_039), (longest_table_plant(), second::LARGEST_TABLE)] {
+        assert_eq!(seen.make(&plant, length), (0, length as u64, 0));
+        assert_eq!(seen.make(&plant, length - 1), (10, 0, 0));
+    }
 }
 
 #[test]

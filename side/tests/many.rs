@@ -11,6 +11,7 @@ use side::inputs::{
     any_reading, any_state, any_tree, damaged, made_table, other_forms, other_table, plant_fields, random, rounds, sheet_fields, spoiled,
 };
 use side::seen::{each_came, Seen};
+use side::NO_MODE;
 
 /// The numbers that each function can tell.
 const CAN_BE_TOLD: [&[usize]; 5] = [
@@ -51,7 +52,7 @@ fn plants(random: &mut Random, seen: &mut Seen, fields: &[Field]) {
         assert_eq!(seen.plant(&bytes), wanted);
         assert_eq!(seen.make(&bytes, 9), wanted);
         assert_eq!(seen.check(&bytes, &[1, 1, 1, 0]), wanted);
-        assert_eq!(seen.control(&bytes, &[1, 1, 1, 0], 0, 0, [0; 4]), (255, [wanted.0, wanted.1, wanted.2, 0, 0]));
+        assert_eq!(seen.control(&bytes, &[1, 1, 1, 0], 0, 0, [0; 4]), (NO_MODE, [wanted.0, wanted.1, wanted.2, 0, 0]));
     }
     for bytes in other_forms(fields) {
         seen.plant(&bytes);
@@ -161,13 +162,13 @@ fn every_kind_of_place_in_tables(seen: &mut Seen) {
         // the same of a split with no depth left and of one with no side left; and by the controller, idle
         for plant in [adding(1, 1), adding(1, 2)] {
             assert_eq!(seen.check(&plant, table), (number, place, 0), "{table:?}");
-            assert_eq!(seen.control(&plant, table, 0, 0, [0; 4]), (255, [number, place, 0, 0, 0]), "{table:?}");
+            assert_eq!(seen.control(&plant, table, 0, 0, [0; 4]), (NO_MODE, [number, place, 0, 0, 0]), "{table:?}");
         }
     }
     // what is behind the tile is told by the checker alone; a tile that is passed is read
     assert_eq!(seen.check(&plant, &[1, 1, 1, 0, 9]), (6, 4, 0));
     assert_eq!(seen.control(&plant, &[1, 1, 1, 0, 9], 0, 0, [0; 4]), (0, [0; 5]));
-    assert_eq!(seen.control(&plant, &[1, 1, 0, 1, 3, 1, 0], 0, 0, [1; 4]), (255, [6, 4, 0, 0, 0]));
+    assert_eq!(seen.control(&plant, &[1, 1, 0, 1, 3, 1, 0], 0, 0, [1; 4]), (NO_MODE, [6, 4, 0, 0, 0]));
 }
 
 /// 11 at each dimension, idle and running; 12 of each cause.
@@ -180,20 +181,20 @@ fn every_kind_of_state_and_reading(seen: &mut Seen) {
                     let mut x = [0; 4];
                     x[i] = end;
                     let (mode, _) = seen.control(&plant, &table, place, left, x);
-                    assert_ne!(mode, 255);
+                    assert_ne!(mode, NO_MODE);
                     x[i..].fill(end + beyond);
                     let (mode, out) = seen.control(&plant, &table, place, left, x);
-                    assert!(if i < n { (mode, out) == (255, [11, i as u64, 0, 0, 0]) } else { mode != 255 });
+                    assert!(if i < n { (mode, out) == (NO_MODE, [11, i as u64, 0, 0, 0]) } else { mode != NO_MODE });
                 }
             }
         }
         assert_eq!(seen.control(&plant, &table, 5, 1, [0; 4]), (2, [0; 5]));
         let cannot_be = [(2, 7), (1, 0), (2, 0), (6, 0), (0, 1), (1, 1), (5, 2), (6, 1), (2, 5), (u64::MAX, 1), (u64::MAX - 1, 6), (2, u64::MAX)];
         for (place, left) in cannot_be {
-            assert_eq!(seen.control(&plant, &table, place, left, [0; 4]), (255, [12, 0, 0, 0, 0]), "{place} {left}");
+            assert_eq!(seen.control(&plant, &table, place, left, [0; 4]), (NO_MODE, [12, 0, 0, 0, 0]), "{place} {left}");
         }
         // the mode there is no mode: the tile's own 3, and a byte with the high bit set
-        assert_eq!(seen.control(&plant, &table, 2, 1, [0; 4]), (255, [12, 0, 0, 0, 0]));
-        assert_eq!(seen.control(&plant, &[1, n as u8, 1, 0x80], 3, 1, [0; 4]), (255, [12, 0, 0, 0, 0]));
+        assert_eq!(seen.control(&plant, &table, 2, 1, [0; 4]), (NO_MODE, [12, 0, 0, 0, 0]));
+        assert_eq!(seen.control(&plant, &[1, n as u8, 1, 0x80], 3, 1, [0; 4]), (NO_MODE, [12, 0, 0, 0, 0]));
     }
 }

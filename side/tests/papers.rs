@@ -5,7 +5,7 @@
 use second::plant::{read_plant, Plant};
 use side::common::Random;
 use side::rooms::{following, Next, EVERY_NEXT};
-use side::{check, control, make, sheet, start_check, start_control, start_make, Standing, Told};
+use side::{check, control, make, sheet, start_check, start_control, start_make, Standing, Told, NO_MODE};
 
 const SHEETS: [&str; 5] = [
     "002-example-1-four-tiles.sheet",
@@ -51,7 +51,7 @@ fn drive(bytes: &[u8], plant: &Plant, table: &[u8], next: Next, random: &mut Ran
         let zone = if (place, left) == (0, 0) { plant.r() } else { plant.s() };
         assert!(zone.contains(&x), "{x:?} outside {zone:?}");
         let (mode, out) = control(bytes, table, place, left, x);
-        assert!(mode != 255 && out[..3] == [0; 3], "refused {out:?} at {x:?}");
+        assert!(mode != NO_MODE && out[..3] == [0; 3], "refused {out:?} at {x:?}");
         (place, left) = (out[3], out[4]);
         x = following(random, next, sample, plant, mode, &x);
     }
@@ -125,7 +125,7 @@ fn arrival(bytes: &[u8], start: &[u8], next: Next) -> usize {
         }
         assert!(plant.s().contains(&x) && (home.is_none() || standing[0] == 0), "{x:?}");
         let (mode, out) = start_control(bytes, start, standing, x);
-        assert!(mode != 255 && out[..3] == [0; 3], "refused {out:?} at {x:?}");
+        assert!(mode != NO_MODE && out[..3] == [0; 3], "refused {out:?} at {x:?}");
         standing = [out[3], out[4], out[5]];
         x = following(&mut random, next, sample, &plant, mode, &x);
     }

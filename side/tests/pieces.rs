@@ -6,9 +6,9 @@ use second::boxes::Box;
 use second::image::image;
 use second::plant::{read_plant, write_plant, Plant};
 use second::tile::tile_rule;
-use side::common::{file, told, with, Random, U};
+use side::common::{file, told, with, Field, Random, U};
 use side::inputs::{plant_fields, random, rounds, A, BAND, EDGE};
-use side::{check, control, make};
+use side::{check, control, make, NO_MODE};
 
 /// The plant's file; None where a value of it is out of range.
 fn file_of(plant: &Plant) -> Option<Vec<u8>> {
@@ -40,11 +40,12 @@ fn any_band(random: &mut Random, n: usize, q: i64) -> Band {
     band
 }
 
-/// Sixteen modes or fewer, R any box, no depth, patterns of one: coefficients and bands of both signs, often the ends of their ranges. In form 2 each
+/// One mode, a few or many, R any box, no depth, patterns of one: coefficients and bands of both signs, often the ends of their ranges. In form 2 each
 /// mode has a band of its own.
 fn any_plant(random: &mut Random) -> Plant {
-    let mut plant =
-        Plant { form: random.one(&[1, 2]), n: random.within(1, 4) as u64, modes: random.one(&[1, 3, 16]), k: 1, ..Plant::ZEROS };
+    let (form, n, modes) = (random.one(&[1, 2]), random.within(1, 4) as u64, random.one(&[1, 3, 16]));
+    let modes = if random.chance(100) { random.one(&[129, 256]) } else { modes };
+    let mut plant = Plant { form, k: 1, ..Plant::zeros(n, modes) };
     let any = random.within(1, 10_000);
     let q = random.one(&[1, 2, 3, 10, 9_999, 10_000, any]);
     plant.q = q as u64;
@@ -76,7 +77,7 @@ struct Pinned {
 /// The mode's offsets moved by q·t, so that its image moves by t counts and ends so far beyond R: its high edges beyond R's, or its low ones.
 fn moved(plant: &Plant, mode: usize, up: bool, beyond: i64) -> Plant {
     let (n, q, from) = (plant.rooms(), plant.q as i64, image(plant, mode, &plant.r()));
-    let mut moved = *plant;
+    let mut moved = plant.clone();
     for (i, side) in from.sides().iter().enumerate() {
         let t = if up { plant.edges.r_hi[i] + beyond - side.hi } else { plant.edges.r_lo[i] - beyond - side.lo };
         moved.coefficients[(mode * n + i) * (n + 1) + n] += q * t;
@@ -95,10 +96,10 @@ fn pin_image(random: &mut Random, pinned: &mut Pinned, up: bool) {
         (plant.edges.s_lo[i], plant.edges.s_hi[i]) = (own.lo.min(side.lo), own.hi.max(side.hi));
     }
     let Some(bytes) = file_of(&plant) else { return };
-    let table = [1, plant.n as u8, 1, mode as u8];
+    let table = file(&[1, plant.n, 1, mode as u64].map(U));
     assert_eq!(check(&bytes, &table), (8, 2, 1), "mode {mode} of {plant:?}");
     for (i, (own, side)) in r.sides().iter().zip(there.sides()).enumerate() {
-        let mut less = [plant; 2];
+        let mut less = [plant.clone(), plant.clone()];
         less[0].edges.s_lo[i] += 1;
         less[1].edges.s_hi[i] -= 1;
         for (edge, sticks_out) in [side.lo < own.lo, side.hi > own.hi].into_iter().enumerate() {
@@ -154,7 +155,7 @@ fn pin_in_r(random: &mut Random, pinned: &mut [[usize; 2]; 4], up: bool) {
     assert_eq!(check(&bytes, &table), (0, 0, 0), "{plant:?}");
     assert_eq!((make(&bytes, &mut made), made), ((0, 4, 0), table), "{plant:?}");
     for i in 0..n {
-        let mut further = plant;
+        let mut further = plant.clone();
         further.coefficients[i * (n + 1) + n] += if up { plant.q as i64 } else { -(plant.q as i64) };
         for number in [7, 8] {
             let Some(bytes) = file_of(&further) else { break };
@@ -183,7 +184,7 @@ fn images_just_in_r() {
 /// R any box, one split, sixteen modes under which every reading stays, so that a table of one split and one tile to a child is a table.
 fn staying(random: &mut Random) -> Plant {
     let n = random.within(1, 4) as usize;
-    let mut plant = Plant { form: random.one(&[1, 2]), n: n as u64, modes: 16, q: 1, k: 1, d: 1, ..Plant::ZEROS };
+    let mut plant = Plant { form: random.one(&[1, 2]), q: 1, k: 1, d: 1, ..Plant::zeros(n as u64, 16) };
     for i in 0..n {
         let (lo, hi) = any_side(random);
         let e = &mut plant.edges;
@@ -221,7 +222,7 @@ fn pin_split(random: &mut Random) -> usize {
     let mut table = vec![1, plant.n as u8, 0];
     let Some(children) = r.split() else {
         assert_eq!(check(&bytes, &table), (6, 2, 0), "{plant:?}");
-        assert_eq!(control(&bytes, &table, 0, 0, plant.edges.r_lo), (255, [6, 2, 0, 0, 0]), "{plant:?}");
+        assert_eq!(control(&bytes, &table, 0, 0, plant.edges.r_lo), (NO_MODE, [6, 2, 0, 0, 0]), "{plant:?}");
         return 0;
     };
     let children: Vec<Box> = children.collect();
@@ -233,7 +234,7 @@ fn pin_split(random: &mut Random) -> usize {
         let held_by: Vec<usize> = (0..children.len()).filter(|c| children[*c].contains(&x)).collect();
         let wanted = match (r.first_outside(&x), &held_by[..]) {
             (None, [c]) => (*c as u64, [0; 5]),
-            (Some(dimension), []) => (255, [11, dimension as u64, 0, 0, 0]),
+            (Some(dimension), []) => (NO_MODE, [11, dimension as u64, 0, 0, 0]),
             _ => panic!("{x:?} is held by {held_by:?} of {children:?}"),
         };
         assert_eq!(control(&bytes, &table, 0, 0, x), wanted, "{x:?} in {plant:?}");
@@ -265,12 +266,13 @@ fn the_tile_rule() {
         let fields = with(&with(&plant_fields(&mut random), 4, U(6)), 5, U(0));
         let bytes = file(&fields);
         let plant = read_plant(&bytes).expect("a sound plant");
-        for length in 1..=6 {
+        for length in 1..=6_u64 {
             let pattern: Vec<u8> = (0..length).map(|_| random.within(0, plant.modes as i64 - 1) as u8).collect();
-            let table = [&[1, plant.n as u8, length][..], &pattern].concat();
+            let tile: Vec<Field> = pattern.iter().map(|mode| U((*mode).into())).collect();
+            let table = file(&[&[U(1), U(plant.n), U(length)][..], &tile].concat());
             let answer = check(&bytes, &table);
             assert_eq!(answer, told(tile_rule(&plant, &plant.r(), &plant.r(), &pattern, 2)), "{pattern:?} in {plant:?}");
-            let step = if answer.0 == 0 { u64::from(length) } else { answer.2 };
+            let step = if answer.0 == 0 { length } else { answer.2 };
             seen[answer.0 as usize][step as usize] += 1;
         }
     }

@@ -8,7 +8,7 @@ use second::plant::read_plant;
 use side::common::{file, Random};
 use side::inputs::{other_table, papers_plants, plant_fields, random, rounds};
 use side::rooms::{following, longest_pattern, Next, EVERY_NEXT};
-use side::{check, control, largest_table_plant, make};
+use side::{check, control, largest_table_plant, longest_table_plant, make, NO_MODE};
 
 /// One run from a reading in R.
 fn run(random: &mut Random, next: Next, samples: usize, bytes: &[u8], table: &[u8], mut x: [i64; 4]) {
@@ -22,7 +22,7 @@ fn run(random: &mut Random, next: Next, samples: usize, bytes: &[u8], table: &[u
             since_idle = 0;
         }
         let (mode, out) = control(bytes, table, place, left, x);
-        assert!(mode != 255 && out[..3] == [0; 3], "refused {out:?} at {x:?}: {bytes:?} {table:?}");
+        assert!(mode != NO_MODE && out[..3] == [0; 3], "refused {out:?} at {x:?}: {bytes:?} {table:?}");
         since_idle += 1;
         assert!(since_idle <= longest, "{since_idle} samples: {bytes:?} {table:?}");
         (place, left) = (out[3], out[4]);
@@ -56,7 +56,7 @@ fn made(bytes: &[u8]) -> Option<Vec<u8>> {
 fn accepted_tables_keep_their_promise() {
     let mut random = random(8);
     let mut plants = papers_plants();
-    plants.extend([include_bytes!("../../samples/house.plant").to_vec(), largest_table_plant()]);
+    plants.extend([include_bytes!("../../samples/house.plant").to_vec(), largest_table_plant(), longest_table_plant()]);
     plants.extend((0..rounds(2_000)).map(|_| file(&plant_fields(&mut random))));
     let (mut samples, mut tables, mut others, mut longer, mut own_bands) = (0, 0, 0, 0, 0);
     for bytes in plants {

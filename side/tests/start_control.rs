@@ -6,13 +6,13 @@ use side::common::{chain_fields, cold_chain, cold_p, encode, file, p_fields, sta
 use side::inputs::{any_reading, any_state, any_tree, damaged, made_table, plant_fields, random, rounds, spoiled};
 use side::seen::{each_came, Seen};
 use side::starts::{any_chain, any_reading_about, any_standing, any_start, made_start, other_start, spoiled_chain, spoiled_lengths, turning, Start};
-use side::Standing;
+use side::{Standing, NO_MODE};
 
 const IDLE: Standing = [0, 0, 0];
 
 /// A refused call as the face shows it: no mode, the refusal, idle.
 fn refused(number: u64, place: u64) -> (u64, [u64; 6]) {
-    (255, [number, place, 0, 0, 0, 0])
+    (NO_MODE, [number, place, 0, 0, 0, 0])
 }
 
 #[test]
@@ -78,7 +78,7 @@ fn every_dimension_of_a_reading() {
             for (end, beyond) in [(sides[i].0, -1), (sides[i].1, 1)] {
                 let mut x = [sides[0].0, sides[1].0, i64::MIN, i64::MAX];
                 x[i] = end;
-                assert_ne!(seen.start_control(&plant, &start, standing, x).0, 255, "{x:?}");
+                assert_ne!(seen.start_control(&plant, &start, standing, x).0, NO_MODE, "{x:?}");
                 x[i] += beyond;
                 assert_eq!(seen.start_control(&plant, &start, standing, x), refused(11, i as u64), "{x:?}");
             }
@@ -116,7 +116,7 @@ fn the_largest_tables() {
         let (mut standing, mut x) = (IDLE, [a, b, 0, 0]);
         for _ in 0..20 {
             let (mode, out) = seen.start_control(&plant, &start, standing, x);
-            if mode == 255 {
+            if mode == NO_MODE {
                 break;
             }
             standing = [out[3], out[4], out[5]];
@@ -138,7 +138,7 @@ fn calls(random: &mut Random, seen: &mut Seen, bytes: &[u8], start: &Start, file
         let (_, out) = seen.start_control(bytes, file, standing, x);
         let x = any_reading_about(random, &plant, &start.chain);
         let (mode, _) = seen.start_control(bytes, file, [out[3], out[4], out[5]], x);
-        ran_on += usize::from(out[3] > 0 && mode != 255);
+        ran_on += usize::from(out[3] > 0 && mode != NO_MODE);
     }
     ran_on
 }
@@ -154,7 +154,7 @@ fn many_calls() {
         let chain = any_chain(&mut random, &plant);
         for (plant, wanted) in spoiled(&fields) {
             if random.chance(20) {
-                let shown = (255, [wanted.0, wanted.1, wanted.2, 0, 0, 0]);
+                let shown = (NO_MODE, [wanted.0, wanted.1, wanted.2, 0, 0, 0]);
                 assert_eq!(seen.start_control(&plant, &[2], [9, 9, 9], [0; 4]), shown);
             }
         }

@@ -6,9 +6,9 @@ use second::plant::read_plant;
 use second::{LARGEST_START, MOST_BOXES};
 use side::common::{chain_fields, cold_chain, cold_p, file, p_fields, with, Field, Random, S, U};
 use side::inputs::{damaged, plant_fields, random, rounds, spoiled};
-use side::largest_table_plant_at;
 use side::seen::{each_came, Seen};
 use side::starts::{any_chain, spoiled_chain, turning};
+use side::turn_as_mode;
 
 /// The whole file, and every buffer at the ends of its parts and beside them.
 fn every_buffer(seen: &mut Seen, plant: &[u8], chain: &[u8]) {
@@ -55,14 +55,16 @@ fn every_index_without_a_table() {
     }
 }
 
-/// The largest file there can be, every edge in 3 bytes; and eight boxes that grow.
+/// The largest file there can be, and the largest of modes of one byte, every edge in 3 bytes; and eight boxes that grow.
 #[test]
 fn the_largest_start_files() {
     let mut seen = Seen::default();
-    let plant = largest_table_plant_at(9000);
     let equal = file(&chain_fields(&[[(9000, 9063); 2]; MOST_BOXES]));
-    assert_eq!(seen.start_make(&plant, &equal, LARGEST_START), (0, 270_476, 0));
-    assert_eq!(seen.start_make(&plant, &equal, LARGEST_START - 1), (10, 0, 0));
+    for (mode, length) in [(0, 270_476), (128, LARGEST_START)] {
+        let plant = turn_as_mode(mode, 9000);
+        assert_eq!(seen.start_make(&plant, &equal, length), (0, length as u64, 0));
+        assert_eq!(seen.start_make(&plant, &equal, length - 1), (10, 0, 0));
+    }
     let (plant, chain) = turning();
     let (number, made, _) = seen.start_make(&plant, &chain, LARGEST_START);
     assert_eq!(number, 0);

@@ -11,7 +11,7 @@ use side::common::{cold_chain, cold_p, file, Field, Random};
 use side::inputs::{plant_fields, random, rounds};
 use side::rooms::{following, longest_pattern, Next, EVERY_NEXT};
 use side::starts::{any_chain, boxes_of, other_start, Start};
-use side::{control, start_check, start_control, start_make, Standing};
+use side::{control, start_check, start_control, start_make, Standing, NO_MODE};
 
 const IDLE: Standing = [0, 0, 0];
 
@@ -29,7 +29,7 @@ impl Cold<'_> {
     fn answer(&self, standing: Standing, x: [i64; 4]) -> (u64, Standing) {
         assert!(self.plant.s().contains(&x), "{x:?} outside S: {:?} {:?}", self.bytes, self.file);
         let (mode, out) = start_control(self.bytes, &self.file, standing, x);
-        assert!(mode != 255 && out[..3] == [0; 3], "refused {out:?} at {x:?}: {:?} {:?}", self.bytes, self.file);
+        assert!(mode != NO_MODE && out[..3] == [0; 3], "refused {out:?} at {x:?}: {:?} {:?}", self.bytes, self.file);
         (mode, [out[3], out[4], out[5]])
     }
 
@@ -76,7 +76,9 @@ struct Came {
 fn runs(random: &mut Random, came: &mut Came, bytes: &[u8], start: &Start) {
     let (plant, file) = (read_plant(bytes).expect("a sound plant"), start.bytes());
     assert_eq!(start_check(bytes, &file), (0, 0, 0), "{bytes:?} {file:?}");
-    let cold = Cold { bytes, plant, boxes: boxes_of(&plant, &start.chain), start, file };
+    let boxes = boxes_of(&plant, &start.chain);
+    let cold = Cold { bytes, plant, boxes, start, file };
+    let plant = &cold.plant;
     for index in 0..=cold.boxes.m() {
         let sides = cold.boxes.root(index).sides().to_vec();
         for next in EVERY_NEXT {
@@ -92,7 +94,7 @@ fn runs(random: &mut Random, came: &mut Came, bytes: &[u8], start: &Start) {
                 came.cold += usize::from(samples > 0);
                 came.sharp += usize::from(samples > 0 && samples == promised);
                 came.far += usize::from(samples > plant.k as usize);
-                came.own_bands += usize::from(samples > 0 && plant.bands[..plant.mode_count()].iter().any(|band| *band != plant.bands[0]));
+                came.own_bands += usize::from(samples > 0 && plant.bands.iter().any(|band| *band != plant.bands[0]));
             }
         }
     }

@@ -1,8 +1,9 @@
 //! The readers and writers that take or answer values, side by side: answer,
 //! every value and every byte of the buffer. Files read: seeded, spoiled, cut
 //! and damaged. Values written: seeded, and one at a time at its extremes, at
-//! every position, in buffers too short, just long enough and longer. Each
-//! number that a function can tell is seen, and no other.
+//! every position, in buffers too short, just long enough and longer. A plant's
+//! bands and coefficients are lent in slices shorter than they are, as long and
+//! longer. Each number that a function can tell is seen, and no other.
 
 mod batch;
 
@@ -32,19 +33,42 @@ fn all_seen(name: &str, numbers: &Numbers, can_be: &[usize]) {
 
 // ---- reading
 
-fn read_plant(seen: &mut Numbers, bytes: &[u8]) -> (Told, Plant) {
-    let (answer, plant) = batch::read_plant(bytes);
+/// What stands in every number that is lent before a read.
+const MARK: i64 = -77;
+
+/// A read into slices of these lengths: a finished one leaves as many of the plant's own numbers as there is room for, and what stands behind them as it
+/// was; a refused one leaves zeros.
+fn read_plant_into(seen: &mut Numbers, bytes: &[u8], lengths: [usize; 2]) -> (Told, Plant) {
+    let [mut bands, mut coefficients] = lengths.map(|length| vec![MARK; length]);
+    let (answer, header) = batch::read_plant(bytes, &mut bands, &mut coefficients);
     let read = second::plant::read_plant(bytes);
-    assert_eq!(answer, told(read), "plant {bytes:?}");
-    assert_eq!(plant, read.unwrap_or(Plant::ZEROS), "plant {bytes:?}");
+    assert_eq!(answer, told(read.as_ref().map_err(|refusal| *refusal)), "plant {bytes:?}");
+    let behind = if read.is_ok() { MARK } else { 0 };
+    let plant = read.unwrap_or(Plant::ZEROS);
+    assert_eq!(header, Plant { bands: vec![], coefficients: vec![], ..plant.clone() }, "plant {bytes:?}");
+    for (lent, own) in [(bands, batch::flat_bands(&plant)), (coefficients, plant.coefficients.clone())] {
+        let wanted: Vec<i64> = own.into_iter().chain(std::iter::repeat(behind)).take(lent.len()).collect();
+        assert_eq!(lent, wanted, "plant {bytes:?}, {lengths:?} numbers lent");
+    }
     seen[answer.0 as usize] += 1;
     (answer, plant)
+}
+
+/// How many bands' ends and coefficients a plant of these bytes has.
+fn own_numbers(bytes: &[u8]) -> [usize; 2] {
+    let plant = second::plant::read_plant(bytes).unwrap_or(Plant::ZEROS);
+    [2 * plant.rooms() * plant.bands.len(), plant.coefficients.len()]
+}
+
+/// With room for a few numbers more than there are.
+fn read_plant(seen: &mut Numbers, bytes: &[u8]) -> (Told, Plant) {
+    read_plant_into(seen, bytes, own_numbers(bytes).map(|length| length + 3))
 }
 
 #[test]
 fn plants_read() {
     let (mut random, mut seen) = (random(10), Numbers::default());
-    let mut plants = vec![p_fields(), two_rooms(), in_form_2(&p_fields()), in_form_2(&two_rooms()), longest_plant(1), longest_plant(2)];
+    let mut plants = vec![p_fields(), two_rooms(), in_form_2(&p_fields()), in_form_2(&two_rooms()), longest_plant(1, 16), longest_plant(2, 16)];
     plants.extend((0..rounds(300)).map(|_| plant_fields(&mut random)));
     for fields in plants {
         let bytes = file(&fields);
@@ -59,7 +83,29 @@ fn plants_read() {
             read_plant(&mut seen, other);
         });
     }
+    for form in [1, 2] {
+        damaged(&mut random, &file(&longest_plant(form, 256)), |other| {
+            read_plant(&mut seen, other);
+        });
+    }
     all_seen("read_plant", &seen, &[0, 1, 2, 3, 4, 5]);
+}
+
+/// Slices shorter than the plant's numbers, as long, and as long as those of any plant; and a refused plant.
+#[test]
+fn plants_read_into_slices_of_any_length() {
+    let mut seen = Numbers::default();
+    for fields in [p_fields(), in_form_2(&two_rooms()), longest_plant(1, 129), longest_plant(2, 256)] {
+        let bytes = file(&fields);
+        let own = own_numbers(&bytes);
+        for bands in [0, 1, own[0] / 2, own[0] - 1, own[0], own[0] + 1, 2_049] {
+            for coefficients in [0, 1, own[1] / 2, own[1] - 1, own[1], own[1] + 1, 5_121] {
+                read_plant_into(&mut seen, &bytes, [bands, coefficients]);
+                read_plant_into(&mut seen, &bytes[..bytes.len() - 1], [bands, coefficients]);
+            }
+        }
+    }
+    assert_eq!((seen[0], seen[1]), (4 * 49, 4 * 49));
 }
 
 const NO_SHEET: Sheet =
@@ -102,7 +148,7 @@ fn sheets_read() {
 
 /// What a number of the header is tried at: the end of each range and one beyond it, and where it takes more bytes than a number may have.
 fn counts() -> Vec<u64> {
-    let ends = [0, 2, 4, 6, 12, 16, 127, 1_000, 10_000, 1 << 32, (1 << 35) - 1, i64::MAX as u64, u64::MAX - 1];
+    let ends = [0, 2, 4, 6, 12, 16, 127, 255, 256, 1_000, 10_000, 1 << 32, (1 << 35) - 1, i64::MAX as u64, u64::MAX - 1];
     ends.iter().flat_map(|end| [*end, end + 1]).collect()
 }
 
@@ -136,10 +182,10 @@ fn emitters() -> Vec<Emitter> {
 }
 
 /// What is given with one value in a place of it, each of these in turn.
-fn each<T: Copy, Value: Copy>(of: &T, place: impl Fn(&mut T) -> &mut Value, values: &[Value], mut one: impl FnMut(&T)) {
+fn each<T: Clone, Value: Clone>(of: &T, place: impl Fn(&mut T) -> &mut Value, values: &[Value], mut one: impl FnMut(&T)) {
     for value in values {
-        let mut other = *of;
-        *place(&mut other) = *value;
+        let mut other = of.clone();
+        *place(&mut other) = value.clone();
         one(&other);
     }
 }
@@ -173,7 +219,13 @@ fn band_at_extremes(band: &Band, q: u64, mut one: impl FnMut(&Band)) {
     }
 }
 
-/// Values one at a time, beyond n and N too; in form 1 also the bands behind mode 0's, which no file has.
+/// Every position of so many, of very many about `most`: the step is odd, so that every column of a row comes.
+fn positions(count: usize, most: usize) -> impl Iterator<Item = usize> {
+    (0..count).step_by(count / most | 1)
+}
+
+/// Values one at a time, beyond n and N too, which are ignored; where N grows, numbers that the record lacks. In form 1 also the bands behind mode 0's,
+/// which no file has.
 fn plants_at_extremes(plant: &Plant, mut one: impl FnMut(&Plant)) {
     each(plant, |p| &mut p.form, &counts(), &mut one);
     each(plant, |p| &mut p.n, &counts(), &mut one);
@@ -181,11 +233,11 @@ fn plants_at_extremes(plant: &Plant, mut one: impl FnMut(&Plant)) {
     each(plant, |p| &mut p.q, &counts(), &mut one);
     each(plant, |p| &mut p.k, &counts(), &mut one);
     each(plant, |p| &mut p.d, &counts(), &mut one);
-    edges_at_extremes(&plant.edges, |edges| one(&Plant { edges: *edges, ..*plant }));
-    for mode in 0..second::MOST_MODES {
+    edges_at_extremes(&plant.edges, |edges| one(&Plant { edges: *edges, ..plant.clone() }));
+    for mode in positions(plant.bands.len(), 16) {
         band_at_extremes(&plant.bands[mode], plant.q, |band| each(plant, |p| &mut p.bands[mode], &[*band], &mut one));
     }
-    for at in 0..second::COEFFICIENTS {
+    for at in positions(plant.coefficients.len(), 320) {
         each(plant, |p| &mut p.coefficients[at], &signed_counts(), &mut one);
     }
 }
@@ -236,17 +288,10 @@ const FAR: Edges = Edges { r_lo: [i64::MIN; 4], r_hi: [i64::MIN; 4], s_lo: [i64:
 const FAR_BAND: Band = Band { lo: [i64::MIN; 4], hi: [i64::MIN; 4] };
 
 /// Numbers of ten bytes wherever they do not end the file: the longest file that a plant's values would be.
-const FAR_PLANT: Plant = Plant {
-    form: 2,
-    n: 4,
-    modes: 16,
-    q: u64::MAX,
-    k: u64::MAX,
-    d: u64::MAX,
-    edges: FAR,
-    bands: [FAR_BAND; second::MOST_MODES],
-    coefficients: [i64::MIN; second::COEFFICIENTS],
-};
+fn far_plant(form: u64) -> Plant {
+    let (bands, coefficients) = (vec![FAR_BAND; second::MOST_MODES], vec![i64::MIN; second::COEFFICIENTS]);
+    Plant { form, n: 4, modes: second::MOST_MODES as u64, q: u64::MAX, k: u64::MAX, d: u64::MAX, edges: FAR, bands, coefficients }
+}
 
 /// The same of a sheet's.
 const FAR_SHEET: Sheet = Sheet {
@@ -262,33 +307,47 @@ const FAR_SHEET: Sheet = Sheet {
     rooms: [Room { emitter: Emitter::Heater { p: f64::MAX, water: f64::MAX }, ..Room::ZEROS }; 4],
 };
 
-/// Every number as long as it can be: 1,183 bytes in form 1, 1,783 in form 2.
-fn longest_plant(form: u64) -> Vec<Field> {
-    let mut fields = [1, 4, 16, 10_000, 6, 3].map(U).to_vec();
+/// Every number as long as it can be: of 256 modes 17,504 bytes in form 1, 27,704 in form 2.
+fn longest_plant(form: u64, modes: usize) -> Vec<Field> {
+    let mut fields = [1, 4, modes as u64, 10_000, 6, 3].map(U).to_vec();
     fields.extend([-EDGE, EDGE].repeat(8).into_iter().map(S));
     fields.extend([-BAND, BAND].repeat(4).into_iter().map(S));
-    fields.extend([A, -A, -A, A, -B].repeat(64).into_iter().map(S));
-    assert_eq!((file(&fields).len(), file(&in_form_2(&fields)).len()), (1_183, second::LARGEST_PLANT));
+    fields.extend([A, -A, -A, A, -B].repeat(4 * modes).into_iter().map(S));
     if form == 1 { fields } else { in_form_2(&fields) }
+}
+
+#[test]
+fn the_largest_plants() {
+    let mut seen = Numbers::default();
+    for (form, length) in [(1, 17_504), (2, second::LARGEST_PLANT)] {
+        let fields = longest_plant(form, 256);
+        let (plant, bytes) = (plant_values(&fields, 4), file(&fields));
+        assert_eq!(bytes.len(), length);
+        assert_eq!(read_plant(&mut seen, &bytes), ((0, 0, 0), plant.clone()));
+        assert_eq!(write_plant(&mut seen, &plant, length), (0, length as u64, 0));
+        assert_eq!(write_plant(&mut seen, &plant, length - 1), (10, 0, 0));
+    }
 }
 
 #[test]
 fn plants_written() {
     let (mut random, mut seen) = (random(12), Numbers::default());
-    let mut plants = vec![p_fields(), two_rooms(), longest_plant(1), longest_plant(2), in_form_2(&p_fields())];
+    let mut plants = vec![p_fields(), two_rooms(), longest_plant(1, 16), longest_plant(2, 16), in_form_2(&p_fields())];
     plants.extend((0..rounds(10)).map(|_| plant_fields(&mut random)));
-    let mut values = vec![FAR_PLANT, Plant { form: 1, ..FAR_PLANT }];
+    let mut values = vec![far_plant(1), far_plant(2)];
     for fields in plants {
         let (plant, made) = (plant_values(&fields, rooms(&fields)), file(&fields).len());
         for length in 0..=made + 1 {
             let wanted = if length < made { (10, 0, 0) } else { (0, made as u64, 0) };
             assert_eq!(write_plant(&mut seen, &plant, length), wanted);
         }
-        values.push(plant);
-        // what stands behind mode 0's band of form 1, and behind N's of form 2
-        let mut behind = plant;
+        // what stands behind mode 0's band of form 1, and behind N's of form 2, and behind the rows
+        let mut behind = plant.clone();
+        behind.bands.resize(plant.bands.len() + 2, FAR_BAND);
         behind.bands[if plant.form == 1 { 1 } else { plant.mode_count() }..].fill(FAR_BAND);
+        behind.coefficients.extend([i64::MIN; 30]);
         assert_eq!(write_plant(&mut seen, &behind, made), (0, made as u64, 0));
+        values.push(behind);
     }
     for plant in values {
         plants_at_extremes(&plant, |other| {
@@ -296,6 +355,32 @@ fn plants_written() {
         });
     }
     all_seen("write_plant", &seen, &[0, 1, 2, 3, 4, 5, 10]);
+}
+
+/// Slices that end anywhere, inside a band and inside a row too: what they lack is 0.
+#[test]
+fn plants_written_of_slices_of_any_length() {
+    let mut written_ones = 0;
+    for fields in [p_fields(), in_form_2(&two_rooms()), longest_plant(2, 5), longest_plant(1, 129)] {
+        let plant = Plant { q: 1, ..plant_values(&fields, rooms(&fields)) };
+        let (bands, n) = (batch::flat_bands(&plant), plant.rooms());
+        for length in (0..=bands.len()).chain([plant.coefficients.len()]) {
+            let lent = [&bands[..length.min(bands.len())], &plant.coefficients[..length.min(plant.coefficients.len())]];
+            let end = |at: usize| lent[0].get(at).copied().unwrap_or(0);
+            let mut whole = Plant { coefficients: lent[1].to_vec(), ..plant.clone() };
+            for (u, i) in (0..plant.bands.len()).flat_map(|u| (0..n).map(move |i| (u, i))) {
+                (whole.bands[u].lo[i], whole.bands[u].hi[i]) = (end(2 * (u * n + i)), end(2 * (u * n + i) + 1));
+            }
+            let answer = written(
+                &(&whole, lent),
+                second::LARGEST_PLANT,
+                |(plant, [bands, coefficients]), buffer| batch::write_plant_of(plant, bands, coefficients, buffer),
+                |(plant, _), buffer| second::plant::write_plant(plant, buffer),
+            );
+            written_ones += usize::from(answer.0 == 0);
+        }
+    }
+    assert!(written_ones > 500, "{written_ones}");
 }
 
 #[test]

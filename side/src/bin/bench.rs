@@ -6,7 +6,8 @@ use second::control::State;
 use second::start::StartState;
 use side::starts::turning;
 use side::{
-    check, common, control, four_rooms_without_a_table, largest_table_plant, make, plant, sheet, start_check, start_control, start_make,
+    check, common, control, four_rooms, four_rooms_without_a_table, largest, largest_table_plant, make, plant, sheet, start_check, start_control,
+    start_make,
 };
 use std::hint::black_box;
 use std::time::Instant;
@@ -116,6 +117,64 @@ fn main() {
     );
     starts();
     either_form();
+    many_modes();
+}
+
+/// 256 modes: a plant read in either form, a first box that fails on patterns of two, and the largest plant with a table of 53,523 bytes.
+fn many_modes() {
+    let four = four_rooms(256, 2);
+    for (form, bytes) in either(&four) {
+        compare(
+            &format!("plant of form {form}, four rooms and 256 modes, read and judged"),
+            50,
+            || {
+                black_box(plant(black_box(&bytes)));
+            },
+            || {
+                black_box(second::plant::read_plant(black_box(&bytes))).unwrap();
+            },
+        );
+    }
+    let mut buffer = vec![0; second::LARGEST_TABLE];
+    assert_eq!((make(&four, &mut buffer), common::told(second::maker::make(&four, &mut buffer))), ((9, 0, 0), (9, 0, 0)));
+    let mut other = buffer.clone();
+    compare(
+        "make, 256 modes, K 2, four rooms whose first box fails (65,792 images)",
+        10,
+        || {
+            black_box(make(black_box(&four), black_box(&mut buffer)));
+        },
+        || {
+            black_box(second::maker::make(black_box(&four), black_box(&mut other))).ok();
+        },
+    );
+    let (bytes, table) = (largest::plant(), largest::table());
+    assert_eq!(check(&bytes, &table), (0, 0, 0));
+    compare(
+        &format!("check, 256 modes, {} bytes of plant, {} of table", bytes.len(), table.len()),
+        10,
+        || {
+            black_box(check(black_box(&bytes), black_box(&table)));
+        },
+        || {
+            black_box(second::checker::check(black_box(&bytes), black_box(&table))).unwrap();
+        },
+    );
+    let last = [largest::CENTRE + 3; 4];
+    let (mode, out) = control(&bytes, &table, 0, 0, last);
+    assert_eq!((mode, out[4]), (255, 5));
+    for (name, calls, place, left) in [("the last tile of that table", 20, 0, 0), ("the next mode of its pattern", 50, out[3], out[4])] {
+        compare(
+            &format!("control, 256 modes, {name}"),
+            calls,
+            || {
+                black_box(control(black_box(&bytes), black_box(&table), place, left, last));
+            },
+            || {
+                black_box(second::control::control(black_box(&bytes), black_box(&table), State { place, left }, last)).unwrap();
+            },
+        );
+    }
 }
 
 /// A plant in form 1, and in form 2 with its band in every mode.

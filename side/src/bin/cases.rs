@@ -18,7 +18,7 @@ use side::common::{file, marked, Field, Random};
 use side::inputs::{any_reading, any_state, any_tree, damaged, made_table, other_forms, other_table, plant_fields, random, sheet_fields, spoiled};
 use side::seen::{each_came, Numbers};
 use side::starts::{any_chain, any_reading_about, any_standing, any_start, made_start, other_start, spoiled_chain, spoiled_lengths, turning, Start};
-use side::{largest_table_plant, Standing};
+use side::{largest_table_plant, longest_table_plant, Standing};
 use std::fs::File;
 use std::io::{BufWriter, Write};
 
@@ -229,14 +229,16 @@ fn starts(random: &mut Random, cases: &mut Cases, bytes: &[u8]) {
     }
 }
 
-/// The largest table and eight large boxes, as far as a call reaches.
+/// The largest tables of modes of one byte and of two, and eight large boxes, as far as a call reaches.
 fn largest(cases: &mut Cases) {
-    let plant = largest_table_plant();
-    cases.make(&plant, second::LARGEST_TABLE);
-    let table = made_table(&plant).expect("a table");
-    cases.check(&plant, &table);
-    for x in [1000, 1031, 1063] {
-        cases.control(&plant, &table, 0, 0, [x, 1063, 0, 0]);
+    for plant in [largest_table_plant(), longest_table_plant()] {
+        cases.make(&plant, second::LARGEST_TABLE);
+        let table = made_table(&plant).expect("a table");
+        cases.check(&plant, &table);
+        for x in [1000, 1031, 1063] {
+            let (place, left) = cases.control(&plant, &table, 0, 0, [x, 1063, 0, 0]);
+            cases.control(&plant, &table, place, left, [x, 1063, 0, 0]);
+        }
     }
     let (plant, chain) = turning();
     let start = second::start::start_make(&plant, &chain).expect("a start file");

@@ -2,45 +2,15 @@
 //! firmware/figures: written to the folder that is named.
 //!
 //! - `table`: the plant with the largest table there is, two rooms split six times;
-//! - `plant`: a plant of the largest length, form 2, four rooms and every mode, with a table
-//!   of the deepest split and the longest patterns, which the checker accepts;
+//! - `plant`: the plant of the largest length and a table for it;
 //! - `sheet`: the largest sheet;
 //! - `start`: a plant, its chain of eight boxes, and the start file of them.
 
 use second::checker::check;
 use side::common::{file, Field, F, S, U};
-use side::{inputs::made_table, largest_table_plant, starts::turning};
+use side::largest::{self, CENTRE, Q, ROOMS};
+use side::{inputs::made_table, longest_table_plant, starts::turning};
 use std::path::Path;
-
-const ROOMS: usize = 4;
-const MODES: usize = second::MOST_MODES;
-const CENTRE: i64 = 500_000;
-const Q: i64 = 10_000;
-
-/// Every number has the most bytes that it can have. A mode takes 8,193 times what rooms 1 and 2 have more than rooms 3 and 4, and every room
-/// follows alike; so after two samples all rooms stand at the centre, whatever the pattern.
-fn largest_plant() -> Vec<u8> {
-    let (limit, band) = (1_000_000, 500_000_000);
-    let mut fields = vec![U(2), U(ROOMS as u64), U(MODES as u64), U(Q as u64), U(second::LONGEST_PATTERN as u64), U(3)];
-    for _ in 0..ROOMS {
-        fields.extend([CENTRE - 4, CENTRE + 3, -limit, limit].map(S));
-    }
-    for _ in 0..MODES {
-        fields.extend([band, band + Q - 1].repeat(ROOMS).into_iter().map(S));
-        fields.extend([8_193, 8_193, -8_193, -8_193, Q * CENTRE - band - Q / 2].repeat(ROOMS).into_iter().map(S));
-    }
-    file(&fields)
-}
-
-/// A tree of the deepest split, every tile with the longest pattern of the last mode.
-fn full_tree(depth: usize) -> Vec<u8> {
-    if depth == 0 {
-        let mut tile = vec![U(second::LONGEST_PATTERN as u64)];
-        tile.resize(1 + second::LONGEST_PATTERN, U(MODES as u64 - 1));
-        return file(&tile);
-    }
-    [&[0][..], &full_tree(depth - 1).repeat(1 << ROOMS)].concat()
-}
 
 /// Four rooms, each with three exchanges and a heater.
 fn largest_sheet() -> Vec<u8> {
@@ -62,10 +32,10 @@ fn main() -> std::io::Result<()> {
         println!("{name}: {} bytes", bytes.len());
         std::fs::write(Path::new(&folder).join(name), bytes)
     };
-    let plant = largest_table_plant();
+    let plant = longest_table_plant();
     write("table.plant", &plant)?;
     write("table.table", &made_table(&plant).expect("a table"))?;
-    let (plant, table) = (largest_plant(), [&[1, ROOMS as u8][..], &full_tree(3)].concat());
+    let (plant, table) = (largest::plant(), largest::table());
     assert_eq!((plant.len(), check(&plant, &table)), (second::LARGEST_PLANT, Ok(())));
     write("plant.plant", &plant)?;
     write("plant.table", &table)?;

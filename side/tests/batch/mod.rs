@@ -1,7 +1,8 @@
 //! The functions of crates/batch, called the way C calls them, with plants and
 //! sheets as the second program holds them. Values go over as arrays. A plant's:
 //! form, n, N, q, K, D; R lo, R hi, S lo, S hi, four each; the bands, that of mode
-//! u in dimension i at 2(u·n + i), w hi behind w lo; the coefficients. A sheet's:
+//! u in dimension i at 2(u·n + i), w hi behind w lo; the coefficients; these two in
+//! slices of any length. A sheet's:
 //! n, r, q, K, D; R lo, R hi, S lo, S hi, w lo, w hi, four each; time and outside
 //! temperature, emitter numbers and rooms. What is to be filled is marked, so
 //! that a value not handed over is noticed.
@@ -14,8 +15,6 @@ use side::Told;
 
 type PlantHeader = [u64; 6];
 type PlantEdges = [[i64; 4]; 4];
-type Bands = [i64; 128];
-type Coefficients = [i64; 320];
 type Header = [u64; 5];
 type Bounds = [[i64; 4]; 6];
 /// The emitters' numbers.
@@ -30,15 +29,19 @@ extern "C" {
         plant_length: u64,
         header: *mut PlantHeader,
         edges: *mut PlantEdges,
-        bands: *mut Bands,
-        coefficients: *mut Coefficients,
+        bands: *mut i64,
+        bands_length: u64,
+        coefficients: *mut i64,
+        coefficients_length: u64,
         out: *mut [u64; 2],
     ) -> u64;
     fn batch_write_plant(
         header: *const PlantHeader,
         edges: *const PlantEdges,
-        bands: *const Bands,
-        coefficients: *const Coefficients,
+        bands: *const i64,
+        bands_length: u64,
+        coefficients: *const i64,
+        coefficients_length: u64,
         buffer: *mut u8,
         buffer_length: u64,
         out: *mut [u64; 2],
@@ -75,28 +78,10 @@ fn edges_of([r_lo, r_hi, s_lo, s_hi]: PlantEdges) -> Edges {
     Edges { r_lo, r_hi, s_lo, s_hi }
 }
 
-/// The bands of all sixteen modes, in n dimensions each; what is behind them no writer may look at.
-fn flat_bands(plant: &Plant) -> Bands {
-    let mut flat = [i64::MIN; 128];
-    let n = plant.rooms();
-    for (u, band) in plant.bands.iter().enumerate() {
-        for i in 0..n {
-            flat[2 * (u * n + i)..][..2].copy_from_slice(&[band.lo[i], band.hi[i]]);
-        }
-    }
-    flat
-}
-
-/// The same the other way; behind the bands of sixteen modes there are zeros.
-fn bands_of(flat: &Bands, n: usize) -> [Band; 16] {
-    assert!(flat[2 * 16 * n..].iter().all(|end| *end == 0), "{flat:?}");
-    let mut bands = [Band::ZEROS; 16];
-    for (u, band) in bands.iter_mut().enumerate() {
-        for i in 0..n {
-            (band.lo[i], band.hi[i]) = (flat[2 * (u * n + i)], flat[2 * (u * n + i) + 1]);
-        }
-    }
-    bands
+/// The bands of a plant's modes, in n dimensions each.
+pub fn flat_bands(plant: &Plant) -> Vec<i64> {
+    let ends = |band: &Band| -> Vec<i64> { (0..plant.rooms()).flat_map(|i| [band.lo[i], band.hi[i]]).collect() };
+    plant.bands.iter().flat_map(ends).collect()
 }
 
 fn kind_of(room: Room) -> u8 {
@@ -127,25 +112,49 @@ fn room_of(kind: u8, [loss, a, b, c, first, second]: [f64; 6]) -> Room {
     Room { loss, exchange: [a, b, c], emitter }
 }
 
-/// What the library says of a plant's bytes, and the plant's values.
-pub fn read_plant(bytes: &[u8]) -> (Told, Plant) {
-    let (mut header, mut edges) = ([MARK; 6], [[MARK as i64; 4]; 4]);
-    let (mut bands, mut coefficients, mut out) = ([MARK as i64; 128], [MARK as i64; 320], [MARK; 2]);
-    let number =
-        unsafe { batch_read_plant(bytes.as_ptr(), bytes.len() as u64, &mut header, &mut edges, &mut bands, &mut coefficients, &mut out) };
+/// What the library says of a plant's bytes, and the plant's values; those of its modes stand in what is lent.
+pub fn read_plant(bytes: &[u8], bands: &mut [i64], coefficients: &mut [i64]) -> (Told, Plant) {
+    let (mut header, mut edges, mut out) = ([MARK; 6], [[MARK as i64; 4]; 4], [MARK; 2]);
+    let number = unsafe {
+        batch_read_plant(
+            bytes.as_ptr(),
+            bytes.len() as u64,
+            &mut header,
+            &mut edges,
+            bands.as_mut_ptr(),
+            bands.len() as u64,
+            coefficients.as_mut_ptr(),
+            coefficients.len() as u64,
+            &mut out,
+        )
+    };
     let [form, n, modes, q, k, d] = header;
-    assert!(n <= 4, "{n} rooms of {bytes:?}");
-    let plant = Plant { form, n, modes, q, k, d, edges: edges_of(edges), bands: bands_of(&bands, n as usize), coefficients };
-    ((number, out[0], out[1]), plant)
+    ((number, out[0], out[1]), Plant { form, n, modes, q, k, d, edges: edges_of(edges), ..Plant::ZEROS })
 }
 
 /// The file that the library writes of a plant's values: number, and length written or place, and step.
 pub fn write_plant(plant: &Plant, buffer: &mut [u8]) -> Told {
+    write_plant_of(plant, &flat_bands(plant), &plant.coefficients, buffer)
+}
+
+/// The same with these bands and coefficients in place of the plant's own.
+pub fn write_plant_of(plant: &Plant, bands: &[i64], coefficients: &[i64], buffer: &mut [u8]) -> Told {
     let header = [plant.form, plant.n, plant.modes, plant.q, plant.k, plant.d];
     let Edges { r_lo, r_hi, s_lo, s_hi } = plant.edges;
-    let (edges, bands, mut out) = ([r_lo, r_hi, s_lo, s_hi], flat_bands(plant), [MARK; 2]);
-    let number =
-        unsafe { batch_write_plant(&header, &edges, &bands, &plant.coefficients, buffer.as_mut_ptr(), buffer.len() as u64, &mut out) };
+    let (edges, mut out) = ([r_lo, r_hi, s_lo, s_hi], [MARK; 2]);
+    let number = unsafe {
+        batch_write_plant(
+            &header,
+            &edges,
+            bands.as_ptr(),
+            bands.len() as u64,
+            coefficients.as_ptr(),
+            coefficients.len() as u64,
+            buffer.as_mut_ptr(),
+            buffer.len() as u64,
+            &mut out,
+        )
+    };
     (number, out[0], out[1])
 }
 
