@@ -14,6 +14,8 @@ STORED(house_plant, "house.plant")
 STORED(house_table, "house.table")
 STORED(four_plant, "four.plant")
 STORED(four_table, "four.table")
+STORED(valves_plant, "valves.plant")
+STORED(valves_table, "valves.table")
 STORED(table_plant, "table.plant")
 STORED(table_table, "table.table")
 STORED(largest_plant, "plant.plant")
@@ -135,10 +137,12 @@ int main(void)
     a_table("house", (struct stored)BOTH(house_plant, house_table), 2200, 2200, 0, 0, 4, 4, 1000);
     a_table("four", (struct stored)BOTH(four_plant, four_table), 3000, 2200, 3000, 2200, 5, 2, 1000);
     a_table("table", (struct stored)BOTH(table_plant, table_table), 1063, 1063, 0, 0, 9, 6, 1);
+    a_table("valves", (struct stored)BOTH(valves_plant, valves_table), 225, 0, 0, 0, 5, 1, 100);
     a_table("plant", (struct stored)BOTH(largest_plant, largest_table), 500003, 500003, 500003, 500003, 6, 6, 1);
     a_make("P", (struct stored)BOTH(p_plant, p_table));
     a_make("house", (struct stored)BOTH(house_plant, house_table));
     a_make("four", (struct stored)BOTH(four_plant, four_table));
+    a_make("valves", (struct stored)BOTH(valves_plant, valves_table));
     a_make("table", (struct stored)BOTH(table_plant, table_table));
     a_start("cold", (struct stored)BOTH(cold_plant, cold_start), 230, 2, 5, 1, 1000);
     a_start("start", (struct stored)BOTH(start_plant, start_start), 1063, 8, 9, 6, 1);

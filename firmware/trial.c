@@ -12,6 +12,8 @@ STORED(p_plant, "P.plant")
 STORED(p_table, "P.table")
 STORED(fan_plant, "fan.plant")
 STORED(fan_table, "fan.table")
+STORED(valves_plant, "valves.plant")
+STORED(valves_table, "valves.table")
 STORED(house_plant, "house.plant")
 STORED(house_table, "house.table")
 STORED(four_plant, "four.plant")
@@ -118,9 +120,10 @@ static void refused(const struct stored *p, const struct stored *house, const st
 int main(void)
 {
     const struct stored p = BOTH(p_plant, p_table), house = BOTH(house_plant, house_table), four = BOTH(four_plant, four_table);
-    const struct stored fan = BOTH(fan_plant, fan_table), start = BOTH(cold_plant, cold_start);
+    const struct stored fan = BOTH(fan_plant, fan_table), valves = BOTH(valves_plant, valves_table), start = BOTH(cold_plant, cold_start);
     held("P", &p, (int64_t[]){195, 0, 0, 0});
     held("fan", &fan, (int64_t[]){195, 0, 0, 0});
+    held("valves", &valves, (int64_t[]){195, 0, 0, 0});
     held("house", &house, (int64_t[]){2000, 2200, 0, 0});
     held("four", &four, (int64_t[]){2000, 2100, 2500, 2200});
     cold(&start);

@@ -6,12 +6,13 @@ use crate::drawings;
 use crate::drives;
 use crate::files::houses::accepted;
 use crate::files::tables::counted;
-use crate::files::{House, Plant, Start, Table};
+use crate::files::{Chain, House, Plant, Start, Table};
 use crate::kinds::{self, As, Kind, NotOne, Reason, ALONE, FOR_A_HOUSE};
 use crate::library;
 use crate::papers;
 use crate::progress;
 use crate::refusals::Refusal;
+use crate::search::Search;
 use crate::text::{self, tables::summary};
 use std::io::{ErrorKind, Write};
 
@@ -177,7 +178,11 @@ fn sheet_to_plant(sheet: &str, path: &str, out: &mut dyn Write) -> Ran {
 
 fn make(plant: &str, path: &str, out: &mut dyn Write) -> Ran {
     let bytes = papers::read(plant)?;
-    match progress::during("making the table", || library::make(&bytes)) {
+    let made = library::plant(&bytes).and_then(|()| {
+        let plant = accepted(Plant::read(&bytes));
+        progress::searching("making the table", &Search::of(&plant, &[]), || library::make(&bytes))
+    });
+    match made {
         Err(refusal) => refused(out, refusal, &causes::plant(&bytes, refusal)),
         Ok(made) => {
             let table = accepted(Table::read(&made, &accepted(Plant::read(&bytes))));
@@ -207,7 +212,9 @@ fn start_make(plant: &str, chain: &str, path: &str, out: &mut dyn Write) -> Ran 
     let Some(house) = plant_at(plant, out)? else {
         return Ok(Outcome::Refused);
     };
-    match progress::during("making the tables", || library::start_make(&house.bytes, &chain)) {
+    let sound = library::chain(&house.bytes, &chain).ok().and_then(|()| Chain::read(&chain, house.plant.rooms.len()));
+    let search = Search::of(&house.plant, &sound.map_or(Vec::new(), |chain| chain.boxes));
+    match progress::searching("making the tables", &search, || library::start_make(&house.bytes, &chain)) {
         Err(refusal) => refused(out, refusal, &causes::chain(&house.plant, &chain, refusal)),
         Ok(made) => done(out, path, &made, &start_summary(&accepted(Start::read(&made, &house.plant)), made.len())),
     }

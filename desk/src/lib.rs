@@ -19,6 +19,7 @@ pub mod refusals;
 pub mod release;
 pub mod results;
 pub mod runs;
+pub mod search;
 pub mod sha256;
 pub mod text;
 pub mod units;

@@ -25,7 +25,7 @@ fn causes_of_plants() {
     assert_eq!(of_plant(&[1, 1, 2, 0x80, 0x80, 0x80, 0x80, 0x80, 1]), "1 at byte 3: q is over 5 bytes");
     assert_eq!(of_p(0, U(3)), "2 at byte 0: the form is 3, wanted 1 or 2");
     assert_eq!(of_p(1, U(5)), "3 at byte 1: n is 5, wanted 1 .. 4");
-    assert_eq!(of_p(2, U(17)), "3 at byte 2: N is 17, wanted 1 .. 16");
+    assert_eq!(of_p(2, U(257)), "3 at byte 2: N is 257, wanted 1 .. 256");
     assert_eq!(of_p(5, U(7)), "3 at byte 5: D is 7, wanted 0 .. 6");
     assert_eq!(of_plant(&[1, 4, 1, 1, 1, 4]), "3 at byte 5: D is 4, wanted 0 .. 3, as n·D is at most 12");
     assert_eq!(of_p(6, S(-1_000_001)), "3 at byte 6: R of room 1, lo is -1000001, wanted -1000000 .. 1000000");

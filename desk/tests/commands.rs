@@ -64,7 +64,7 @@ fn the_readme_s_room() {
 #[test]
 fn show_and_write_give_the_text_and_the_file_back() {
     let folder = Folder::new("show");
-    for name in ["P.plant", "fan.plant", "house.plant", "house.sheet"] {
+    for name in ["P.plant", "fan.plant", "valves.plant", "house.plant", "house.sheet"] {
         let (status, text) = run(&["show", &sample_path(name)]);
         assert_eq!(status, 0);
         let (text_path, path) = (folder.put("text", &text), folder.path("file"));

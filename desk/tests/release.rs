@@ -114,12 +114,26 @@ fn a_band_for_each_mode_in_plain_words() {
     says(&read(&of_p), "by no more than the band: room 1 by −0.5 to 0.4 counts;");
 }
 
+/// Eight valves in form 2, the band wider while the last is open: neighbours with one band are told together.
+#[test]
+fn bands_of_many_modes_in_plain_words() {
+    let mut house = House::of(sample("valves.plant"), None);
+    house.plant.form = 2;
+    house.plant.modes[128..].iter_mut().for_each(|mode| mode[0].w = Side { lo: -20, hi: 19 });
+    house.plant.modes[255][0].w = Side { lo: -10, hi: 9 };
+    let plant = house.plant.write();
+    let (of_valves, accepted) = page(&plant, &library::make(&plant).unwrap());
+    assert!(accepted);
+    let bands = "in modes 0 to 127 room 1 by −0.5 to 0.45 counts; in modes 128 to 254 room 1 by −1 to 0.95 counts; in mode 255 room 1 by −0.5 to 0.45 counts;";
+    says(&read(&of_valves), &format!("the band of the mode applied: {bands}"));
+}
+
 /// The defined tables of seeded plants: page and picture against the second program's listing.
 #[test]
 fn page_and_picture_are_the_listing_s() {
     let mut random = random(29);
     let mut made = 0;
-    for _ in 0..rounds(120) {
+    for _ in 0..rounds(200) {
         let plant = file(&plant_fields(&mut random));
         let Ok(bytes) = library::make(&plant) else { continue };
         let listing = second::listing::listing(&plant);
@@ -224,7 +238,7 @@ fn a_page_needs_nothing_else() {
 fn the_largest_pages_are_quick() {
     for (house, bytes) in shapes::largest() {
         let text = within_a_second(|| judged(files(&house.bytes, &bytes), None, 1_000).page().unwrap());
-        assert!(text.len() < 1_500_000, "{} bytes", text.len());
+        assert!(text.len() < 2_000_000, "{} bytes", text.len());
         assert_eq!(tiles(&xml::read(&text)).len(), 4_096);
     }
 }

@@ -61,7 +61,7 @@ fn runs_keep_equation_and_band_and_are_never_refused() {
 
 #[test]
 fn the_largest_table_is_shown_within_a_second() {
-    let house = House::of(side::largest_table_plant(), None);
+    let house = House::of(side::longest_table_plant(), None);
     let table = library::make(&house.bytes).unwrap();
     assert_eq!(table.len(), library::LARGEST_TABLE);
     let text = within_a_second(|| As::Table(&table, &house).verdict().map(|()| As::Table(&table, &house).text())).unwrap();

@@ -224,9 +224,8 @@ fn positions(count: usize, most: usize) -> impl Iterator<Item = usize> {
     (0..count).step_by(count / most | 1)
 }
 
-/// Values one at a time, beyond n and N too, which are ignored; where N grows, numbers that the record lacks. In form 1 also the bands behind mode 0's,
-/// which no file has.
-fn plants_at_extremes(plant: &Plant, mut one: impl FnMut(&Plant)) {
+/// The values before the modes one at a time, edges beyond n too; where N grows, the record lacks numbers.
+fn beginnings_at_extremes(plant: &Plant, mut one: impl FnMut(&Plant)) {
     each(plant, |p| &mut p.form, &counts(), &mut one);
     each(plant, |p| &mut p.n, &counts(), &mut one);
     each(plant, |p| &mut p.modes, &counts(), &mut one);
@@ -234,6 +233,10 @@ fn plants_at_extremes(plant: &Plant, mut one: impl FnMut(&Plant)) {
     each(plant, |p| &mut p.k, &counts(), &mut one);
     each(plant, |p| &mut p.d, &counts(), &mut one);
     edges_at_extremes(&plant.edges, |edges| one(&Plant { edges: *edges, ..plant.clone() }));
+}
+
+/// Those of the modes, beyond n and N too, which are ignored; in form 1 also the bands behind mode 0's, which no file has.
+fn modes_at_extremes(plant: &Plant, mut one: impl FnMut(&Plant)) {
     for mode in positions(plant.bands.len(), 16) {
         band_at_extremes(&plant.bands[mode], plant.q, |band| each(plant, |p| &mut p.bands[mode], &[*band], &mut one));
     }
@@ -334,7 +337,7 @@ fn plants_written() {
     let (mut random, mut seen) = (random(12), Numbers::default());
     let mut plants = vec![p_fields(), two_rooms(), longest_plant(1, 16), longest_plant(2, 16), in_form_2(&p_fields())];
     plants.extend((0..rounds(10)).map(|_| plant_fields(&mut random)));
-    let mut values = vec![far_plant(1), far_plant(2)];
+    let mut values = Vec::new();
     for fields in plants {
         let (plant, made) = (plant_values(&fields, rooms(&fields)), file(&fields).len());
         for length in 0..=made + 1 {
@@ -349,8 +352,14 @@ fn plants_written() {
         assert_eq!(write_plant(&mut seen, &behind, made), (0, made as u64, 0));
         values.push(behind);
     }
+    // of the longest drafts nothing behind q is judged
+    for plant in values.iter().chain(&[far_plant(1), far_plant(2)]) {
+        beginnings_at_extremes(plant, |other| {
+            about_its_length(|length| write_plant(&mut seen, other, length));
+        });
+    }
     for plant in values {
-        plants_at_extremes(&plant, |other| {
+        modes_at_extremes(&plant, |other| {
             about_its_length(|length| write_plant(&mut seen, other, length));
         });
     }

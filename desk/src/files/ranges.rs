@@ -3,7 +3,7 @@
 /// n, the rooms.
 pub const MOST_ROOMS: i64 = 4;
 /// N, the modes.
-pub const MOST_MODES: i64 = 16;
+pub const MOST_MODES: i64 = 256;
 /// r, the counts a degree.
 pub const MOST_COUNTS: i64 = 1_000;
 pub const MOST_Q: i64 = 10_000;

@@ -1,6 +1,6 @@
-//! How a pattern looks where no words fit: its first mode by lines, a direction for each of the mode number's four bits, its length by a shade.
-//! Both can be told in grey and in a tile of a few pixels. Relies on `svg`; sixteen modes are all there are. The lines are drawn and no fill of SVG's own,
-//! which takes a browser minutes to print where there are thousands of tiles.
+//! How a pattern looks where no words fit: its first mode by lines, its length by a shade. Each of the mode number's first four bits has a direction, and
+//! each of the next four the same direction in pairs of lines. Both can be told in grey and in a tile of a few pixels. Relies on `svg`; modes have eight bits
+//! at most. The lines are drawn and no fill of SVG's own, which takes a browser minutes to print where there are thousands of tiles.
 
 use super::axes::LINE;
 use super::svg::{at, px, wide, Area, Stands, Svg, LETTER, WIDTH};
@@ -20,35 +20,44 @@ fn length_shade(length: usize) -> String {
     format!("k{length}")
 }
 
-/// Adds a mode's lines over an area to a path: across for bit 0, upright for bit 1, rising for bit 2, falling for bit 3.
+/// Where in its part of a length a line stands: a single one in the middle, a pair beside each other near the end.
+const SINGLE: &[f64] = &[0.5];
+const PAIR: &[f64] = &[0.75, 0.95];
+
+/// Adds a mode's lines over an area to a path: across for bit 0, upright for bit 1, rising for bit 2, falling for bit 3, and so again in pairs.
 pub fn lines(path: &mut String, mode: u64, area: Area) {
+    directed(path, mode & 15, area, SINGLE);
+    directed(path, mode >> 4, area, PAIR);
+}
+
+fn directed(path: &mut String, bits: u64, area: Area, stands: &'static [f64]) {
     let Area { width, height, .. } = area;
     let mut line = |x: f64, y: f64, to: String| {
         let _ = write!(path, "M{} {}{to}", px(area.x + x), px(area.y + y));
     };
-    if mode & 1 != 0 {
-        spread(height).for_each(|y| line(0.0, y, format!("h{}", px(width))));
+    if bits & 1 != 0 {
+        spread(height, stands).for_each(|y| line(0.0, y, format!("h{}", px(width))));
     }
-    if mode & 2 != 0 {
-        spread(width).for_each(|x| line(x, 0.0, format!("v{}", px(height))));
+    if bits & 2 != 0 {
+        spread(width, stands).for_each(|x| line(x, 0.0, format!("v{}", px(height))));
     }
     // a slant leaves the left or lower side at its distance along both, and comes in at the upper or right side
-    for distance in spread(width + height).filter(|_| mode & 12 != 0) {
+    for distance in spread(width + height, stands).filter(|_| bits & 12 != 0) {
         let (left, right) = ((distance - height).max(0.0), distance.min(width));
         let (low, high) = (distance.min(height), (distance - width).max(0.0));
-        if mode & 4 != 0 {
+        if bits & 4 != 0 {
             line(left, low, format!("l{} {}", px(right - left), px(high - low)));
         }
-        if mode & 8 != 0 {
+        if bits & 8 != 0 {
             line(left, height - low, format!("l{} {}", px(right - left), px(low - high)));
         }
     }
 }
 
-/// The middles of equal parts of a length, as many as there is space for.
-fn spread(length: f64) -> impl Iterator<Item = f64> {
+/// The places of lines in equal parts of a length, as many parts as there is space for.
+fn spread(length: f64, stands: &'static [f64]) -> impl Iterator<Item = f64> {
     let parts = (length / APART).round().max(1.0);
-    (0..parts as u32).map(move |part| (f64::from(part) + 0.5) * length / parts)
+    (0..parts as u32).flat_map(move |part| stands.iter().map(move |stand| (f64::from(part) + stand) * length / parts))
 }
 
 /// What lines and shades say, from a height on; the height behind it.
@@ -108,4 +117,22 @@ pub fn emitters(house: &House) -> Option<Vec<usize>> {
     use crate::files::sheets::Emitter;
     let rooms = &house.sheet.as_ref()?.rooms;
     Some((1..).zip(rooms).filter(|(_, room)| room.emitter != Emitter::None).map(|(number, _)| number).collect())
+}
+
+#[cfg(test)]
+mod tests {
+    use super::*;
+
+    #[test]
+    fn no_two_modes_look_alike() {
+        for (width, height) in [(4.0, 4.0), (24.0, 16.0), (100.0, 30.0)] {
+            let area = Area { x: 10.0, y: 20.0, width, height };
+            let looks = |mode| {
+                let mut path = String::new();
+                lines(&mut path, mode, area);
+                path
+            };
+            assert_eq!((0..256).map(looks).collect::<BTreeSet<_>>().len(), 256);
+        }
+    }
 }

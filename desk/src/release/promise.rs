@@ -23,7 +23,7 @@ pub fn promised(files: &Files, accepted: &Accepted) -> String {
          plant’s equation and band allow:</p>\n<ol class=\"numbered\">\n{points}</ol>\n\
          <p>Readings are what is promised about: nothing is said of the temperature between two samples, or away from a probe.</p>\n\
          <h3>To the fitter</h3>\n<p>The promise is for these very bytes: {} and its plant, as listed under Files. Compare sizes and sums before you load \
-         them. A controller that answers 255 has refused a call: stop it, the readings are not those of this plant.</p>\n</section>\n",
+         them. A controller that answers 65,535 has refused a call: stop it, the readings are not those of this plant.</p>\n</section>\n",
         escape(files.control.name)
     )
 }
@@ -148,13 +148,20 @@ pub fn modeller(accepted: &Accepted) -> String {
     format!("<section>\n<h2>What the modeller answers for</h2>\n<ul>\n{points}</ul>\n</section>\n")
 }
 
-/// A plant's band, or in form 2 those of its modes.
+/// A plant's band, or in form 2 those of its modes, told once for neighbours that have the same.
 fn bands(plant: &Plant) -> String {
     let of = |mode: usize| by_room(plant.modes[mode].iter().map(|row| row.w), plant.q);
     if plant.form == 1 {
         return format!("the band: {}", of(0));
     }
-    let bands: Vec<String> = (0..plant.modes.len()).map(|mode| format!("in mode {mode} {}", of(mode))).collect();
+    let same = |one: usize, other: usize| plant.modes[one].iter().map(|row| row.w).eq(plant.modes[other].iter().map(|row| row.w));
+    let firsts: Vec<usize> = (0..plant.modes.len()).filter(|&mode| mode == 0 || !same(mode - 1, mode)).collect();
+    let lasts = firsts[1..].iter().map(|next| next - 1).chain([plant.modes.len() - 1]);
+    let stretch = |(&first, last): (&usize, usize)| match last == first {
+        true => format!("in mode {first} {}", of(first)),
+        false => format!("in modes {first} to {last} {}", of(first)),
+    };
+    let bands: Vec<String> = firsts.iter().zip(lasts).map(stretch).collect();
     format!("the band of the mode applied: {}", bands.join("; "))
 }
 

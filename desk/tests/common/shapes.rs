@@ -1,5 +1,6 @@
 //! Plants for which every table is right, and seeded tables for them: tables of every shape and size, which no maker would make.
 
+use hoachulim::files::numbers::Writer;
 use hoachulim::files::plants::{Bounds, Row};
 use hoachulim::files::{House, Plant, Side};
 
@@ -37,7 +38,9 @@ fn node(random: &mut Random, house: &House, sides: &[Side], split: u64, depth: u
     }
     let length = 1 + random.below(house.plant.longest);
     bytes.push(length as u8);
-    bytes.extend((0..length).map(|_| random.below(house.plant.modes.len() as u64) as u8));
+    let mut modes = Writer(Vec::new());
+    (0..length).for_each(|_| modes.number(random.below(house.plant.modes.len() as u64)));
+    bytes.extend(modes.0);
 }
 
 /// Plants of one to four rooms with tables of every depth; narrow and wide R, S far and near.
@@ -48,23 +51,25 @@ pub fn many() -> Vec<(House, Vec<u8>)> {
     for (r, s) in boxes.map(|(r, s)| (Side { lo: r.0, hi: r.1 }, Side { lo: s.0, hi: s.1 })) {
         for rooms in 1..=4 {
             for depth in 0..=(12 / rooms as u64).min(if rooms == 1 { 6 } else { 3 }) {
-                let house = steady(rooms, 1 + random.below(16) as usize, 1 + random.below(6), depth, r, s);
-                let bytes = table(&mut random, &house, 3);
-                many.push((house, bytes));
+                for modes in [16, 256] {
+                    let house = steady(rooms, 1 + random.below(modes) as usize, 1 + random.below(6), depth, r, s);
+                    let bytes = table(&mut random, &house, 3);
+                    many.push((house, bytes));
+                }
             }
         }
     }
     many
 }
 
-/// The largest tables there are: 4,096 tiles of six modes, in two, three and four rooms.
+/// The largest tables there are: 4,096 tiles of six modes, in two, three and four rooms, of sixteen modes and of 256.
 pub fn largest() -> Vec<(House, Vec<u8>)> {
     let mut random = Random(4_096);
     let (r, s) = (Side { lo: -1_000_000, hi: 999_999 }, Side { lo: -1_000_000, hi: 1_000_000 });
-    let of = |rooms: usize| {
-        let house = steady(rooms, 16, 6, 12 / rooms as u64, r, s);
+    let of = |(rooms, modes): (usize, usize)| {
+        let house = steady(rooms, modes, 6, 12 / rooms as u64, r, s);
         let bytes = table(&mut random, &house, 4);
         (house, bytes)
     };
-    [2, 3, 4].map(of).into()
+    [(2, 16), (3, 16), (4, 16), (2, 256), (3, 256), (4, 256)].map(of).into()
 }

@@ -1,0 +1,72 @@
+//! The search that a person sees beside the library's: it does the boxes that the library's table has, and comes to the same end.
+
+mod common;
+
+use common::sample;
+use hoachulim::files::numbers::Reader;
+use hoachulim::files::{Chain, House};
+use hoachulim::library;
+use hoachulim::search::Search;
+use side::common::{cold_chain, cold_p, file, in_form_2, p_fields, with, U};
+use side::inputs::{plant_fields, random, rounds};
+
+/// The boxes of a table: its nodes, each behind the modes of the one before.
+fn boxes(table: &[u8]) -> u64 {
+    let mut file = Reader::new(&table[2..]);
+    let mut number = || file.number(String::new, |_| String::new());
+    let mut boxes = 0;
+    while let Some(node) = number() {
+        (0..node).for_each(|_| assert!(number().is_some()));
+        boxes += 1;
+    }
+    boxes
+}
+
+#[test]
+fn it_goes_the_library_s_way() {
+    let (mut random, mut without, mut split) = (random(50), 0, 0);
+    let mut plants = vec![sample("house.plant"), sample("fan.plant"), sample("valves.plant"), file(&p_fields()), file(&in_form_2(&p_fields()))];
+    plants.extend((0..rounds(1_000)).map(|_| file(&plant_fields(&mut random))));
+    for bytes in plants {
+        let house = House::of(bytes, None);
+        let search = Search::of(&house.plant, &[]);
+        match (library::make(&house.bytes), search.run()) {
+            (Ok(table), true) => {
+                assert_eq!(search.done(), boxes(&table), "{:?}", house.bytes);
+                split += usize::from(boxes(&table) > 1);
+            }
+            (Err(_), false) => without += 1,
+            (made, found) => panic!("{made:?}, {found}: {:?}", house.bytes),
+        }
+    }
+    assert!(without > 20 && split > 20, "{without} {split}");
+}
+
+#[test]
+fn it_goes_through_a_chain() {
+    let (house, chain) = (House::of(cold_p(), None), file(&cold_chain()));
+    let search = Search::of(&house.plant, &Chain::read(&chain, 1).unwrap().boxes);
+    assert!(search.run());
+    // samples/cold.start: one tile, then two and their split, twice
+    assert_eq!(search.done(), 1 + 3 + 3);
+    assert_eq!(search.words(), "own search: 7 boxes done of up to 9, length 1");
+}
+
+/// A box that none of 256 modes brings back has 2.8·10^14 patterns of six; stopped, the search ends at once.
+#[test]
+fn it_stops() {
+    let bytes = side::four_rooms(256, 6);
+    let house = House::of(bytes, None);
+    let search = Search::of(&house.plant, &[]);
+    std::thread::scope(|scope| {
+        let running = scope.spawn(|| search.run());
+        while !search.words().ends_with("length 3") {
+            std::thread::yield_now();
+        }
+        search.stop();
+        assert!(!running.join().unwrap());
+    });
+    let depth_0 = House::of(file(&with(&p_fields(), 5, U(0))), None);
+    let search = Search::of(&depth_0.plant, &[]);
+    assert!(!search.run() && search.words() == "own search: 1 boxes done of up to 1, length 2");
+}
