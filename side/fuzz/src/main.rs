@@ -81,7 +81,7 @@ pub extern "C" fn LLVMFuzzerTestOneInput(data: *const u8, length: usize) -> i32 
             seen.sheet(one(rest).bytes(), size % 1_200);
         }
         (2, _) if small(rest) => {
-            seen.make(one(rest).bytes(), size % 32_768);
+            seen.make(one(rest).bytes(), size);
         }
         (3, _) => {
             let (plant, table) = two(rest);
