@@ -12,6 +12,9 @@ use side::{
 use std::hint::black_box;
 use std::time::Instant;
 
+/// The largest table of modes of one byte. Buffers have its length wherever they had it before 2026-08, since a refused write zeros all of one.
+const USUAL_TABLE: usize = 30_039;
+
 /// Seconds of one call: the best round of `rounds`, each of `calls` calls.
 fn best(rounds: usize, calls: usize, mut one: impl FnMut()) -> f64 {
     (0..rounds)
@@ -35,8 +38,8 @@ fn compare(name: &str, calls: usize, mut ours: impl FnMut(), mut theirs: impl Fn
 
 fn main() {
     let bytes = largest_table_plant();
-    let mut table = vec![0; second::LARGEST_TABLE];
-    assert_eq!(second::maker::make(&bytes, &mut table), Ok(30_039));
+    let mut table = vec![0; USUAL_TABLE];
+    assert_eq!(second::maker::make(&bytes, &mut table), Ok(USUAL_TABLE));
     assert_eq!(check(&bytes, &table), (0, 0, 0));
     compare(
         "check, a table of 30,039 bytes",
@@ -53,7 +56,7 @@ fn main() {
         ("make, four rooms whose first box fails (19,088,736 images)", &four_rooms_without_a_table(), 1),
         ("make, a table of 30,039 bytes", &bytes, 2),
     ] {
-        let (mut ours, mut theirs) = (vec![0; second::LARGEST_TABLE], vec![0; second::LARGEST_TABLE]);
+        let (mut ours, mut theirs) = (vec![0; USUAL_TABLE], vec![0; USUAL_TABLE]);
         assert_eq!(make(bytes, &mut ours).0, common::told(second::maker::make(bytes, &mut theirs)).0);
         assert_eq!(ours, theirs);
         compare(
@@ -204,7 +207,7 @@ fn either_form() {
     }
     for (name, bytes, calls) in [("the sample house", house, 100), ("four rooms whose first box fails", &four, 1)] {
         for (form, bytes) in either(bytes) {
-            let (mut ours, mut theirs) = (vec![0; second::LARGEST_TABLE], vec![0; second::LARGEST_TABLE]);
+            let (mut ours, mut theirs) = (vec![0; USUAL_TABLE], vec![0; USUAL_TABLE]);
             compare(
                 &format!("make, {name}, plant of form {form}"),
                 calls,
@@ -222,7 +225,7 @@ fn either_form() {
 }
 
 fn calls_in_either_form() {
-    let mut table = vec![0; second::LARGEST_TABLE];
+    let mut table = vec![0; USUAL_TABLE];
     second::maker::make(&largest_table_plant(), &mut table).unwrap();
     let last = [1063, 1063, 0, 0];
     for (name, calls, place, left) in [("the last tile of the largest table", 100, 0, 0), ("the next mode of its pattern", 2000, 30_034, 5)] {
