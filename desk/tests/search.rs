@@ -26,7 +26,7 @@ fn boxes(table: &[u8]) -> u64 {
 fn it_goes_the_library_s_way() {
     let (mut random, mut without, mut split) = (random(50), 0, 0);
     let mut plants = vec![sample("house.plant"), sample("fan.plant"), sample("valves.plant"), file(&p_fields()), file(&in_form_2(&p_fields()))];
-    plants.extend((0..rounds(1_000)).map(|_| file(&plant_fields(&mut random))));
+    plants.extend((0..rounds(4_000)).map(|_| file(&plant_fields(&mut random))));
     for bytes in plants {
         let house = House::of(bytes, None);
         let search = Search::of(&house.plant, &[]);
