@@ -38,7 +38,8 @@ use Rattle.meaning.specs.Refusals.{refusal}
 use Rattle.meaning.specs.Numbers.{numberAt, signedAt}
 use Rattle.meaning.specs.Boxes.{side, children}
 use Rattle.meaning.specs.Images.{image}
-use Rattle.meaning.specs.Plants.{plantOf, numbersOf, plantRead, plantLeft, stepOf}
+use Rattle.meaning.specs.Files.{good}
+use Rattle.meaning.specs.Plants.{plantOf, plantJudged, plantRead, plantLeft, stepOf}
 use Rattle.meaning.specs.Rules.{rule}
 use Rattle.meaning.specs.Tables.{rulesOf, checked, makerLeft, controlled}
 use Rattle.meaning.specs.Starts.{startChecked, startLeft, startControlled}
@@ -181,7 +182,7 @@ impl Page {
         let answer = read_plant(file);
         self.equation(&format!("plantRead ({}) .verdict", bytes(file)), &verdict(&answer));
         if let Ok(plant) = answer {
-            self.equation(&format!("numbersOf (plantRead ({}) .plant)", bytes(file)), &wholes(&plant_numbers(&plant)));
+            self.equation(&format!("plantJudged ({})", bytes(file)), &format!("good (plantOf ({}))", wholes(&plant_numbers(&plant))));
         }
     }
 

@@ -601,7 +601,7 @@ fn the_order_of_a_call() {
 fn a_call_reads_its_own_table_alone() {
     let plant = cold_p();
     let start = start_make(&plant, &file(&cold_chain())).expect("a start file");
-    // lengths, header, and the tree up to the tile's last mode or the one mode there
+    // lengths, header, and the tree up to the tile's last mode or the modes left there
     let calls: [(StartState, i64, &[usize]); 5] = [
         (StartState::IDLE, 160, &[10, 16, 26, 27, 28, 29, 30, 31, 32]),
         (state(2, 5, 1), 174, &[10, 16, 26, 27, 28, 32]),

@@ -6,20 +6,21 @@ use lib.Dec.{eqb}
 use lib.IntN.{ℤ}
 use lib.Ieee.{Float, nan}
 use lib.ListN.{getD}
-use Rattle.meaning.specs.declared.Plant.{Plant}
+use Rattle.meaning.specs.declared.Outline.{Outline}
 use Rattle.meaning.specs.declared.Emitter.{Emitter}
 use Rattle.meaning.specs.declared.Room.{Room}
 use Rattle.meaning.specs.declared.Sheet.{Sheet}
+use Rattle.meaning.specs.Plants.{Plant}
 use Rattle.meaning.specs.Sheets.{zeroF, noRoom}
 
 -- ---- plants
 
 -- form, n, N, q, K, D
-abbrev pub plantHeader : Plant → List ℕ
+abbrev pub plantHeader : Outline → List ℕ
 plantHeader p = p .form ∷ p .n ∷ p .modes ∷ p .q ∷ p .k ∷ p .d ∷ []
 
 -- R lo, R hi, S lo, S hi
-abbrev pub plantEdges : Plant → List (List ℤ)
+abbrev pub plantEdges : Outline → List (List ℤ)
 plantEdges p = p .rlo ∷ p .rhi ∷ p .slo ∷ p .shi ∷ []
 
 -- the plant that is handed in

@@ -5,59 +5,53 @@ mod rooms;
 
 use face::shown;
 use files::plants;
-use meaning::BANDS;
-use meaning::COEFFICIENTS;
-use meaning::Plant;
+use meaning::Outline;
 use meaning::Sheet;
 ghost use mathlib.Core.Path.{_≡_};
-ghost use Rattle.meaning.specs.Plants.{plantRead, plantLeft};
+ghost use Rattle.meaning.specs.Plants.{plantRead, bandsLeft, coefLeft, plantLeft};
 ghost use Rattle.meaning.specs.Sheets.{sheetRead, sheetLeft};
 ghost use Rattle.meaning.specs.Refusals.{verdictShown, writtenShown};
 ghost use Rattle.face.specs.Shown.{placeAndStep, lengthOrPlace};
 ghost use Rattle.batch.specs.Values.{plantHeader, plantEdges, plantHanded, kindsOf, allFloatsOf, sheetHeader, sheetEdges, sheetTimes, sheetHanded};
 
 // A plant file: 0, or the number that it is refused by; out holds place and step. Its values: form, n, N, q, K, D; R lo, R hi, S lo, S hi; the bands; the
-// coefficients.
+// coefficients, the last two as far as there is room.
 #[no_mangle]
 pub extern "C" fn batch_read_plant(
     plant: &[u8],
     header: &mut [usize; 6],
     edges: &mut [[i64; 4]; 4],
-    bands: &mut [i64; BANDS],
-    coef: &mut [i64; COEFFICIENTS],
+    bands: &mut [i64],
+    coef: &mut [i64],
     out: &mut [u64; 2],
 ) -> u64
     ensures number { λ r. ⌜ r ≡ verdictShown (plantRead (now (plant .entry)) .verdict) .number ⌝ }
     ensures place { λ r. ⌜ now (out .exit) ≡ placeAndStep (verdictShown (plantRead (now (plant .entry)) .verdict)) ⌝ }
-    ensures header { λ r. ⌜ now (header .exit) ≡ plantHeader (plantRead (now (plant .entry)) .plant) ⌝ }
-    ensures edges { λ r. ⌜ now (edges .exit) ≡ plantEdges (plantRead (now (plant .entry)) .plant) ⌝ }
-    ensures bands { λ r. ⌜ now (bands .exit) ≡ plantRead (now (plant .entry)) .plant .bands ⌝ }
-    ensures coef { λ r. ⌜ now (coef .exit) ≡ plantRead (now (plant .entry)) .plant .coef ⌝ }
+    ensures header { λ r. ⌜ now (header .exit) ≡ plantHeader (plantRead (now (plant .entry)) .outline) ⌝ }
+    ensures edges { λ r. ⌜ now (edges .exit) ≡ plantEdges (plantRead (now (plant .entry)) .outline) ⌝ }
+    ensures bands { λ r. ⌜ now (bands .exit) ≡ bandsLeft (now (plant .entry)) (now (bands .entry)) ⌝ }
+    ensures coef { λ r. ⌜ now (coef .exit) ≡ coefLeft (now (plant .entry)) (now (coef .entry)) ⌝ }
 {
-    let read = plants::read_plant(plant);
-    let p = read.plant;
+    let read = plants::read_plant(plant, bands, coef);
+    let p = read.outline;
     let rlo = p.rlo;
     let rhi = p.rhi;
     let slo = p.slo;
     let shi = p.shi;
     let sides = [rlo, rhi, slo, shi];
-    let ends = p.bands;
-    let rows = p.coef;
     *header = [p.form, p.n, p.modes, p.q, p.k, p.d];
     *edges = sides;
-    *bands = ends;
-    *coef = rows;
     let verdict = read.verdict;
     shown::verdict(verdict, out)
 }
 
-// The plant file of such values into a lent buffer: 0, or the number of the refusal; out holds the length written, or place and step.
+// The plant file of such values, arrays of any length, into a lent buffer: 0, or the number of the refusal; out holds the length written, or place and step.
 #[no_mangle]
-pub extern "C" fn batch_write_plant(
+pub extern "C" fn batch_write_plant<'a>(
     header: &[usize; 6],
     edges: &[[i64; 4]; 4],
-    bands: &[i64; BANDS],
-    coef: &[i64; COEFFICIENTS],
+    bands: &'a [i64],
+    coef: &'a [i64],
     buf: &mut [u8],
     out: &mut [u64; 2],
 ) -> u64
@@ -69,9 +63,7 @@ pub extern "C" fn batch_write_plant(
     let rhi = edges[1];
     let slo = edges[2];
     let shi = edges[3];
-    let ends = *bands;
-    let rows = *coef;
-    let p = Plant {
+    let p = Outline {
         form: header[0],
         n: header[1],
         modes: header[2],
@@ -82,10 +74,8 @@ pub extern "C" fn batch_write_plant(
         rhi,
         slo,
         shi,
-        bands: ends,
-        coef: rows,
     };
-    let written = plants::write_plant(p, buf);
+    let written = plants::write_plant(p, bands, coef, buf);
     shown::written(written, out)
 }
 

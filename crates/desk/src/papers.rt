@@ -5,14 +5,14 @@
 use libc::STDERR_FILENO;
 ghost use Rattle.io.specs.Counts.{Counts};
 
-// Room for a file of each kind. No plant has more than 1,783 bytes, and a byte more settles any file. No table has more than 30,039; its last number
-// begins at 30,038 at most, and five bytes tell what a number is.
-pub const PLANT: usize = 1_784;
+// Room for a file of each kind. No plant has more than 27,704 bytes, and a byte more settles any file. No table has more than 54,615; its last number
+// begins at 54,613 at most, and five bytes tell what a number is.
+pub const PLANT: usize = 27_705;
 
-pub const TABLE: usize = 30_044;
+pub const TABLE: usize = 54_620;
 
-// More than the 270,476 bytes of the largest.
-pub const START: usize = 300_000;
+// More than the 491,660 bytes of the largest.
+pub const START: usize = 500_000;
 
 // A file that was read, how many of its bytes, and whether that is all of it; or not read, which was told.
 pub struct Paper {

@@ -16,7 +16,8 @@ use Rattle.meaning.specs.Refusals.{refusal}
 use Rattle.meaning.specs.Numbers.{numberAt, signedAt}
 use Rattle.meaning.specs.Boxes.{side, children}
 use Rattle.meaning.specs.Images.{image}
-use Rattle.meaning.specs.Plants.{plantOf, numbersOf, plantRead, plantLeft, stepOf}
+use Rattle.meaning.specs.Files.{good}
+use Rattle.meaning.specs.Plants.{plantOf, plantJudged, plantRead, plantLeft, stepOf}
 use Rattle.meaning.specs.Rules.{rule}
 use Rattle.meaning.specs.Tables.{rulesOf, checked, makerLeft, controlled}
 use Rattle.meaning.specs.Starts.{startChecked, startLeft, startControlled}
@@ -175,7 +176,7 @@ answer-36 : plantRead (0x01 ∷ 0x02 ∷ 0x02 ∷ 0x04 ∷ 0x03 ∷ 0x02 ∷ 0x0
 unfolding computing
 answer-36 = refl
 
-answer-37 : numbersOf (plantRead (0x01 ∷ 0x02 ∷ 0x02 ∷ 0x04 ∷ 0x03 ∷ 0x02 ∷ 0x00 ∷ 0x12 ∷ 0x09 ∷ 0x1c ∷ 0x14 ∷ 0x26 ∷ 0x0a ∷ 0x30 ∷ 0x03 ∷ 0x04 ∷ 0x05 ∷ 0x06 ∷ 0x04 ∷ 0x00 ∷ 0xff ∷ 0x8f ∷ 0xdf ∷ 0xc0 ∷ 0x4a ∷ 0x00 ∷ 0x04 ∷ 0x3a ∷ 0x06 ∷ 0x01 ∷ 0x1e ∷ 0x02 ∷ 0x04 ∷ 0x2e ∷ []) .plant) ≡ pos 1 ∷ pos 2 ∷ pos 2 ∷ pos 4 ∷ pos 3 ∷ pos 2 ∷ pos 0 ∷ pos 9 ∷ negℤ (pos 5) ∷ pos 14 ∷ pos 10 ∷ pos 19 ∷ pos 5 ∷ pos 24 ∷ negℤ (pos 2) ∷ pos 2 ∷ negℤ (pos 3) ∷ pos 3 ∷ pos 2 ∷ pos 0 ∷ negℤ (pos 10000000000) ∷ pos 0 ∷ pos 2 ∷ pos 29 ∷ pos 3 ∷ negℤ (pos 1) ∷ pos 15 ∷ pos 1 ∷ pos 2 ∷ pos 23 ∷ []
+answer-37 : plantJudged (0x01 ∷ 0x02 ∷ 0x02 ∷ 0x04 ∷ 0x03 ∷ 0x02 ∷ 0x00 ∷ 0x12 ∷ 0x09 ∷ 0x1c ∷ 0x14 ∷ 0x26 ∷ 0x0a ∷ 0x30 ∷ 0x03 ∷ 0x04 ∷ 0x05 ∷ 0x06 ∷ 0x04 ∷ 0x00 ∷ 0xff ∷ 0x8f ∷ 0xdf ∷ 0xc0 ∷ 0x4a ∷ 0x00 ∷ 0x04 ∷ 0x3a ∷ 0x06 ∷ 0x01 ∷ 0x1e ∷ 0x02 ∷ 0x04 ∷ 0x2e ∷ []) ≡ good (plantOf (pos 1 ∷ pos 2 ∷ pos 2 ∷ pos 4 ∷ pos 3 ∷ pos 2 ∷ pos 0 ∷ pos 9 ∷ negℤ (pos 5) ∷ pos 14 ∷ pos 10 ∷ pos 19 ∷ pos 5 ∷ pos 24 ∷ negℤ (pos 2) ∷ pos 2 ∷ negℤ (pos 3) ∷ pos 3 ∷ pos 2 ∷ pos 0 ∷ negℤ (pos 10000000000) ∷ pos 0 ∷ pos 2 ∷ pos 29 ∷ pos 3 ∷ negℤ (pos 1) ∷ pos 15 ∷ pos 1 ∷ pos 2 ∷ pos 23 ∷ []))
 unfolding computing
 answer-37 = refl
 
@@ -227,7 +228,7 @@ answer-49 : plantRead (0x01 ∷ 0x02 ∷ 0x02 ∷ 0x04 ∷ 0x03 ∷ 0x02 ∷ 0x0
 unfolding computing
 answer-49 = refl
 
-answer-50 : numbersOf (plantRead (0x01 ∷ 0x02 ∷ 0x02 ∷ 0x04 ∷ 0x03 ∷ 0x02 ∷ 0x00 ∷ 0x12 ∷ 0x09 ∷ 0x1c ∷ 0x14 ∷ 0x26 ∷ 0x0a ∷ 0x30 ∷ 0x03 ∷ 0x04 ∷ 0x05 ∷ 0x06 ∷ 0x04 ∷ 0x00 ∷ 0x12 ∷ 0x00 ∷ 0x04 ∷ 0x3a ∷ 0x06 ∷ 0x01 ∷ 0x1e ∷ 0x02 ∷ 0x04 ∷ 0x2e ∷ []) .plant) ≡ pos 1 ∷ pos 2 ∷ pos 2 ∷ pos 4 ∷ pos 3 ∷ pos 2 ∷ pos 0 ∷ pos 9 ∷ negℤ (pos 5) ∷ pos 14 ∷ pos 10 ∷ pos 19 ∷ pos 5 ∷ pos 24 ∷ negℤ (pos 2) ∷ pos 2 ∷ negℤ (pos 3) ∷ pos 3 ∷ pos 2 ∷ pos 0 ∷ pos 9 ∷ pos 0 ∷ pos 2 ∷ pos 29 ∷ pos 3 ∷ negℤ (pos 1) ∷ pos 15 ∷ pos 1 ∷ pos 2 ∷ pos 23 ∷ []
+answer-50 : plantJudged (0x01 ∷ 0x02 ∷ 0x02 ∷ 0x04 ∷ 0x03 ∷ 0x02 ∷ 0x00 ∷ 0x12 ∷ 0x09 ∷ 0x1c ∷ 0x14 ∷ 0x26 ∷ 0x0a ∷ 0x30 ∷ 0x03 ∷ 0x04 ∷ 0x05 ∷ 0x06 ∷ 0x04 ∷ 0x00 ∷ 0x12 ∷ 0x00 ∷ 0x04 ∷ 0x3a ∷ 0x06 ∷ 0x01 ∷ 0x1e ∷ 0x02 ∷ 0x04 ∷ 0x2e ∷ []) ≡ good (plantOf (pos 1 ∷ pos 2 ∷ pos 2 ∷ pos 4 ∷ pos 3 ∷ pos 2 ∷ pos 0 ∷ pos 9 ∷ negℤ (pos 5) ∷ pos 14 ∷ pos 10 ∷ pos 19 ∷ pos 5 ∷ pos 24 ∷ negℤ (pos 2) ∷ pos 2 ∷ negℤ (pos 3) ∷ pos 3 ∷ pos 2 ∷ pos 0 ∷ pos 9 ∷ pos 0 ∷ pos 2 ∷ pos 29 ∷ pos 3 ∷ negℤ (pos 1) ∷ pos 15 ∷ pos 1 ∷ pos 2 ∷ pos 23 ∷ []))
 unfolding computing
 answer-50 = refl
 
@@ -243,7 +244,7 @@ answer-53 : plantRead (0x01 ∷ 0x03 ∷ 0x03 ∷ 0x08 ∷ 0x02 ∷ 0x01 ∷ 0x1
 unfolding computing
 answer-53 = refl
 
-answer-54 : numbersOf (plantRead (0x01 ∷ 0x03 ∷ 0x03 ∷ 0x08 ∷ 0x02 ∷ 0x01 ∷ 0x17 ∷ 0x16 ∷ 0x3b ∷ 0x32 ∷ 0x0d ∷ 0x0d ∷ 0x27 ∷ 0x0c ∷ 0x06 ∷ 0x24 ∷ 0x11 ∷ 0x50 ∷ 0x07 ∷ 0x08 ∷ 0x05 ∷ 0x08 ∷ 0x09 ∷ 0x04 ∷ 0x0a ∷ 0x02 ∷ 0x00 ∷ 0x05 ∷ 0x02 ∷ 0x04 ∷ 0x01 ∷ 0x4f ∷ 0x00 ∷ 0x03 ∷ 0x08 ∷ 0x4c ∷ 0x08 ∷ 0x01 ∷ 0x02 ∷ 0x12 ∷ 0x00 ∷ 0x06 ∷ 0x02 ∷ 0x41 ∷ 0x02 ∷ 0x02 ∷ 0x06 ∷ 0x28 ∷ 0x06 ∷ 0x00 ∷ 0x03 ∷ 0x15 ∷ 0x02 ∷ 0x02 ∷ 0x04 ∷ 0x77 ∷ 0x01 ∷ 0x00 ∷ 0x0a ∷ 0x52 ∷ []) .plant) ≡ pos 1 ∷ pos 3 ∷ pos 3 ∷ pos 8 ∷ pos 2 ∷ pos 1 ∷ negℤ (pos 12) ∷ pos 11 ∷ negℤ (pos 30) ∷ pos 25 ∷ negℤ (pos 7) ∷ negℤ (pos 7) ∷ negℤ (pos 20) ∷ pos 6 ∷ pos 3 ∷ pos 18 ∷ negℤ (pos 9) ∷ pos 40 ∷ negℤ (pos 4) ∷ pos 4 ∷ negℤ (pos 3) ∷ pos 4 ∷ negℤ (pos 5) ∷ pos 2 ∷ pos 5 ∷ pos 1 ∷ pos 0 ∷ negℤ (pos 3) ∷ pos 1 ∷ pos 2 ∷ negℤ (pos 1) ∷ negℤ (pos 40) ∷ pos 0 ∷ negℤ (pos 2) ∷ pos 4 ∷ pos 38 ∷ pos 4 ∷ negℤ (pos 1) ∷ pos 1 ∷ pos 9 ∷ pos 0 ∷ pos 3 ∷ pos 1 ∷ negℤ (pos 33) ∷ pos 1 ∷ pos 1 ∷ pos 3 ∷ pos 20 ∷ pos 3 ∷ pos 0 ∷ negℤ (pos 2) ∷ negℤ (pos 11) ∷ pos 1 ∷ pos 1 ∷ pos 2 ∷ negℤ (pos 60) ∷ negℤ (pos 1) ∷ pos 0 ∷ pos 5 ∷ pos 41 ∷ []
+answer-54 : plantJudged (0x01 ∷ 0x03 ∷ 0x03 ∷ 0x08 ∷ 0x02 ∷ 0x01 ∷ 0x17 ∷ 0x16 ∷ 0x3b ∷ 0x32 ∷ 0x0d ∷ 0x0d ∷ 0x27 ∷ 0x0c ∷ 0x06 ∷ 0x24 ∷ 0x11 ∷ 0x50 ∷ 0x07 ∷ 0x08 ∷ 0x05 ∷ 0x08 ∷ 0x09 ∷ 0x04 ∷ 0x0a ∷ 0x02 ∷ 0x00 ∷ 0x05 ∷ 0x02 ∷ 0x04 ∷ 0x01 ∷ 0x4f ∷ 0x00 ∷ 0x03 ∷ 0x08 ∷ 0x4c ∷ 0x08 ∷ 0x01 ∷ 0x02 ∷ 0x12 ∷ 0x00 ∷ 0x06 ∷ 0x02 ∷ 0x41 ∷ 0x02 ∷ 0x02 ∷ 0x06 ∷ 0x28 ∷ 0x06 ∷ 0x00 ∷ 0x03 ∷ 0x15 ∷ 0x02 ∷ 0x02 ∷ 0x04 ∷ 0x77 ∷ 0x01 ∷ 0x00 ∷ 0x0a ∷ 0x52 ∷ []) ≡ good (plantOf (pos 1 ∷ pos 3 ∷ pos 3 ∷ pos 8 ∷ pos 2 ∷ pos 1 ∷ negℤ (pos 12) ∷ pos 11 ∷ negℤ (pos 30) ∷ pos 25 ∷ negℤ (pos 7) ∷ negℤ (pos 7) ∷ negℤ (pos 20) ∷ pos 6 ∷ pos 3 ∷ pos 18 ∷ negℤ (pos 9) ∷ pos 40 ∷ negℤ (pos 4) ∷ pos 4 ∷ negℤ (pos 3) ∷ pos 4 ∷ negℤ (pos 5) ∷ pos 2 ∷ pos 5 ∷ pos 1 ∷ pos 0 ∷ negℤ (pos 3) ∷ pos 1 ∷ pos 2 ∷ negℤ (pos 1) ∷ negℤ (pos 40) ∷ pos 0 ∷ negℤ (pos 2) ∷ pos 4 ∷ pos 38 ∷ pos 4 ∷ negℤ (pos 1) ∷ pos 1 ∷ pos 9 ∷ pos 0 ∷ pos 3 ∷ pos 1 ∷ negℤ (pos 33) ∷ pos 1 ∷ pos 1 ∷ pos 3 ∷ pos 20 ∷ pos 3 ∷ pos 0 ∷ negℤ (pos 2) ∷ negℤ (pos 11) ∷ pos 1 ∷ pos 1 ∷ pos 2 ∷ negℤ (pos 60) ∷ negℤ (pos 1) ∷ pos 0 ∷ pos 5 ∷ pos 41 ∷ []))
 unfolding computing
 answer-54 = refl
 

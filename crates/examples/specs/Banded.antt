@@ -7,10 +7,10 @@ use mathlib.Core.List.{List, [], _∷_, _++_}
 use lib.IntN.{ℤ, pos, negℤ}
 use Rattle.meaning.specs.declared.Verdict.{Verdict}
 use Rattle.meaning.specs.Refusals.{wrongForm, unfit, notInSafe, narrow}
-use Rattle.meaning.specs.Files.{fileOf}
+use Rattle.meaning.specs.Files.{fileOf, good}
 use Rattle.meaning.specs.Boxes.{Side, side}
 use Rattle.meaning.specs.Images.{follows, image}
-use Rattle.meaning.specs.Plants.{plantForm, plantOf, numbersOf, plantRead, stepOf}
+use Rattle.meaning.specs.Plants.{plantForm, plantOf, numbersOf, plantJudged, plantRead, stepOf}
 use Rattle.meaning.specs.Computing.{computing}
 
 -- the bytes of reading 13, but for the two of S lo and that of mode 1's w hi
@@ -33,11 +33,11 @@ abbrev file : ℕ → ℕ → List ℕ
 file a b = fileOf plantForm (banded a b)
 
 -- read, and written back as form 2 although its bands are equal; in form 1 the same bands stand for each mode
-bytes : (file 4 4 ≡ P₂) × (plantRead P₂ .verdict ≡ Verdict.Accepted) × (numbersOf (plantRead P₂ .plant) ≡ banded 4 4)
+bytes : (file 4 4 ≡ P₂) × (plantJudged P₂ ≡ good (plantOf (banded 4 4))) × (numbersOf (plantOf (banded 4 4)) ≡ banded 4 4)
 unfolding computing
 bytes = (refl, refl, refl)
 
-alike : plantRead P₂ .plant .bands ≡ plantOf (front 1 ++ negℤ (pos 5) ∷ pos 4 ∷ pos 9 ∷ pos 100 ∷ pos 9 ∷ pos 300 ∷ []) .bands
+alike : plantOf (banded 4 4) .bands ≡ plantOf (front 1 ++ negℤ (pos 5) ∷ pos 4 ∷ pos 9 ∷ pos 100 ∷ pos 9 ∷ pos 300 ∷ []) .bands
 unfolding computing
 alike = refl
 

@@ -6,6 +6,9 @@ ghost use mathlib.Core.Path.{_≡_};
 ghost use Rattle.meaning.specs.Refusals.{answerShown, startAnswerShown};
 ghost use Rattle.face.specs.Answers.{mode, numberAndState, refusalOf, numbersAndState, startRefusalOf};
 
+// No mode: 255 is one.
+const NO_MODE: u64 = 65_535;
+
 // The refusal of an answer that is no mode; of a mode, zeros.
 fn refusal(a: Answer) -> Refusal
     ensures { λ r. ⌜ r ≡ refusalOf a ⌝ }
@@ -20,7 +23,7 @@ fn refusal(a: Answer) -> Refusal
     e
 }
 
-// The mode of a controller's answer, 255 where it is refused; out holds number, place and step of the refusal, then the next state.
+// The mode of a controller's answer, NO_MODE where it is refused; out holds number, place and step of the refusal, then the next state.
 pub fn answer(a: Answer, out: &mut [u64; 5]) -> u64
     ensures mode { λ r. ⌜ r ≡ mode (answerShown a) ⌝ }
     ensures state { λ r. ⌜ now (out .exit) ≡ numberAndState (answerShown a) ⌝ }
@@ -31,7 +34,7 @@ pub fn answer(a: Answer, out: &mut [u64; 5]) -> u64
         let place = e.place as u64;
         let step = e.step as u64;
         *out = [number, place, step, 0, 0];
-        return 255;
+        return NO_MODE;
     };
     let place = next.place as u64;
     let left = next.left as u64;
@@ -53,7 +56,7 @@ fn start_refusal(a: StartAnswer) -> Refusal
     e
 }
 
-// The mode of a start controller's answer, 255 where it is refused; out holds number, place and step of the refusal, then the next state.
+// The mode of a start controller's answer, NO_MODE where it is refused; out holds number, place and step of the refusal, then the next state.
 pub fn start_answer(a: StartAnswer, out: &mut [u64; 6]) -> u64
     ensures mode { λ r. ⌜ r ≡ mode (startAnswerShown a) ⌝ }
     ensures state { λ r. ⌜ now (out .exit) ≡ numbersAndState (startAnswerShown a) ⌝ }
@@ -64,7 +67,7 @@ pub fn start_answer(a: StartAnswer, out: &mut [u64; 6]) -> u64
         let place = e.place as u64;
         let step = e.step as u64;
         *out = [number, place, step, 0, 0, 0];
-        return 255;
+        return NO_MODE;
     };
     let index = next.index as u64;
     let place = next.state.place as u64;

@@ -28,7 +28,7 @@ pub extern "C" fn hoachulim_plant(plant: &[u8], out: &mut [u64; 2]) -> u64
     ensures number { λ r. ⌜ r ≡ verdictShown (plantRead (now (plant .entry)) .verdict) .number ⌝ }
     ensures place { λ r. ⌜ now (out .exit) ≡ placeAndStep (verdictShown (plantRead (now (plant .entry)) .verdict)) ⌝ }
 {
-    let read = plants::read_plant(plant);
+    let read = plants::judge_plant(plant);
     let verdict = read.verdict;
     shown::verdict(verdict, out)
 }
@@ -67,7 +67,7 @@ pub extern "C" fn hoachulim_make(plant: &[u8], buf: &mut [u8], out: &mut [u64; 2
     shown::written(written, out)
 }
 
-// One call of the controller: the mode, 255 where it is refused; out holds number, place and step of the refusal, then the next place and left.
+// One call of the controller: the mode, 65,535 where it is refused; out holds number, place and step of the refusal, then the next place and left.
 #[no_mangle]
 pub extern "C" fn hoachulim_control(
     plant: &[u8],
@@ -124,7 +124,7 @@ pub extern "C" fn hoachulim_start_make(
     shown::written(written, out)
 }
 
-// One call of the controller on a start file: the mode, 255 where it is refused; out holds number, place and step of the refusal, then the next index,
+// One call of the controller on a start file: the mode, 65,535 where it is refused; out holds number, place and step of the refusal, then the next index,
 // place and left.
 #[no_mangle]
 pub extern "C" fn hoachulim_start_control(

@@ -16,3 +16,4 @@ pub mod Drafts
 pub mod DraftLaws
 pub mod Modes
 pub mod Plants
+pub mod PlantLaws

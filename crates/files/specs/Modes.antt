@@ -1,24 +1,25 @@
 -- The modes of a plant's file as the code reads and writes them: what stands behind the bands of mode 0, in either form; what it is that bands and rows
--- were read into the plant's two arrays; and what is to be said of the bands of all modes. Definitions alone.
+-- were read into two lent arrays, as far as these have room: lists of numbers that stand in the file and were stored; and what is to be said of the bands of
+-- all modes. Definitions alone.
 use Prim.Native.Nat.{ℕ, _+_, _-_, _*_, _≤_, _<_}
 use mathlib.Core.Path.{_≡_}
 use mathlib.Core.Bool.{Bool, false, cond}
-use mathlib.Core.List.{List, [], _∷_, _++_, map}
+use mathlib.Core.List.{List, _++_, map}
 use lib.Dec.{ltb}
 use lib.IntN.{ℤ}
-use Rattle.laws.specs.Lists as L
+use lib.ListN.{length}
+use lib.Seq.{sets}
 use Rattle.laws.specs.Lists.{tab, tabs, firstFalse}
-use Rattle.laws.specs.Tabs.{Filled}
 use Rattle.meaning.specs.declared.Verdict.{Verdict}
 use Rattle.meaning.specs.declared.Walk.{Walk}
 use Rattle.meaning.specs.Refusals.{narrow}
 use Rattle.meaning.specs.Files.{Form, end, read, refused, valuesAt, Judged, good}
 use Rattle.meaning.specs.Boxes.{Side, sidesOf}
-use Rattle.meaning.specs.Plants.{times, row, ownBands, modeForm, mostCoefs, coefCount, mostBands, bandCount, bandOf, bandNumbers, rowNumbers, modesNumbers, bandSide, wide, related}
+use Rattle.meaning.specs.Plants.{times, row, ownBands, modeForm, bandOf, bandNumbers, rowNumbers, bandSide, wide, related}
 use Rattle.files.specs.declared.beginnings.Beginning.{Beginning}
 use Rattle.files.specs.declared.modes.ModeRead.{ModeRead}
 use Rattle.files.specs.declared.modes.ModesRead.{ModesRead}
-use Rattle.files.specs.Parts.{Holds, Fails}
+use Rattle.files.specs.Parts.{Holds, Fails, Rows}
 use Rattle.files.specs.Beginnings.{bandsIn, verdictOf}
 
 -- ---- behind the bands of mode 0
@@ -41,24 +42,32 @@ restNumbers form n modes bands coef = restNumbersBy (ownBands form) n modes band
 
 -- ---- read
 
--- bands laid into the array for mode u, which otherwise is as it was, and holds zeros behind them
-pub record Laid (n u : ℕ) (wlo whi bands₀ bands : List ℤ) : Type 0 where
-  pub here : bandNumbers n bands u ≡ tabs (bandOf wlo whi) n 0
-  pub filled : Filled mostBands (2 * n * (u + 1)) bands
-  pub below : (k : ℕ) → k < 2 * n * u → L.at bands k ≡ L.at bands₀ k
+-- one mode's bands, for each of m modes
+abbrev pub endsAlike : ℕ → List ℤ → List ℤ → ℕ → List ℤ
+endsAlike n wlo whi m = tabs (λ _. tabs (bandOf wlo whi) n 0) m 0
 
 -- the bands of mode u
 abbrev pub bandsFrom : ℕ → List ℤ → ℕ → List Side
 bandsFrom n bands u = tab (bandSide n bands u) n 0
 
+-- m modes' numbers, ends of bands and entries of rows
+pub record Numbers (n m : ℕ) (ends entries : List ℤ) : Type 0 where
+  pub ends-long : length ends ≡ 2 * n * m
+  pub entries-long : length entries ≡ n * (n + 1) * m
+
+-- they were stored in the arrays, those of mode u first
+pub record Stored (n u : ℕ) (ends entries bands₀ coef₀ bands coef : List ℤ) : Type 0 where
+  pub bands-stored : bands ≡ sets bands₀ (2 * n * u) ends
+  pub coef-stored : coef ≡ sets coef₀ (n * (n + 1) * u) entries
+
 -- mode u of form 2 was read into the arrays
 pub record ModeHeld (s : List ℕ) (at n q u : ℕ) (bands₀ coef₀ bands coef : List ℤ) (thin next : ℕ) : Type 0 where
-  pub part : Holds (modeForm n) s at (modeNumbers n bands coef u) next
-  pub bands-filled : Filled mostBands (2 * n * (u + 1)) bands
-  pub coef-filled : Filled mostCoefs (n * (n + 1) * (u + 1)) coef
-  pub bands-below : (k : ℕ) → k < 2 * n * u → L.at bands k ≡ L.at bands₀ k
-  pub coef-below : (k : ℕ) → k < n * (n + 1) * u → L.at coef k ≡ L.at coef₀ k
-  pub first : thin ≡ firstFalse (map (wide q) (bandsFrom n bands u))
+  pub ends : List ℤ
+  pub entries : List ℤ
+  pub numbers : Numbers n 1 ends entries
+  pub part : Holds (modeForm n) s at (ends ++ entries) next
+  pub stored : Stored n u ends entries bands₀ coef₀ bands coef
+  pub first : thin ≡ firstFalse (map (wide q) (bandsFrom n ends 0))
 
 abbrev pub ModeAs : List ℕ → ℕ → ℕ → ℕ → ℕ → List ℤ → List ℤ → List ℤ → List ℤ → ℕ → Walk → Type 0
 ModeAs s at n q u bands₀ coef₀ bands coef thin (Walk.Next next) = ModeHeld s at n q u bands₀ coef₀ bands coef thin next
@@ -79,28 +88,38 @@ relatedBy b bands m rest = related (b .q) (sidesOf (b .n) (b .rlo) (b .rhi)) (si
 abbrev pub relationBy : Beginning → List ℤ → ℕ → Verdict
 relationBy b bands m = verdictOf {A = Unit {0}} (relatedBy b bands m λ _. good tt)
 
--- the arrays of all modes, whose numbers stand in the file
-pub record Arrays (s : List ℕ) (b : Beginning) (at : ℕ) (bands coef : List ℤ) (next : ℕ) : Type 0 where
-  pub held : valuesAt (restForm (b .form) (b .n) (b .m)) s at ≡ read (restNumbers (b .form) (b .n) (b .m) bands coef) next
-  pub first : bandNumbers (b .n) bands 0 ≡ bandsIn b
-  pub bands-filled : Filled mostBands (bandCount (b .m) (b .n)) bands
-  pub coef-filled : Filled mostCoefs (coefCount (b .m) (b .n)) coef
-  pub alike : ownBands (b .form) ≡ false → (u : ℕ) → u < b .m → bandNumbers (b .n) bands 0 ≡ bandNumbers (b .n) bands u
+-- the modes of form 2 behind mode 0, of which u - 1 were read; what is to be said of all hangs on what was to be said of mode 0, whatever its bands are
+pub record FurtherTo (s : List ℕ) (b : Beginning) (at u : ℕ) (related told : Verdict) (bands₀ coef₀ bands coef : List ℤ) (p : ℕ) : Type 0 where
+  pub some : 1 ≤ u
+  pub few : u ≤ b .m
+  pub ends : List ℤ
+  pub entries : List ℤ
+  pub numbers : Numbers (b .n) (u - 1) ends entries
+  pub done : Rows (modeForm (b .n)) (modeNumbers (b .n) ends entries) s at (b .m - 1) (u - 1) p
+  pub stored : Stored (b .n) 1 ends entries bands₀ coef₀ bands coef
+  pub verdict : (first : List ℤ) → length first ≡ 2 * b .n → related ≡ relationBy b first 1 → told ≡ relationBy b (first ++ ends) u
 
-abbrev pub ModesAs : List ℕ → Beginning → ℕ → List ℤ → List ℤ → Verdict → Walk → Type 0
-ModesAs s b at bands coef related (Walk.Next next) = Arrays s b at bands coef next × (related ≡ relationBy b bands (b .m))
-ModesAs s b at bands coef related (Walk.Refused e) = valuesAt (restForm (b .form) (b .n) (b .m)) s at ≡ refused e
+abbrev pub FurtherAs : List ℕ → Beginning → ℕ → Verdict → Verdict → List ℤ → List ℤ → List ℤ → List ℤ → Walk → Type 0
+FurtherAs s b at related told bands₀ coef₀ bands coef (Walk.Next next) = FurtherTo s b at (b .m) related told bands₀ coef₀ bands coef next
+FurtherAs s b at related told bands₀ coef₀ bands coef (Walk.Refused e) = Fails (times (b .m - 1) (modeForm (b .n))) s at e
 
-abbrev pub ModesTold : List ℕ → Beginning → ℕ → List ℤ → List ℤ → ModesRead → Type 0
-ModesTold s b at bands coef r = ModesAs s b at bands coef (r .related) (r .answer)
+abbrev pub FurtherTold : List ℕ → Beginning → Verdict → ℕ → List ℤ → List ℤ → List ℤ → List ℤ → ModesRead → Type 0
+FurtherTold s b related at bands₀ coef₀ bands coef r = FurtherAs s b at related (r .related) bands₀ coef₀ bands coef (r .answer)
 
--- the same of form 1: every mode has the bands of the beginning
-pub record AlikeHeld (s : List ℕ) (b : Beginning) (at : ℕ) (bands coef : List ℤ) (next : ℕ) : Type 0 where
-  pub held : valuesAt (restBy false (b .n) (b .m)) s at ≡ read (restNumbersBy false (b .n) (b .m) bands coef) next
-  pub each : (u : ℕ) → u < b .m → bandNumbers (b .n) bands u ≡ bandsIn b
-  pub bands-filled : Filled mostBands (bandCount (b .m) (b .n)) bands
-  pub coef-filled : Filled mostCoefs (coefCount (b .m) (b .n)) coef
+-- all modes were read into the arrays
+pub record ModesHeld (s : List ℕ) (b : Beginning) (at : ℕ) (bands₀ coef₀ bands coef : List ℤ) (told : Verdict) (next : ℕ) : Type 0 where
+  pub ends : List ℤ
+  pub entries : List ℤ
+  pub numbers : Numbers (b .n) (b .m) ends entries
+  pub held : valuesAt (restForm (b .form) (b .n) (b .m)) s at ≡ read (restNumbers (b .form) (b .n) (b .m) ends entries) next
+  pub first : bandNumbers (b .n) ends 0 ≡ bandsIn b
+  pub alike : ownBands (b .form) ≡ false → (u : ℕ) → u < b .m → bandNumbers (b .n) ends 0 ≡ bandNumbers (b .n) ends u
+  pub stored : Stored (b .n) 0 ends entries bands₀ coef₀ bands coef
+  pub verdict : told ≡ relationBy b ends (b .m)
 
-abbrev pub AlikeTold : List ℕ → Beginning → ℕ → List ℤ → List ℤ → Walk → Type 0
-AlikeTold s b at bands coef (Walk.Next next) = AlikeHeld s b at bands coef next
-AlikeTold s b at bands coef (Walk.Refused e) = valuesAt (restBy false (b .n) (b .m)) s at ≡ refused e
+abbrev pub ModesAs : List ℕ → Beginning → ℕ → List ℤ → List ℤ → List ℤ → List ℤ → Verdict → Walk → Type 0
+ModesAs s b at bands₀ coef₀ bands coef told (Walk.Next next) = ModesHeld s b at bands₀ coef₀ bands coef told next
+ModesAs s b at bands₀ coef₀ bands coef told (Walk.Refused e) = valuesAt (restForm (b .form) (b .n) (b .m)) s at ≡ refused e
+
+abbrev pub ModesTold : List ℕ → Beginning → ℕ → List ℤ → List ℤ → List ℤ → List ℤ → ModesRead → Type 0
+ModesTold s b at bands₀ coef₀ bands coef r = ModesAs s b at bands₀ coef₀ bands coef (r .related) (r .answer)

@@ -7,13 +7,12 @@ use native.Mathlib.Omega.{arith}
 use native.Mathlib.Nat.{suc-mul, zero-mul, zero-add}
 use lib.Dec.{ltb}
 use lib.IntN.{ℤ}
+use lib.ListN.{length}
+use lib.Seq.{sets}
 use borrow.Author.Tests.{lt-ltb, le-ltb}
-use Rattle.laws.specs.Lists as L
-use Rattle.laws.specs.Lists.{tab}
-use Rattle.laws.specs.Tabs.{Filled}
 use Rattle.meaning.specs.declared.Walk.{Walk}
 use Rattle.meaning.specs.Files.{Form}
-use Rattle.meaning.specs.Plants.{entryLimit, offsetLimit, limited, times, row, mostCoefs}
+use Rattle.meaning.specs.Plants.{entryLimit, offsetLimit, limited, times, row}
 use Rattle.files.specs.Parts.{Holds, Fails}
 
 abbrev pub limitAt : ℕ → ℕ → ℕ
@@ -46,11 +45,12 @@ rows-entries n (suc m) rest =
     let z : suc m * (n + 1) ≡ suc (n + m * (n + 1)) = suc-mul m (n + 1) ∙ omega arith in
     ap (row n) (rows-entries n m rest) ∙ row-entries n n 0 (m * (n + 1)) rest (omega arith) ∙ rw z refl
 
--- `count` rows stand in the file and from `from` on in the array, which is otherwise as it was, and holds zeros behind them
+-- `count` rows stand in the file, and from `from` on in the array, as far as there is room; otherwise it is as it was
 pub record RowsRead (s : List ℕ) (at n count from : ℕ) (coef₀ coef : List ℤ) (next : ℕ) : Type 0 where
-  pub part : Holds (times count (row n)) s at (tab (L.at coef) (count * (n + 1)) from) next
-  pub filled : Filled mostCoefs (from + count * (n + 1)) coef
-  pub below : (k : ℕ) → k < from → L.at coef k ≡ L.at coef₀ k
+  pub values : List ℤ
+  pub long : length values ≡ count * (n + 1)
+  pub part : Holds (times count (row n)) s at values next
+  pub stored : coef ≡ sets coef₀ from values
 
 abbrev pub RowsTold : List ℕ → ℕ → ℕ → ℕ → ℕ → List ℤ → List ℤ → Walk → Type 0
 RowsTold s at n count from coef₀ coef (Walk.Next next) = RowsRead s at n count from coef₀ coef next

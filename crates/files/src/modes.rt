@@ -1,25 +1,24 @@
-// The modes of a plant's file: the bands and rows of each, read into the plant's two arrays, and written. In form 1 one band for each dimension holds for
-// all modes, in form 2 each mode has its own. In either form the bands of mode 0 stand right behind the edges, so they come with the beginning.
-// Relies on bounds and rows. Leaves out what stands in front of them, and leftover bytes.
+// The modes of a plant's file: the bands and rows of each, read into two lent arrays as far as these have room, and written. In form 1 one band for each
+// dimension holds for all modes, in form 2 each mode has its own. In either form the bands of mode 0 stand right behind the edges, so they come with the
+// beginning. Relies on bounds, rows and arrays. Leaves out what stands in front of them, and leftover bytes.
+use crate::arrays;
 use crate::beginnings::Beginning;
 use crate::bounds;
 use crate::refusals;
 use crate::rows;
-use meaning::BANDS;
-use meaning::COEFFICIENTS;
 use meaning::Verdict;
 use meaning::Walk;
 ghost use mathlib.Core.Path.{_≡_};
-ghost use mathlib.Core.Bool.{true, false};
+ghost use mathlib.Core.Bool.{true};
 ghost use Prim.Native.Nat.{_+_, _*_, _≤_, _<_};
-ghost use lib.ListN.{length, replicate};
-ghost use lib.IntN.{pos};
-ghost use Rattle.laws.specs.Tabs.{Filled};
+ghost use lib.ListN.{length};
+ghost use lib.Seq.{sets};
+ghost use Rattle.laws.specs.Lists.{tabs};
 ghost use Rattle.laws.specs.Writing.{Put};
-ghost use Rattle.meaning.specs.Plants.{plantForms, mostModes, ownBands, mostBands, mostCoefs};
+ghost use Rattle.meaning.specs.Plants.{plantForms, mostModes, ownBands, bandOf};
 ghost use Rattle.files.specs.Signed.{signedBytes};
 ghost use Rattle.files.specs.Beginnings.{relation, Begun};
-ghost use Rattle.files.specs.Modes.{Laid, ModeTold, afterMode, AlikeTold, ModesTold, restNumbers};
+ghost use Rattle.files.specs.Modes.{endsAlike, ModeTold, afterMode, FurtherTold, ModesTold, restNumbers};
 
 // The place behind the modes, and what is to be said of R, S and the bands of all modes.
 pub struct ModesRead {
@@ -33,48 +32,35 @@ pub struct ModeRead {
     pub thin: usize,
 }
 
-// The bands of mode u, laid into the array behind those of the modes before it.
-fn lay(n: usize, u: usize, wlo: [i64; 4], whi: [i64; 4], bands: &mut [i64; BANDS])
-    requires { ⌜ (n ≤ 4) × (u < mostModes) × Filled mostBands (2 * n * u) (now bands) ⌝ }
-    ensures { λ _. ⌜ Laid n u wlo whi (now (bands .entry)) (now (bands .exit)) ⌝ }
+// The bands of mode u, laid into the array behind those of the modes before it, as far as there is room.
+fn lay(n: usize, u: usize, wlo: [i64; 4], whi: [i64; 4], bands: &mut [i64])
+    requires { ⌜ (n ≤ 4) × (u < mostModes) ⌝ }
+    ensures { λ _. ⌜ now (bands .exit) ≡ sets (now (bands .entry)) (2 * n * u) (tabs (bandOf wlo whi) n 0) ⌝ }
 {
     let from = 2 * n * u;
     let mut i: usize = 0;
     while i < n {
         let lo = wlo[i];
         let hi = whi[i];
-        bands[from + 2 * i] = lo;
-        bands[from + 2 * i + 1] = hi;
+        arrays::store(bands, from + 2 * i, lo);
+        arrays::store(bands, from + 2 * i + 1, hi);
         i += 1;
     }
 }
 
-// The modes of form 1: the beginning's bands, which each mode has from the one before it, and then all rows.
-fn read_alike(
-    s: &[u8],
-    b: Beginning,
-    at: usize,
-    bands: &mut [i64; BANDS],
-    coef: &mut [i64; COEFFICIENTS],
-) -> Walk
-    requires begun { ⌜ Begun plantForms mostModes (now s) b at ⌝ }
-    requires zeros { ⌜ (now bands ≡ replicate mostBands (pos 0)) × (now coef ≡ replicate mostCoefs (pos 0)) ⌝ }
-    ensures { λ r. ⌜ AlikeTold (now (s .entry)) b at (now (bands .exit)) (now (coef .exit)) r ⌝ }
+// The same bands laid for each mode, as far as there is room.
+fn lay_alike(n: usize, modes: usize, wlo: [i64; 4], whi: [i64; 4], bands: &mut [i64])
+    requires { ⌜ (n ≤ 4) × (modes ≤ mostModes) ⌝ }
+    ensures { λ _. ⌜ now (bands .exit) ≡ sets (now (bands .entry)) 0 (endsAlike n wlo whi modes) ⌝ }
 {
-    let n = b.n;
-    let modes = b.m;
-    let wlo = b.wlo;
-    let whi = b.whi;
-    lay(n, 0, wlo, whi, bands);
-    let size = 2 * n;
-    let ends = size * modes;
-    let mut k = size;
-    while k < ends {
-        let end = bands[k - size];
-        bands[k] = end;
-        k += 1;
+    let mut u: usize = 0;
+    while u < modes {
+        if bands.len() <= 2 * n * u {
+            return;
+        }
+        lay(n, u, wlo, whi, bands);
+        u += 1;
     }
-    rows::read_rows(s, at, n, modes * n, 0, coef)
 }
 
 // Mode u of form 2: its bands and then its rows, each into its array.
@@ -84,11 +70,10 @@ fn read_mode(
     n: usize,
     q: usize,
     u: usize,
-    bands: &mut [i64; BANDS],
-    coef: &mut [i64; COEFFICIENTS],
+    bands: &mut [i64],
+    coef: &mut [i64],
 ) -> ModeRead
     requires sizes { ⌜ (n ≤ 4) × (q ≤ 10_000) × (u < mostModes) ⌝ }
-    requires filled { ⌜ Filled mostBands (2 * n * u) (now bands) × Filled mostCoefs (n * (n + 1) * u) (now coef) ⌝ }
     ensures { λ r. ⌜ ModeTold (now (s .entry)) at n q u (now (bands .entry)) (now (coef .entry)) (now (bands .exit)) (now (coef .exit)) r ⌝ }
 {
     let read = bounds::read_bands(s, at, n);
@@ -126,32 +111,21 @@ fn after(related: Verdict, n: usize, u: usize, thin: usize) -> Verdict
     }
 }
 
-// The modes of form 2: the rows of mode 0, and then bands and rows of each further mode.
-fn read_own(
+// The modes of form 2 behind mode 0, whose rows end at `at`: bands and rows of each.
+fn read_further(
     s: &[u8],
     b: Beginning,
     related: Verdict,
     at: usize,
-    bands: &mut [i64; BANDS],
-    coef: &mut [i64; COEFFICIENTS],
+    bands: &mut [i64],
+    coef: &mut [i64],
 ) -> ModesRead
-    requires begun { ⌜ Begun plantForms mostModes (now s) b at × (ownBands (b .form) ≡ true) × (related ≡ relation b) ⌝ }
-    requires zeros { ⌜ (now bands ≡ replicate mostBands (pos 0)) × (now coef ≡ replicate mostCoefs (pos 0)) ⌝ }
-    ensures { λ r. ⌜ ModesTold (now (s .entry)) b at (now (bands .exit)) (now (coef .exit)) r ⌝ }
+    requires { ⌜ (b .n ≤ 4) × (b .q ≤ 10_000) × (1 ≤ b .m) × (b .m ≤ mostModes) ⌝ }
+    ensures { λ r. ⌜ FurtherTold (now (s .entry)) b related at (now (bands .entry)) (now (coef .entry)) (now (bands .exit)) (now (coef .exit)) r ⌝ }
 {
     let n = b.n;
-    let wlo = b.wlo;
-    let whi = b.whi;
-    lay(n, 0, wlo, whi, bands);
-    let first = rows::read_rows(s, at, n, n, 0, coef);
-    let Walk::Next(mid) = first else {
-        return ModesRead {
-            answer: first,
-            related,
-        };
-    };
     let mut told = related;
-    let mut p = mid;
+    let mut p = at;
     let mut u: usize = 1;
     while u < b.m {
         let mode = read_mode(s, p, n, b.q, u, bands, coef);
@@ -172,24 +146,54 @@ fn read_own(
     }
 }
 
-// The modes behind a beginning, into two arrays of zeros.
+// The modes of form 2: the rows of mode 0, and then each further mode.
+fn read_own(
+    s: &[u8],
+    b: Beginning,
+    related: Verdict,
+    at: usize,
+    bands: &mut [i64],
+    coef: &mut [i64],
+) -> ModesRead
+    requires { ⌜ Begun plantForms mostModes (now s) b at × (ownBands (b .form) ≡ true) × (related ≡ relation b) ⌝ }
+    ensures { λ r. ⌜ ModesTold (now (s .entry)) b at (now (bands .entry)) (now (coef .entry)) (now (bands .exit)) (now (coef .exit)) r ⌝ }
+{
+    let n = b.n;
+    let wlo = b.wlo;
+    let whi = b.whi;
+    lay(n, 0, wlo, whi, bands);
+    let first = rows::read_rows(s, at, n, n, 0, coef);
+    let Walk::Next(mid) = first else {
+        return ModesRead {
+            answer: first,
+            related,
+        };
+    };
+    read_further(s, b, related, mid, bands, coef)
+}
+
+// The modes behind a beginning: in form 1 its bands hold for each of them, and all rows follow.
 pub fn read_modes(
     s: &[u8],
     b: Beginning,
     related: Verdict,
     at: usize,
-    bands: &mut [i64; BANDS],
-    coef: &mut [i64; COEFFICIENTS],
+    bands: &mut [i64],
+    coef: &mut [i64],
 ) -> ModesRead
-    requires begun { ⌜ Begun plantForms mostModes (now s) b at × (related ≡ relation b) ⌝ }
-    requires zeros { ⌜ (now bands ≡ replicate mostBands (pos 0)) × (now coef ≡ replicate mostCoefs (pos 0)) ⌝ }
-    ensures { λ r. ⌜ ModesTold (now (s .entry)) b at (now (bands .exit)) (now (coef .exit)) r ⌝ }
+    requires { ⌜ Begun plantForms mostModes (now s) b at × (related ≡ relation b) ⌝ }
+    ensures { λ r. ⌜ ModesTold (now (s .entry)) b at (now (bands .entry)) (now (coef .entry)) (now (bands .exit)) (now (coef .exit)) r ⌝ }
 {
     if b.form == 2 {
         return read_own(s, b, related, at, bands, coef);
     }
+    let n = b.n;
+    let modes = b.m;
+    let wlo = b.wlo;
+    let whi = b.whi;
+    lay_alike(n, modes, wlo, whi, bands);
     ModesRead {
-        answer: read_alike(s, b, at, bands, coef),
+        answer: rows::read_rows(s, at, n, modes * n, 0, coef),
         related,
     }
 }
@@ -201,8 +205,8 @@ pub fn put_modes(
     form: usize,
     n: usize,
     modes: usize,
-    bands: &[i64; BANDS],
-    coef: &[i64; COEFFICIENTS],
+    bands: &[i64],
+    coef: &[i64],
 ) -> usize
     requires sizes { ⌜ (n ≤ 4) × (modes ≤ mostModes) ⌝ }
     requires place { ⌜ at ≤ length (now buf) + 1 ⌝ }

@@ -1,9 +1,8 @@
-// The rows of a plant's modes: one flat array filled with zeros, then with the rows, number by number in file order; and numbers of an array written.
-// Relies on fields.
+// The rows of a plant's modes, read into one flat array, number by number in file order; and numbers of an array written. Relies on fields and arrays.
 // Leaves out which entry means what: row and column are told by the place alone.
+use crate::arrays;
 use crate::fields;
 use crate::numbers;
-use meaning::COEFFICIENTS;
 use meaning::Signed;
 use meaning::Walk;
 ghost use mathlib.Core.Path.{_≡_};
@@ -12,7 +11,6 @@ ghost use lib.ListN.{length};
 ghost use lib.IntN.{pos, negℤ};
 ghost use Rattle.laws.specs.Lists;
 ghost use Rattle.laws.specs.Lists.{tab};
-ghost use Rattle.laws.specs.Tabs.{Filled};
 ghost use Rattle.laws.specs.Writing.{Put};
 ghost use Rattle.meaning.specs.Plants.{mostCoefs};
 ghost use Rattle.files.specs.Fields.{rangedAt};
@@ -36,16 +34,9 @@ fn next_column(n: usize, column: usize) -> usize
     if column < n { column + 1 } else { 0 }
 }
 
-// `count` rows into the array from `from` on, behind which it holds zeros; it is lent, so that no copy of it is handed back. The place behind them.
-pub fn read_rows(
-    s: &[u8],
-    at: usize,
-    n: usize,
-    count: usize,
-    from: usize,
-    coef: &mut [i64; COEFFICIENTS],
-) -> Walk
-    requires { ⌜ (n ≤ 4) × (from + count * (n + 1) ≤ mostCoefs) × Filled mostCoefs from (now coef) ⌝ }
+// `count` rows into the array from `from` on, as far as there is room; the place behind them in the file.
+pub fn read_rows(s: &[u8], at: usize, n: usize, count: usize, from: usize, coef: &mut [i64]) -> Walk
+    requires { ⌜ (n ≤ 4) × (from + count * (n + 1) ≤ mostCoefs) ⌝ }
     ensures { λ r. ⌜ RowsTold (now (s .entry)) at n count from (now (coef .entry)) (now (coef .exit)) r ⌝ }
 {
     let entries = count * (n + 1);
@@ -56,7 +47,7 @@ pub fn read_rows(
         let Signed::Value(v, next) = entry(s, p, n, column) else {
             return Walk::Refused(fields::fault(s, p));
         };
-        coef[from + c] = v;
+        arrays::store(coef, from + c, v);
         p = next;
         column = next_column(n, column);
         c += 1;
@@ -64,15 +55,15 @@ pub fn read_rows(
     Walk::Next(p)
 }
 
-// `count` numbers of an array, from `from` on, written from `at` on as far as there is room; the place behind them.
+// `count` numbers of an array, from `from` on, those that it lacks being 0, written from `at` on as far as there is room; the place behind them.
 pub fn put_some(buf: &mut [u8], at: usize, values: &[i64], from: usize, count: usize) -> usize
-    requires { ⌜ (from + count ≤ length (now values)) × (length (now values) ≤ mostCoefs) ⌝ ∗ ⌜ at ≤ length (now buf) + 1 ⌝ }
+    requires { ⌜ from + count ≤ mostCoefs ⌝ ∗ ⌜ at ≤ length (now buf) + 1 ⌝ }
     ensures { λ r. ⌜ Put (now (buf .entry)) at (signedBytes (tab (Lists.at (now (values .entry))) count from)) r (now (buf .exit)) ⌝ }
 {
     let mut p = at;
     let mut c: usize = 0;
     while c < count {
-        let v = values[from + c];
+        let v = arrays::number(values, from + c);
         p = numbers::put_signed(buf, p, v);
         c += 1;
     }

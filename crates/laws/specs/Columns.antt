@@ -10,7 +10,7 @@ use lib.ListN.{length, getD, drop, replicate, List·getD-append, List·getD-eq-d
 use lib.Seq.{drop-cons, getD-append-add, ext-getD}
 use lib.IntN.{ℤ, pos}
 use Rattle.laws.specs.Lists.{at, tab, tabs, padded}
-use Rattle.laws.specs.Tabs.{length-tab, getD-tab, length-tabs, getD-tabs, padding-size, FilledBy, Filled}
+use Rattle.laws.specs.Tabs.{length-tab, getD-tab, tab-same, length-tabs, getD-tabs, padding-size, FilledBy, Filled}
 
 -- ---- put together
 
@@ -87,7 +87,7 @@ padding-filled {A} z f m n h = record { size = padding-size z f m n h; rest = λ
 pub padded-filled : (f : ℕ → ℤ) (m n : ℕ) → n ≤ m → Filled m n (padded m (pos 0) (tab f n 0))
 padded-filled f m n h = padding-filled (pos 0) f m n h
 
--- ---- lists of one length, taken out of a list where each begins, and made up
+-- ---- lists of one length, taken out of a list where each begins
 
 -- the same entries from another place on
 pub tab-moved : {A : Type 0} (f g : ℕ → A) (m i j : ℕ) → ((k : ℕ) → k < m → f (i + k) ≡ g (j + k)) → tab f m i ≡ tab g m j
@@ -99,7 +99,19 @@ tab-moved {A} f g (suc m) i j h =
     let first : f i ≡ g j = rw (a, b) at (h 0 (omega arith)) in
     rw (first, tab-moved f g m (i + 1) (j + 1) (λ k l. let c : i + 1 + k ≡ i + suc k = omega arith in let d : j + 1 + k ≡ j + suc k = omega arith in rw (c, d) (h (suc k) (omega arith)))) refl
 
-module _ (vs : List ℤ) (w : ℕ) (g : ℕ → ℕ) (m most : ℕ) where
+-- entries in front of a seam, and those behind it
+pub tab-front : (xs ys : List ℤ) (w i : ℕ) → i + w ≤ length xs → tab (at (xs ++ ys)) w i ≡ tab (at xs) w i
+tab-front xs ys w i h = tab-same (at (xs ++ ys)) (at xs) w i (λ k a b. List·getD-append xs ys (pos 0) k (omega arith))
+
+pub tab-behind : (xs ys : List ℤ) (w i j : ℕ) → length xs + j ≡ i → tab (at (xs ++ ys)) w i ≡ tab (at ys) w j
+tab-behind xs ys w i j e =
+    tab-moved (at (xs ++ ys)) (at ys) w i j (λ k h. let q : i + k ≡ length xs + (j + k) = omega arith in rw q (getD-append-add xs ys (j + k) (pos 0)))
+
+-- all of them
+pub tab-back : (xs ys : List ℤ) (w i : ℕ) → length xs ≡ i → length ys ≡ w → tab (at (xs ++ ys)) w i ≡ ys
+tab-back xs ys w i e f = tab-behind xs ys w i 0 (omega arith) ∙ ap (λ (c : ℕ). tab (at ys) c 0) (sym f) ∙ tab-at ys
+
+module _ (vs : List ℤ) (w : ℕ) (g : ℕ → ℕ) (m : ℕ) where
   -- w entries from g u on, for each u below m
   abbrev pub parted : List ℤ
   parted = tabs (λ u. tab (at vs) w (g u)) m 0
@@ -107,19 +119,12 @@ module _ (vs : List ℤ) (w : ℕ) (g : ℕ → ℕ) (m most : ℕ) where
   pub parted-long : length parted ≡ w * m
   parted-long = length-tabs (λ u. tab (at vs) w (g u)) w (λ u. length-tab (at vs) w (g u)) m 0
 
-  pub parted-at : (u j : ℕ) → u < m → j < w → at (padded most (pos 0) parted) (w * u + j) ≡ at vs (g u + j)
+  pub parted-at : (u j : ℕ) → u < m → j < w → at parted (w * u + j) ≡ at vs (g u + j)
   parted-at u j h l =
-      let inside : w * suc u ≤ w * m = mul-le-mul (le-refl w) h in
-      List·getD-append parted (replicate (most - length parted) (pos 0)) (pos 0) (w * u + j) (omega (arith, parted-long))
-      ∙ getD-tabs (λ u. tab (at vs) w (g u)) w (λ u. length-tab (at vs) w (g u)) (pos 0) m 0 u j h l
+      getD-tabs (λ u. tab (at vs) w (g u)) w (λ u. length-tab (at vs) w (g u)) (pos 0) m 0 u j h l
       ∙ ap (λ (k : ℕ). at (tab (at vs) w (g k)) j) (zero-add u)
       ∙ getD-tab (at vs) (pos 0) w (g u) j l
 
-  pub parted-filled : w * m ≤ most → Filled most (w * m) (padded most (pos 0) parted)
-  parted-filled h =
-      let e : tab (at parted) (w * m) 0 ≡ parted = ap (λ (c : ℕ). tab (at parted) c 0) (sym parted-long) ∙ tab-at parted in
-      subst (λ (l : List ℤ). Filled most (w * m) (padded most (pos 0) l)) e (padded-filled (at parted) most (w * m) h)
-
   -- part u is found where it was put
-  pub parted-tab : (u : ℕ) → u < m → tab (at (padded most (pos 0) parted)) w (w * u) ≡ tab (at vs) w (g u)
-  parted-tab u h = tab-moved (at (padded most (pos 0) parted)) (at vs) w (w * u) (g u) (λ k l. parted-at u k h l)
+  pub parted-tab : (u : ℕ) → u < m → tab (at parted) w (w * u) ≡ tab (at vs) w (g u)
+  parted-tab u h = tab-moved (at parted) (at vs) w (w * u) (g u) (λ k l. parted-at u k h l)

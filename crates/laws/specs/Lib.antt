@@ -9,6 +9,7 @@ pub mod Integers
 pub mod Lists
 pub mod Rounding
 pub mod Standing
+pub mod Stored
 pub mod Tabs
 pub mod Tests
 pub mod Writing

@@ -8,7 +8,7 @@ use figures::texts;
 use files::numbers;
 use files::plants;
 use meaning::Number;
-use meaning::Plant;
+use meaning::Outline;
 use meaning::Written;
 use tables::makes;
 
@@ -162,7 +162,7 @@ fn walk(shown: bool, n: usize, d: usize, table: &[u8], root: Bx) -> Tally {
 }
 
 // The first `length` bytes of a table's buffer, made for that plant.
-fn show_table(p: Plant, buf: &[u8], length: usize) {
+fn show_table(p: Outline, buf: &[u8], length: usize) {
     if buf.len() < length {
         return;
     }
@@ -182,13 +182,13 @@ pub fn show_part(n: usize, d: usize, i: usize, table: &[u8], root: Bx) {
 
 // The listing of a plant's file, or its refusal.
 pub fn list(plant: &[u8]) {
-    let mut room = [0u8; 30039];
+    let mut room = [0u8; 54_615];
     let table: &mut [u8] = &mut room;
     match makes::make(plant, table) {
         Written::Refused(e) => tellings::tell_place(e),
         Written::Length(length) => {
-            let read = plants::read_plant(plant);
-            let p = read.plant;
+            let read = plants::judge_plant(plant);
+            let p = read.outline;
             show_table(p, table, length);
         }
     }

@@ -7,7 +7,7 @@ use desk::tellings;
 use files::numbers;
 use files::plants;
 use meaning::Number;
-use meaning::Plant;
+use meaning::Outline;
 use meaning::Signed;
 use meaning::Verdict;
 use tables::start_checks;
@@ -56,7 +56,7 @@ fn past_boxes(n: usize, m: usize, start: &[u8], at: usize) -> usize {
 }
 
 // The table of box i, whose length stands at a place, and the place behind it.
-fn show_part(p: Plant, i: usize, start: &[u8], at: usize, b: Bx) -> usize {
+fn show_part(p: Outline, i: usize, start: &[u8], at: usize, b: Bx) -> usize {
     let Number::Value(size, first) = numbers::number(start, at) else {
         return at;
     };
@@ -72,7 +72,7 @@ fn show_part(p: Plant, i: usize, start: &[u8], at: usize, b: Bx) -> usize {
 }
 
 // R's table, and those of the m boxes whose edges stand at a place.
-fn show_parts(p: Plant, m: usize, start: &[u8], at: usize) {
+fn show_parts(p: Outline, m: usize, start: &[u8], at: usize) {
     let lo = p.rlo;
     let hi = p.rhi;
     let mut edges_at = at;
@@ -97,8 +97,8 @@ pub fn list(plant: &[u8], start: &[u8]) {
             let Number::Value(m, next) = numbers::number(start, past_form) else {
                 return;
             };
-            let read = plants::read_plant(plant);
-            show_parts(read.plant, m, start, next);
+            let read = plants::judge_plant(plant);
+            show_parts(read.outline, m, start, next);
         }
     }
 }

@@ -1,12 +1,11 @@
 -- The controller (document 01, "The controller", rows 11 and 12, and the order of judgement): what a call answers for every table, checked or
 -- not, every state and every reading. Plant and table header come first (page Tables puts the plant in front), then 12, 11, then the tree.
 use Prim.Native.Nat.{ℕ, zero, suc, _+_}
-use mathlib.Core.Bool.{Bool, false, _&&_}
+use mathlib.Core.Bool.{Bool, true, false, _&&_}
 use mathlib.Core.List.{List, [], _∷_}
 use lib.ListN.{length}
-use lib.Dec.{ltb, leb, eqb}
+use lib.Dec.{leb, eqb}
 use Rattle.laws.specs.Guards.{guard, choose}
-use Rattle.meaning.specs.declared.Number.{Number}
 use Rattle.meaning.specs.declared.Tried.the-variants.{Works}
 use Rattle.meaning.specs.declared.Walk.{Walk}
 use Rattle.meaning.specs.declared.Found.{Found}
@@ -52,14 +51,14 @@ abbrev pub onFound : List ℕ → Found → Answer
 onFound s (Found.Refused e) = Answer.Refused e
 onFound s (Found.Tile from k) = modeAt s from k
 
--- the number at a place is a mode
-abbrev pub isMode : ℕ → Number → Bool
-isMode N Number.Broken = false
-isMode N (Number.Value u next) = ltb u N
+-- modes were read: none runs off the table, is broken, or is not below N
+abbrev pub areRead : Read (List ℕ) → Bool
+areRead (refused e) = false
+areRead (read us next) = true
 
--- left above 0: left at most K, place at least 2, place plus left within the table, the mode there below N
+-- left above 0: left at most K, place at least 2, and the modes left can be read from the place on (request 2026-08)
 abbrev pub canRun : ℕ → ℕ → List ℕ → ℕ → ℕ → Bool
-canRun K N s place left = leb left K && leb 2 place && leb (place + left) (length s) && isMode N (numberAt s place)
+canRun K N s place left = leb left K && leb 2 place && areRead (modesAt N left s place)
 
 module _ (r : Rules) where
   open Rules r using (Box, Reading, children, root, safe, n, D, K, N)

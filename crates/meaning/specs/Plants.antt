@@ -1,15 +1,17 @@
--- Plant files (document 01, "Plant file" and the ranges above it; form 2 of request 2026-09), read and written by one form; and what a mode of a plant
+-- Plant files (document 01, "Plant file" and the ranges above it; form 2 of request 2026-09, 256 modes of request 2026-08), read and written by one form; and what a mode of a plant
 -- does.
 use Prim.Native.Nat.{ℕ, zero, suc, _+_, _*_}
 use mathlib.Core.Bool.{Bool, _&&_, cond}
 use mathlib.Core.List.{List, [], _∷_, _++_, map}
 use lib.Dec.{leb, eqb}
 use lib.IntN.{ℤ, pos, natAbs, negℤ, _-ℤ_}
+use lib.ListN.{length, replicate}
+use lib.Seq.{sets}
 use lib.Signed.{leZ}
 use Rattle.laws.specs.Guards.{guard}
 use Rattle.laws.specs.Lists.{at, tab, tabs, padded, all, firstFalse}
 use Rattle.meaning.specs.declared.Verdict.{Verdict}
-use Rattle.meaning.specs.declared.Plant.{Plant}
+use Rattle.meaning.specs.declared.Outline.{Outline}
 use Rattle.meaning.specs.declared.PlantRead.{PlantRead}
 use Rattle.meaning.specs.Refusals.{wrongForm, unfit, notInSafe, narrow}
 use Rattle.meaning.specs.Files.{plain, signed, Form, end, field, Read, read, refused, valuesOf, Judged, good, bad, fileOf, fileJudged}
@@ -118,9 +120,9 @@ modesAlike n modes = bands n (times (modes * n) (row n) end)
 abbrev pub modesForm : ℕ → ℕ → ℕ → Form
 modesForm form n modes = cond (ownBands form) (modesOwn n modes) (modesAlike n modes)
 
--- N 1..16
+-- N 1..256 (document 01: 16; request 2026-08)
 abbrev pub mostModes : ℕ
-mostModes = 16
+mostModes = 256
 
 -- form, n, N, q, K, D; for each dimension R and S; the modes
 unfoldable pub plantForm : Form
@@ -128,21 +130,37 @@ plantForm = headed plantForms mostModes λ form n modes. edges n (modesForm form
 
 -- ---- a plant and the numbers of its file, in file order, its form being 0
 
+-- Bands and coefficients stand mode by mode: the band of mode u in dimension i at 2·(u·n + i), w lo and w hi; row i of mode u at (u·n + i)·(n + 1), its n
+-- entries of A and b_i behind them.
+pub record Plant : Type 0 where
+  pub form : ℕ
+  pub n : ℕ
+  pub modes : ℕ
+  pub q : ℕ
+  pub k : ℕ
+  pub d : ℕ
+  pub rlo : List ℤ
+  pub rhi : List ℤ
+  pub slo : List ℤ
+  pub shi : List ℤ
+  pub bands : List ℤ
+  pub coef : List ℤ
+
 -- m entries, `by` apart, in an array of 4
 abbrev pub column : List ℤ → ℕ → ℕ → ℕ → List ℤ
 column vs first by m = padded 4 (pos 0) (tab (λ i. at vs (first + by * i)) m 0)
 
--- as many coefficients as there may be: of sixteen modes, four rows of five numbers each
+-- as many coefficients as there may be: of 256 modes, four rows of five numbers each
 abbrev pub mostCoefs : ℕ
-mostCoefs = 320
+mostCoefs = 5_120
 
 -- how many coefficients there are, n rows of n + 1 in a mode
 abbrev pub coefCount : ℕ → ℕ → ℕ
 coefCount modes n = modes * n * (n + 1)
 
--- and ends of bands: of sixteen modes, four bands of two ends each
+-- and ends of bands: of 256 modes, four bands of two ends each
 abbrev pub mostBands : ℕ
-mostBands = 128
+mostBands = 2_048
 
 abbrev pub bandCount : ℕ → ℕ → ℕ
 bandCount modes n = modes * n * 2
@@ -174,8 +192,8 @@ plantOf vs =
       rhi = column vs 7 4 n;
       slo = column vs 8 4 n;
       shi = column vs 9 4 n;
-      bands = padded mostBands (pos 0) (tabs (λ u. tab (at vs) (2 * n) (bandsAt form n u)) modes 0);
-      coef = padded mostCoefs (pos 0) (tabs (λ u. tab (at vs) (n * (n + 1)) (rowsAt form n u)) modes 0);
+      bands = tabs (λ u. tab (at vs) (2 * n) (bandsAt form n u)) modes 0;
+      coef = tabs (λ u. tab (at vs) (n * (n + 1)) (rowsAt form n u)) modes 0;
     }
 
 -- R and S of each dimension, then w of each dimension
@@ -250,13 +268,45 @@ plantRelated (read vs next) =
 unfoldable pub plantJudged : List ℕ → Judged Plant
 plantJudged s = plantRelated (valuesOf plantForm s)
 
--- what a plant's reader answers; a refused one's plant is all zeros
+-- what a plant's reader answers; a refused one's outline is all zeros
+abbrev pub outlineOf : Plant → Outline
+outlineOf p = record { form = p .form; n = p .n; modes = p .modes; q = p .q; k = p .k; d = p .d; rlo = p .rlo; rhi = p .rhi; slo = p .slo; shi = p .shi }
+
 abbrev pub readOf : Judged Plant → PlantRead
-readOf (good p) = record { verdict = Verdict.Accepted; plant = p }
-readOf (bad r) = record { verdict = Verdict.Refused r; plant = plantOf [] }
+readOf (good p) = record { verdict = Verdict.Accepted; outline = outlineOf p }
+readOf (bad r) = record { verdict = Verdict.Refused r; outline = outlineOf (plantOf []) }
 
 abbrev pub plantRead : List ℕ → PlantRead
 plantRead s = readOf (plantJudged s)
+
+-- and leaves in an array that it is lent for the plant's bands or coefficients: finished, these, as far as there is room, and behind them what stood there;
+-- refused, zeros
+abbrev pub arrayLeft : (Plant → List ℤ) → Judged Plant → List ℤ → List ℤ
+arrayLeft numbers (good p) lent = sets lent 0 (numbers p)
+arrayLeft numbers (bad r) lent = replicate (length lent) (pos 0)
+
+abbrev pub bandsLeft : List ℕ → List ℤ → List ℤ
+bandsLeft s lent = arrayLeft (λ p. p .bands) (plantJudged s) lent
+
+abbrev pub coefLeft : List ℕ → List ℤ → List ℤ
+coefLeft s lent = arrayLeft (λ p. p .coef) (plantJudged s) lent
+
+-- a plant handed over: its outline, and the arrays of its bands and coefficients, in which what is lacking is 0 and what lies beyond N modes is ignored
+abbrev pub plantFrom : Outline → List ℤ → List ℤ → Plant
+plantFrom o bands coef = record {
+  form = o .form;
+  n = o .n;
+  modes = o .modes;
+  q = o .q;
+  k = o .k;
+  d = o .d;
+  rlo = o .rlo;
+  rhi = o .rhi;
+  slo = o .slo;
+  shi = o .shi;
+  bands = bands;
+  coef = coef;
+}
 
 -- what a plant's writer leaves: the plant is judged as the file it would be
 unfoldable pub plantLeft : Plant → List ℕ → Left

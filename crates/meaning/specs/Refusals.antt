@@ -142,12 +142,12 @@ abbrev pub writtenShown : Written → Shown
 writtenShown (Written.Length m) = done (pos m ∷ [])
 writtenShown (Written.Refused r) = told r []
 
--- The mode and the next state. A refused controller call returns idle, and the C face shows mode 255.
+-- The mode and the next state. A refused controller call returns idle, and the C face shows 65,535, which is no mode (request 2026-08; 255 is one).
 abbrev pub answerShown : Answer → Shown
 answerShown (Answer.Mode u s) = done (pos u ∷ pos (s .place) ∷ pos (s .left) ∷ [])
-answerShown (Answer.Refused r) = told r (pos 255 ∷ pos 0 ∷ pos 0 ∷ [])
+answerShown (Answer.Refused r) = told r (pos 65_535 ∷ pos 0 ∷ pos 0 ∷ [])
 
 -- the same of a start file: the next index stands before place and left
 abbrev pub startAnswerShown : StartAnswer → Shown
 startAnswerShown (StartAnswer.Mode u s) = done (pos u ∷ pos (s .index) ∷ pos (s .state .place) ∷ pos (s .state .left) ∷ [])
-startAnswerShown (StartAnswer.Refused r) = told r (pos 255 ∷ pos 0 ∷ pos 0 ∷ pos 0 ∷ [])
+startAnswerShown (StartAnswer.Refused r) = told r (pos 65_535 ∷ pos 0 ∷ pos 0 ∷ pos 0 ∷ [])

@@ -11,7 +11,6 @@ use Rattle.laws.specs.Guards.{guard}
 use Rattle.laws.specs.Lists.{at, tab, tabs, padded, all, firstFalse}
 use Rattle.meaning.specs.declared.Verdict.{Verdict}
 use Rattle.meaning.specs.declared.Emitter.{Emitter}
-use Rattle.meaning.specs.declared.Plant.{Plant}
 use Rattle.meaning.specs.declared.Room.{Room}
 use Rattle.meaning.specs.declared.Sheet.{Sheet}
 use Rattle.meaning.specs.declared.SheetRead.{SheetRead}
@@ -19,7 +18,7 @@ use Rattle.meaning.specs.declared.Whole.{Whole}
 use Rattle.meaning.specs.Refusals.{badFloat, badResult}
 use Rattle.meaning.specs.Files.{float, Form, end, field, Read, read, refused, valuesOf, fileOf, Judged, good, bad, fileJudged}
 use Rattle.meaning.specs.Boxes.{Side, sidesOf}
-use Rattle.meaning.specs.Plants.{entryLimit, offsetLimit, bandLimit, counted, from, headed, times, edgesAndBands, edgesOf, bandOf, column, plantOf, plantForm, related}
+use Rattle.meaning.specs.Plants.{Plant, entryLimit, offsetLimit, bandLimit, counted, from, headed, times, edgesAndBands, edgesOf, bandOf, column, plantOf, plantForm, related}
 use Rattle.meaning.specs.Images.{Row, Step}
 use Rattle.meaning.specs.Buffers.{Left, left}
 

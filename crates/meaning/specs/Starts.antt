@@ -11,7 +11,6 @@ use lib.IntN.{ℤ, natAbs}
 use Rattle.laws.specs.Guards.{guard, choose}
 use Rattle.laws.specs.Lists.{at, tab, all, firstFalse}
 use Rattle.meaning.specs.declared.Refusal.{Refusal}
-use Rattle.meaning.specs.declared.Plant.{Plant}
 use Rattle.meaning.specs.declared.Verdict.{Verdict}
 use Rattle.meaning.specs.declared.State.{State}
 use Rattle.meaning.specs.declared.Answer.{Answer}
@@ -22,7 +21,7 @@ use Rattle.meaning.specs.Numbers.{numberAt, bytesOf}
 use Rattle.meaning.specs.Files.{Form, end, Read, read, refused, valuesAt, valuesOf, fileOf, Judged, good, bad}
 use Rattle.meaning.specs.Buffers.{Left, left}
 use Rattle.meaning.specs.Boxes.{Side, side, fits, within}
-use Rattle.meaning.specs.Plants.{edgeLimit, formOne, counted, from, span, times, plantJudged, rootOf, safeOf}
+use Rattle.meaning.specs.Plants.{Plant, edgeLimit, formOne, counted, from, span, times, plantJudged, rootOf, safeOf}
 use Rattle.meaning.specs.Rules.{Rules, holds, missed}
 use Rattle.meaning.specs.Verdicts.{onNumber, onWalk, tableEnd}
 use Rattle.meaning.specs.Control.{idle, call}

@@ -7,7 +7,6 @@ use mathlib.Core.Option.{Option, none, some}
 use lib.IntN.{ℤ}
 use Rattle.laws.specs.Lists.{at, tab}
 use Rattle.meaning.specs.declared.Refusal.{Refusal}
-use Rattle.meaning.specs.declared.Plant.{Plant}
 use Rattle.meaning.specs.declared.Verdict.{Verdict}
 use Rattle.meaning.specs.declared.State.{State}
 use Rattle.meaning.specs.declared.Answer.{Answer}
@@ -15,7 +14,7 @@ use Rattle.meaning.specs.Refusals.{noTable}
 use Rattle.meaning.specs.Boxes.{Side, fits, within, children}
 use Rattle.meaning.specs.Images.{Step, image, follows}
 use Rattle.meaning.specs.Files.{Judged, good, bad}
-use Rattle.meaning.specs.Plants.{plantJudged, rootOf, safeOf, stepOf}
+use Rattle.meaning.specs.Plants.{Plant, plantJudged, rootOf, safeOf, stepOf}
 use Rattle.meaning.specs.Rules.{Rules, holds}
 use Rattle.meaning.specs.Trees.{Tree, tableOf}
 use Rattle.meaning.specs.Verdicts.{verdict}

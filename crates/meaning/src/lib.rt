@@ -33,15 +33,17 @@ pub enum Written {
     Refused(Refusal),
 }
 
-// The mode coefficients of the largest plant, and the ends of its modes' bands.
-pub const COEFFICIENTS: usize = 320;
+// The modes of the largest plant, its mode coefficients, and the ends of its modes' bands.
+pub const MODES: usize = 256;
 
-pub const BANDS: usize = 128;
+pub const COEFFICIENTS: usize = 5_120;
 
-// A plant. Of each array of edges the first n entries count. Bands and coefficients stand mode by mode: the band of mode u in dimension i begins at
-// 2·(u·n + i) with w lo, and w hi ends it; row i of mode u begins at (u·n + i)·(n + 1) with its n entries of A, and b_i ends it. A file of form 1 has one
-// band for all modes, which stands here once for each.
-pub struct Plant {
+pub const BANDS: usize = 2_048;
+
+// A plant but for its bands and its coefficients, which are lent beside it, each in a flat array. Of each array of edges the first n entries count. Bands
+// and coefficients stand mode by mode: the band of mode u in dimension i begins at 2·(u·n + i) with w lo, and w hi ends it; row i of mode u begins at
+// (u·n + i)·(n + 1) with its n entries of A, and b_i ends it. A file of form 1 has one band for all modes, which stands there once for each.
+pub struct Outline {
     pub form: usize,
     pub n: usize,
     pub modes: usize,
@@ -52,14 +54,12 @@ pub struct Plant {
     pub rhi: [i64; 4],
     pub slo: [i64; 4],
     pub shi: [i64; 4],
-    pub bands: [i64; BANDS],
-    pub coef: [i64; COEFFICIENTS],
 }
 
-// A plant's reader answers both: a refused one's plant is all zeros.
+// A plant's reader answers both: a refused one's outline is all zeros.
 pub struct PlantRead {
     pub verdict: Verdict,
-    pub plant: Plant,
+    pub outline: Outline,
 }
 
 // A pattern tried on a box: it works, an image leaves S at that step, or the last one, of that step, is not in R.

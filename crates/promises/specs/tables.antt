@@ -23,6 +23,7 @@ pub mod Promise
 pub mod Reached
 pub mod Shapes
 pub mod Splits
+pub mod Steps
 pub mod TableLengths
 pub mod TableTrips
 pub mod Trips

@@ -1,13 +1,12 @@
-// Each dimension's band, widened at each end by what rounding the coefficients can add (document 01, "The sheet"), the same in each mode. Relies on wholes.
+// Each dimension's band, widened at each end by what rounding the coefficients can add (document 01, "The sheet"), one for all modes. Relies on wholes.
 // Leaves out the coefficients (made).
 use crate::wholes;
-use meaning::BANDS;
 use meaning::Sheet;
 use meaning::Whole;
 ghost use mathlib.Core.Path.{_≡_};
 ghost use Prim.Native.Nat.{_≤_, _<_, max};
 ghost use lib.IntN.{natAbs};
-ghost use Rattle.meaning.specs.Plants.{edgeLimit, bandLimit, mostModes};
+ghost use Rattle.meaning.specs.Plants.{edgeLimit, bandLimit};
 ghost use Rattle.meaning.specs.Sheets as S;
 ghost use Rattle.meaning.specs.Sheets.{limitedTo, largestEdge};
 ghost use Rattle.sheets.specs.Sizes.{Sized};
@@ -83,18 +82,21 @@ fn high_end(h: Sheet, i: usize) -> Whole
     end(h.whi[i] + w)
 }
 
-// The widened bands in plant order, w lo and w hi of each dimension: which of these numbers is the first that is out (their count where none
-// is), and what the plant holds of them, once for each mode, zeros behind them and where one is out.
+// The ends of the bands of four rooms.
+pub const ENDS: usize = 8;
+
+// The widened bands in plant order, w lo and w hi of each dimension: which of these numbers is the first that is out (their count where none is), and what
+// the plant holds of them, zeros behind them and where one is out. A plant of form 1 is written with one band for all modes.
 pub struct Bands {
     pub first: usize,
-    pub ends: [i64; BANDS],
+    pub ends: [i64; ENDS],
 }
 
-pub fn widened(h: Sheet, modes: usize) -> Bands
-    requires { ⌜ Sized h ⌝ ∗ ⌜ 1 ≤ modes ⌝ ∗ ⌜ modes ≤ mostModes ⌝ }
-    ensures { λ r. ⌜ r ≡ bandsOf h modes ⌝ }
+pub fn widened(h: Sheet) -> Bands
+    requires { ⌜ Sized h ⌝ }
+    ensures { λ r. ⌜ r ≡ bandsOf h ⌝ }
 {
-    let mut ends = [0i64; BANDS];
+    let mut ends = [0i64; ENDS];
     let mut first: usize = 0;
     let mut i: usize = 0;
     while i < h.n {
@@ -105,12 +107,6 @@ pub fn widened(h: Sheet, modes: usize) -> Bands
         first = wholes::joined_one(first, 2 * i, lo);
         first = wholes::joined_one(first, 2 * i + 1, hi);
         i += 1;
-    }
-    // each further mode has what the one before it has
-    let mut p = 2 * h.n;
-    while p < 2 * h.n * modes {
-        ends[p] = ends[p - 2 * h.n];
-        p += 1;
     }
     Bands { first, ends }
 }

@@ -1,19 +1,21 @@
 // The plant made of a sheet: its numbers in plant order, and the place of the first that the plant cannot hold. Relies on bands, equations
 // and wholes. Leaves out the files (the sheet's and the plant's).
 use crate::bands;
+use crate::bands::ENDS;
 use crate::equations;
 use crate::wholes;
-use meaning::COEFFICIENTS;
-use meaning::Plant;
+use meaning::Outline;
 use meaning::Sheet;
 use meaning::Whole;
 ghost use mathlib.Core.Path.{_≡_};
 ghost use Prim.Native.Nat.{_≤_};
 ghost use Rattle.meaning.specs.Sheets.{madeModes};
-ghost use Rattle.meaning.specs.Plants.{mostCoefs};
 ghost use Rattle.sheets.specs.Sizes.{Sized};
 ghost use Rattle.sheets.specs.Equations.{sumsOf, bitsOf};
-ghost use Rattle.sheets.specs.Made.{entryAt, entriesOf, madeOf};
+ghost use Rattle.sheets.specs.Made.{mostEntries, entryAt, entriesOf, madeOf};
+
+// The coefficients of the largest plant that a sheet makes: sixteen modes, four rows of five numbers each.
+pub const ENTRIES: usize = 320;
 
 // The p-th coefficient of the plant: row by row, mode by mode, n entries of A and b each. The sums and bits of the rooms are handed over.
 fn entry(h: Sheet, sums: [f64; 4], bits: [usize; 4], p: usize) -> Whole
@@ -39,16 +41,16 @@ fn entry(h: Sheet, sums: [f64; 4], bits: [usize; 4], p: usize) -> Whole
 // where one is out.
 struct Entries {
     first: usize,
-    coef: [i64; COEFFICIENTS],
+    coef: [i64; ENTRIES],
 }
 
 fn coefficients(h: Sheet, count: usize) -> Entries
-    requires { ⌜ Sized h ⌝ ∗ ⌜ count ≤ mostCoefs ⌝ }
+    requires { ⌜ Sized h ⌝ ∗ ⌜ count ≤ mostEntries ⌝ }
     ensures { λ r. ⌜ r ≡ entriesOf h count ⌝ }
 {
     let sums = equations::loss_sums(h);
     let bits = equations::bits(h);
-    let mut coef = [0i64; COEFFICIENTS];
+    let mut coef = [0i64; ENTRIES];
     let mut first: usize = 0;
     let mut p: usize = 0;
     while p < count {
@@ -69,11 +71,13 @@ fn modes(h: Sheet) -> usize
 }
 
 // Whether all numbers of the plant fit, which of the plant file's numbers is the first that does not, its form being 0 (their count where all
-// fit), and the plant.
+// fit), and the plant, with its arrays.
 pub struct Made {
     pub fits: bool,
     pub place: usize,
-    pub plant: Plant,
+    pub outline: Outline,
+    pub ends: [i64; ENDS],
+    pub coef: [i64; ENTRIES],
 }
 
 pub fn make(h: Sheet) -> Made
@@ -83,16 +87,16 @@ pub fn make(h: Sheet) -> Made
     let n = h.n;
     let modes = modes(h);
     let count = modes * n * (n + 1);
-    let b = bands::widened(h, modes);
+    let b = bands::widened(h);
     let c = coefficients(h, count);
     let first = wholes::joined(b.first, 2 * n, c.first);
     let rlo = h.rlo;
     let rhi = h.rhi;
     let slo = h.slo;
     let shi = h.shi;
-    let bands = b.ends;
+    let ends = b.ends;
     let coef = c.coef;
-    let plant = Plant {
+    let outline = Outline {
         form: 1,
         n,
         modes,
@@ -103,12 +107,12 @@ pub fn make(h: Sheet) -> Made
         rhi,
         slo,
         shi,
-        bands,
-        coef,
     };
     Made {
         fits: first == 2 * n + count,
         place: 6 + 4 * n + first,
-        plant,
+        outline,
+        ends,
+        coef,
     }
 }

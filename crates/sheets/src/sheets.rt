@@ -228,8 +228,8 @@ pub fn make_plant(sheet: &[u8], buf: &mut [u8]) -> Written
         Verdict::Accepted => {
             let made = made::make(read.sheet);
             if made.fits {
-                let plant = made.plant;
-                return plants::write_plant(plant, buf);
+                let outline = made.outline;
+                return plants::write_plant(outline, &made.ends, &made.coef, buf);
             }
             buffers::refuse(refusals::bad_result(made.place), buf)
         }

@@ -85,10 +85,10 @@ frameAt f edges i = record {
 }
 
 -- what is asked of the frames of all tables, R0's to Rm's
-pub record FramesSound (f : Frame) (bands coef edges : List ℤ) (m : ℕ) : Type 0 where
+pub record FramesSound (f : Frame) (edges : List ℤ) (m : ℕ) : Type 0 where
   pub rooms : f .n ≤ 4
   pub few : m ≤ mostAbove
-  pub each : (i : ℕ) → i ≤ m → FrameSound (frameAt f edges i) bands coef
+  pub each : (i : ℕ) → i ≤ m → FrameSound (frameAt f edges i)
 
 -- a box holds the one below it and lies in S
 abbrev pub keeps : ℕ → Bx → Bx → Bx → Bool

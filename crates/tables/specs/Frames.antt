@@ -1,6 +1,7 @@
--- A frame: what a table is made, checked and run by, its small numbers by value, its bands and its coefficients lent; its rules, and what is asked of it, which
--- a judged plant's own frame has. Definitions alone.
-use Prim.Native.Nat.{ℕ, _+_, _*_, _%_, _≤_, _<_}
+-- A frame: what a table is made, checked and run by, its small numbers by value; with the bands and the coefficients of its modes, which are lent, its rules. And
+-- what is asked of it, and of what its modes are lent: the first by every function, the second only where images are made. A judged plant's own frame has both.
+-- Definitions alone.
+use Prim.Native.Nat.{ℕ, _*_, _≤_, _<_}
 use mathlib.Core.Path.{_≡_}
 use mathlib.Core.Bool.{true}
 use mathlib.Core.List.{List, [], _∷_}
@@ -8,10 +9,10 @@ use lib.IntN.{ℤ, pos, _-ℤ_}
 use lib.ListN.{getD}
 use lib.Signed.{_≤ℤ_}
 use Rattle.laws.specs.Lists.{at}
-use Rattle.meaning.specs.declared.Plant.{Plant}
+use Rattle.meaning.specs.declared.Outline.{Outline}
 use Rattle.meaning.specs.Boxes.{within}
 use Rattle.meaning.specs.Images.{Step}
-use Rattle.meaning.specs.Plants.{edgeLimit, rowStart, bandSide}
+use Rattle.meaning.specs.Plants.{Plant, outlineOf, edgeLimit, mostModes, rowStart, bandSide}
 use Rattle.meaning.specs.Rules.{Rules}
 use Rattle.meaning.specs.Tables.{rulesFrom}
 use Rattle.tables.specs.declared.boxes.Bx.{Bx}
@@ -24,7 +25,7 @@ abbrev pub boxFrom : List ℤ → List ℤ → Bx
 boxFrom lo hi = record { lo = lo; hi = hi }
 
 -- a plant's own: R is tiled, and patterns end in R
-abbrev pub frameOf : Plant → Frame
+abbrev pub frameOf : Outline → Frame
 frameOf p = record {
   n = p .n;
   modes = p .modes;
@@ -35,6 +36,10 @@ frameOf p = record {
   goal = boxFrom (p .rlo) (p .rhi);
   safe = boxFrom (p .slo) (p .shi);
 }
+
+-- that of a plant
+abbrev pub ownFrame : Plant → Frame
+ownFrame p = frameOf (outlineOf p)
 
 -- a frame taken apart: its numbers, and the edges of its boxes, lows and highs of each
 abbrev pub countsOf : Frame → Counts
@@ -63,19 +68,27 @@ stepIn f bands coef u = stepFrom (f .n) (f .q) bands coef u
 abbrev pub rulesIn : Frame → List ℤ → List ℤ → Rules
 rulesIn f bands coef = rulesFrom (f .n) (f .modes) (f .k) (f .d) (boxOf (f .n) (f .root)) (boxOf (f .n) (f .goal)) (boxOf (f .n) (f .safe)) (stepIn f bands coef)
 
-pub record FrameSound (f : Frame) (bands coef : List ℤ) : Type 0 where
+-- its numbers and its boxes in the ranges
+pub record FrameSound (f : Frame) : Type 0 where
   pub some : 1 ≤ f .n
   pub rooms : f .n ≤ 4
   pub longest : f .k ≤ 6
   pub least : 1 ≤ f .q
   pub most : f .q ≤ 10_000
-  pub modes : f .modes ≤ 16
+  pub modes : f .modes ≤ mostModes
   pub depth : f .d ≤ 6
   pub tiles : f .n * f .d ≤ 12
   pub root : Small edgeLimit (boxOf (f .n) (f .root))
   pub goal : Small edgeLimit (boxOf (f .n) (f .goal))
   pub safe : Small edgeLimit (boxOf (f .n) (f .safe))
   pub in-safe : within (boxOf (f .n) (f .goal)) (boxOf (f .n) (f .safe)) ≡ true
-  pub band : (u i : ℕ) → u < f .modes → i < f .n → BandSound (f .n) bands u i
-  pub wide : (u i : ℕ) → u < f .modes → i < f .n → (pos (f .q) -ℤ pos 1) ≤ℤ (bandSide (f .n) bands u i .hi -ℤ bandSide (f .n) bands u i .lo)
-  pub rows : (u i : ℕ) → u < f .modes → i < f .n → RowSound (f .n) coef (rowStart (f .n) u i)
+
+-- the bands and the rows of so many modes, whatever boxes they are used on
+pub record ModesSound (n modes q : ℕ) (bands coef : List ℤ) : Type 0 where
+  pub band : (u i : ℕ) → u < modes → i < n → BandSound n bands u i
+  pub wide : (u i : ℕ) → u < modes → i < n → (pos q -ℤ pos 1) ≤ℤ (bandSide n bands u i .hi -ℤ bandSide n bands u i .lo)
+  pub rows : (u i : ℕ) → u < modes → i < n → RowSound n coef (rowStart n u i)
+
+-- a frame with what its modes are lent is a plant
+abbrev pub PlantSound : Frame → List ℤ → List ℤ → Type 0
+PlantSound f bands coef = FrameSound f × ModesSound (f .n) (f .modes) (f .q) bands coef

@@ -1,13 +1,14 @@
--- A mode's step as the code is lent it: the small numbers by value, the bands and the coefficients in their arrays; and what it asks of them, which a
--- judged plant has. Definitions alone.
-use Prim.Native.Nat.{ℕ, _+_, _*_, _≤_, _<_}
+-- A mode's step as the code is lent it: the small numbers by value, the bands and the coefficients in slices of any length; and what it asks of them,
+-- which a judged plant has. Definitions alone.
+use Prim.Native.Nat.{ℕ, _+_, _≤_, _<_}
 use mathlib.Core.Path.{_≡_}
 use mathlib.Core.List.{List}
 use lib.IntN.{ℤ, pos, negsuc, natAbs}
+use lib.ListN.{length}
 use Rattle.laws.specs.Lists.{at, tab}
-use Rattle.meaning.specs.Boxes.{Side, side}
+use Rattle.meaning.specs.Boxes.{Side}
 use Rattle.meaning.specs.Images.{Row, Step, leastOf, greatestOf, extreme}
-use Rattle.meaning.specs.Plants.{bandLimit, entryLimit, offsetLimit, rowStart, mostCoefs, bandStart, bandSide, mostBands}
+use Rattle.meaning.specs.Plants.{bandLimit, entryLimit, offsetLimit, rowStart, bandStart, bandSide}
 use Rattle.promises.specs.files.Sound.{Bounded}
 
 -- an entry of A times an edge of S; four of them; and with an offset and an edge of the band
@@ -50,17 +51,17 @@ stepFrom n q bands coef u = record { rows = tab (rowFrom n bands coef u) n 0; q 
 
 -- ---- what is asked
 
--- the row that starts at `start` stands in the array, its numbers in the ranges
+-- the row that starts at `start` stands in the slice, its numbers in the ranges
 pub record RowSound (n : ℕ) (coef : List ℤ) (start : ℕ) : Type 0 where
   pub some : 1 ≤ n
   pub rooms : n ≤ 4
-  pub inside : start + n < mostCoefs
+  pub inside : start + n < length coef
   pub entries : (j : ℕ) → j < n → natAbs (at coef (start + j)) ≤ entryLimit
   pub offset : natAbs (at coef (start + n)) ≤ offsetLimit
 
--- the band of mode u in dimension i stands in the array, its ends in the ranges
+-- the band of mode u in dimension i stands in the slice, its ends in the ranges
 pub record BandSound (n : ℕ) (bands : List ℤ) (u i : ℕ) : Type 0 where
-  pub inside : bandStart n u i + 1 < mostBands
+  pub inside : bandStart n u i + 1 < length bands
   pub ends : Bounded bandLimit (bandSide n bands u i)
 
 pub record StepSound (n q : ℕ) (bands coef : List ℤ) (u : ℕ) : Type 0 where

@@ -1,3 +1,4 @@
+pub mod Arrays
 pub mod Boxes
 pub mod Images
 pub mod Frames

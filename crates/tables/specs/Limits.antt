@@ -1,12 +1,13 @@
 -- Limits: where the sums of a row over a box have to lie for the side of the image to lie in a given side, so that no division is needed to
--- tell it; the array in which the search is lent them, mode by mode, with what it is lent of each mode's last row: a mark where it is that of the mode
--- before, and its offset; and what the search asks of all that it is lent. Definitions alone.
+-- tell it; the slice in which the search is lent them, mode by mode; the slice in which it is lent a mark and an offset of each mode's last row; and what
+-- the search asks of all that it is lent. Definitions alone.
 use Prim.Native.Nat.{ℕ, _+_, _-_, _*_, _≤_, _<_}
 use mathlib.Core.Path.{_≡_}
 use mathlib.Core.Bool.{Bool, true}
 use mathlib.Core.List.{List, []}
 use mathlib.Core.Option.{Option, none, some}
 use lib.IntN.{ℤ, pos, natAbs, _+ℤ_, _-ℤ_, _*ℤ_}
+use lib.ListN.{length}
 use Rattle.laws.specs.Guards.{guard}
 use Rattle.laws.specs.Lists.{at, tab, all}
 use Rattle.laws.specs.Division.{floorZ, ceilZ}
@@ -16,7 +17,7 @@ use Rattle.meaning.specs.Plants.{edgeLimit, rowStart, bandSide}
 use Rattle.tables.specs.declared.frames.Frame.{Frame}
 use Rattle.tables.specs.Boxes.{Small}
 use Rattle.tables.specs.Images.{entriesOf, RowSound, BandSound}
-use Rattle.tables.specs.Frames.{FrameSound}
+use Rattle.tables.specs.Frames.{FrameSound, ModesSound}
 use Rattle.tables.specs.Levels.{sideIn}
 
 -- ceil(v / q) ≥ lo exactly when v ≥ q·(lo − 1) + 1, floor(v / q) ≤ hi exactly when v ≤ q·(hi + 1) − 1; v is a sum with an end of the band w
@@ -31,29 +32,26 @@ sumSide n coef start b = side (extreme leastOf (entriesOf n coef start) b +ℤ a
 abbrev pub divided : ℕ → Side → Side → Side
 divided q w s = side (ceilZ (s .lo +ℤ w .lo) q) (floorZ (s .hi +ℤ w .hi) q)
 
--- ---- one array, mode by mode two boxes, the limits of S and those of the goal; then the marks of the modes, then the offsets of their last rows
+-- ---- the limits, mode by mode two boxes, those of S and those of the goal; and the marks, mode by mode a mark and the offset of the last row
 
--- as many modes as there may be, the limits of a mode, and the numbers of all
-abbrev pub mostModes : ℕ
-mostModes = 16
+-- how many numbers a mode has in each
+abbrev pub limitsSize : ℕ
+limitsSize = 16
 
-abbrev pub modeSize : ℕ
-modeSize = 16
-
-abbrev pub mostLimits : ℕ
-mostLimits = 288
+abbrev pub marksSize : ℕ
+marksSize = 2
 
 abbrev pub safeAt : ℕ → ℕ
-safeAt u = modeSize * u
+safeAt u = limitsSize * u
 
 abbrev pub goalAt : ℕ → ℕ
-goalAt u = modeSize * u + 8
+goalAt u = limitsSize * u + 8
 
 abbrev pub markAt : ℕ → ℕ
-markAt u = 256 + u
+markAt u = marksSize * u
 
 abbrev pub offsetAt : ℕ → ℕ
-offsetAt u = 272 + u
+offsetAt u = marksSize * u + 1
 
 -- side i of the limits of a box lo, hi under mode u
 abbrev pub limitAt : ℕ → ℕ → List ℤ → ℕ → List ℤ → List ℤ → ℕ → Side
@@ -76,12 +74,12 @@ abbrev pub lastOffset : ℕ → List ℤ → ℕ → ℤ
 lastOffset n coef u = at coef (rowStart n u (n - 1) + n)
 
 -- what is lent of that row: a mark, 0 unless mode u has the entries of the mode before it, and the offset
-pub record MarkedAt (n : ℕ) (coef limits : List ℤ) (u : ℕ) : Type 0 where
-  pub shared : (at limits (markAt u) ≡ pos 0 → ⊥) → (1 ≤ u) × (lastEntries n coef (u - 1) ≡ lastEntries n coef u)
-  pub offset : at limits (offsetAt u) ≡ lastOffset n coef u
+pub record MarkedAt (n : ℕ) (coef marks : List ℤ) (u : ℕ) : Type 0 where
+  pub shared : (at marks (markAt u) ≡ pos 0 → ⊥) → (1 ≤ u) × (lastEntries n coef (u - 1) ≡ lastEntries n coef u)
+  pub offset : at marks (offsetAt u) ≡ lastOffset n coef u
 
 abbrev pub Marked : ℕ → ℕ → List ℤ → List ℤ → Type 0
-Marked n modes coef limits = (u : ℕ) → u < modes → MarkedAt n coef limits u
+Marked n modes coef marks = (u : ℕ) → u < modes → MarkedAt n coef marks u
 
 -- ---- tests of sums, and what the sums are divided to
 
@@ -122,7 +120,7 @@ landing n coef limits b u = guard (landsLent n coef limits u b) none λ _. some 
 
 -- ---- what is asked
 
--- of mode u: each of its rows stands in the array
+-- of mode u: each of its rows stands in the slice
 abbrev pub RowsSound : ℕ → List ℤ → ℕ → Type 0
 RowsSound n coef u = (i : ℕ) → i < n → RowSound n coef (rowStart n u i)
 
@@ -134,20 +132,26 @@ BandsSound n bands u = (i : ℕ) → i < n → BandSound n bands u i
 abbrev pub addLimit : ℕ
 addLimit = 90_000_000_000
 
--- of all that the search is lent; an image that stays is small again
+-- of the marks
+pub record MarksLent (n modes : ℕ) (coef marks : List ℤ) : Type 0 where
+  pub room : marksSize * modes ≤ length marks
+  pub marked : Marked n modes coef marks
+
+-- of all else that the search is lent; an image that stays is small again
 pub record Lent (n modes q : ℕ) (bands coef limits : List ℤ) : Type 0 where
   pub some : 1 ≤ n
   pub rooms : n ≤ 4
-  pub few : modes ≤ mostModes
+  pub room : limitsSize * modes ≤ length limits
   pub least : 1 ≤ q
   pub most : q ≤ 10_000
   pub rows : (u : ℕ) → u < modes → RowsSound n coef u
   pub band : (u : ℕ) → u < modes → BandsSound n bands u
-  pub marked : Marked n modes coef limits
   pub small : (u : ℕ) (b : List Side) → u < modes → Small edgeLimit b → staysLent n coef limits u b ≡ true → Small edgeLimit (imageLent n q bands coef u b)
 
--- of a frame, that it is sound, and of its limits and last rows
-pub record LimitsLaid (f : Frame) (bands coef limits : List ℤ) : Type 0 where
-  pub sound : FrameSound f bands coef
+-- of a frame and its modes, that they are sound, and of its limits and last rows
+pub record LimitsLaid (f : Frame) (bands coef limits marks : List ℤ) : Type 0 where
+  pub sound : FrameSound f
+  pub modes : ModesSound (f .n) (f .modes) (f .q) bands coef
+  pub room : limitsSize * f .modes ≤ length limits
   pub laid : Laid (f .n) (f .modes) (f .q) (sideAt (f .goal .lo) (f .goal .hi)) (sideAt (f .safe .lo) (f .safe .hi)) bands limits
-  pub marked : Marked (f .n) (f .modes) coef limits
+  pub marked : MarksLent (f .n) (f .modes) coef marks

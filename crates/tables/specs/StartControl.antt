@@ -1,7 +1,7 @@
 -- A call on a start file as the code makes it: which table is called, then the call on it. Definitions alone.
 use Prim.Native.Nat.{ℕ}
 use mathlib.Core.Bool.{Bool, not}
-use mathlib.Core.List.{List}
+use mathlib.Core.List.{List, []}
 use lib.Dec.{leb, eqb}
 use lib.IntN.{ℤ}
 use Rattle.laws.specs.Guards.{guard, choose}
@@ -47,12 +47,12 @@ abbrev pub onChoice : {A : Type 0} → Choice → (Refusal → A) → (ℕ → A
 onChoice (Choice.Refused e) refuse rest = refuse e
 onChoice (Choice.Table i) refuse rest = rest i
 
--- the call on table i, by a frame's rules
-abbrev pub callBehind : Frame → List ℤ → List ℤ → List ℕ → ℕ → ℕ → State → List ℤ → StartAnswer
-callBehind f bands coef s at i st x = onPart i s at StartAnswer.Refused λ first size. answerIn i first (call (rulesIn f bands coef) (part s first size) st x)
+-- the call on table i, by a frame's rules: a call needs no bands and no coefficients
+abbrev pub callBehind : Frame → List ℕ → ℕ → ℕ → State → List ℤ → StartAnswer
+callBehind f s at i st x = onPart i s at StartAnswer.Refused λ first size. answerIn i first (call (rulesIn f [] []) (part s first size) st x)
 
 -- a call on a chain of m boxes that was read, `at` being the place behind it
-abbrev pub startAnswer : Frame → List ℤ → List ℤ → List ℤ → List ℕ → ℕ → ℕ → StartState → List ℤ → StartAnswer
-startAnswer f edges bands coef s m at st x =
+abbrev pub startAnswer : Frame → List ℤ → List ℕ → ℕ → ℕ → StartState → List ℤ → StartAnswer
+startAnswer f edges s m at st x =
     onChoice (choiceOf (f .n) (boxOf (f .n) (f .root)) (valuesIn m edges) st x) StartAnswer.Refused λ i.
-    callBehind (frameAt f edges i) bands coef s at i (st .state) x
+    callBehind (frameAt f edges i) s at i (st .state) x

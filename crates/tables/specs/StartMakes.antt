@@ -18,7 +18,7 @@ use Rattle.tables.specs.declared.frames.Frame.{Frame}
 use Rattle.tables.specs.Boxes.{boxOf}
 use Rattle.tables.specs.Chains.{frameAt}
 use Rattle.tables.specs.Drafts.{definedBytes}
-use Rattle.tables.specs.Frames.{stepIn, rulesIn, FrameSound}
+use Rattle.tables.specs.Frames.{stepIn, rulesIn, PlantSound}
 
 -- a table behind its length
 abbrev pub withLength : List ℕ → List ℕ
@@ -43,7 +43,7 @@ abbrev pub framesTables : Frame → List ℤ → List ℤ → List ℤ → ℕ �
 framesTables f bands coef edges m = tablesFrom (framesRules f bands coef edges) (m + 1) 0
 
 abbrev pub FramesSound : Frame → List ℤ → List ℤ → List ℤ → ℕ → Type 0
-FramesSound f bands coef edges m = (i : ℕ) → i ≤ m → FrameSound (frameAt f edges i) bands coef
+FramesSound f bands coef edges m = (i : ℕ) → i ≤ m → PlantSound (frameAt f edges i) bands coef
 
 -- the file: the chain's bytes, then the tables
 abbrev pub behindChain : List ℕ → Judged (List (List ℕ)) → Judged (List ℕ)

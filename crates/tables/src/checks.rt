@@ -1,6 +1,9 @@
 // The checker (document 01, "Table file" and the order of judgement): plant, then the table in order, one pass; leftover bytes last.
 // Relies on crate files for the plant, on headers and walks for the table's parts. Leaves out how a table is made, and whether it is the defined
 // one: any table whose tiles work is accepted.
+use crate::arrays::FEW_BANDS;
+use crate::arrays::FEW_COEFFICIENTS;
+use crate::arrays::FEW_MODES;
 use crate::frames;
 use crate::frames::Frame;
 use crate::headers;
@@ -14,16 +17,12 @@ use meaning::Walk;
 ghost use mathlib.Core.Path.{_≡_};
 ghost use Rattle.meaning.specs.Tables.{checked};
 ghost use Rattle.meaning.specs.Verdicts.{tableEnd, verdict};
-ghost use Rattle.tables.specs.Frames.{rulesIn, FrameSound};
+ghost use Rattle.tables.specs.Arrays.{RoomFor};
+ghost use Rattle.tables.specs.Frames.{rulesIn, PlantSound};
 
 // The place behind a table, its header and its tree, against a frame. What may stand there is not asked.
-pub(crate) fn table_end(
-    f: Frame,
-    bands: &[i64; BANDS],
-    coef: &[i64; COEFFICIENTS],
-    table: &[u8],
-) -> Walk
-    requires { ⌜ FrameSound f (now bands) (now coef) ⌝ }
+pub(crate) fn table_end(f: Frame, bands: &[i64], coef: &[i64], table: &[u8]) -> Walk
+    requires { ⌜ PlantSound f (now bands) (now coef) ⌝ }
     ensures { λ r. ⌜ r ≡ tableEnd (rulesIn f (now (bands .entry)) (now (coef .entry))) (now (table .entry)) ⌝ }
 {
     match headers::header(f.n, table) {
@@ -47,13 +46,8 @@ pub(crate) fn table_end(
 }
 
 // A table against a frame: it has to end where its bytes do.
-fn judge<'a>(
-    f: Frame,
-    bands: &'a [i64; BANDS],
-    coef: &'a [i64; COEFFICIENTS],
-    table: &[u8],
-) -> Verdict
-    requires { ⌜ FrameSound f (now bands) (now coef) ⌝ }
+fn judge<'a>(f: Frame, bands: &'a [i64], coef: &'a [i64], table: &[u8]) -> Verdict
+    requires { ⌜ PlantSound f (now bands) (now coef) ⌝ }
     ensures { λ r. ⌜ r ≡ verdict (rulesIn f (now (bands .entry)) (now (coef .entry))) (now (table .entry)) ⌝ }
 {
     match table_end(f, bands, coef, table) {
@@ -68,21 +62,36 @@ fn judge<'a>(
     }
 }
 
+// The verdict on a table's file for a plant's file, the plant being read into arrays that have room for it.
+fn check_in(plant: &[u8], bands: &mut [i64], coef: &mut [i64], table: &[u8]) -> Verdict
+    requires { ⌜ RoomFor (now plant) (now bands) (now coef) ⌝ }
+    ensures { λ r. ⌜ r ≡ checked (now (plant .entry)) (now (table .entry)) ⌝ }
+{
+    let read = plants::read_plant(plant, bands, coef);
+    let verdict = read.verdict;
+    match verdict {
+        Verdict::Refused(e) => Verdict::Refused(e),
+        Verdict::Accepted => judge(frames::framed(read.outline), bands, coef, table),
+    }
+}
+
+// In arrays for any plant.
+fn check_many(plant: &[u8], table: &[u8]) -> Verdict
+    ensures { λ r. ⌜ r ≡ checked (now (plant .entry)) (now (table .entry)) ⌝ }
+{
+    let mut bands = [0i64; BANDS];
+    let mut coef = [0i64; COEFFICIENTS];
+    check_in(plant, &mut bands, &mut coef, table)
+}
+
 // The verdict on a table's file for a plant's file: number, place and step of the first fault, or accepted.
 pub fn check(plant: &[u8], table: &[u8]) -> Verdict
     ensures { λ r. ⌜ r ≡ checked (now (plant .entry)) (now (table .entry)) ⌝ }
 {
-    let read = plants::read_plant(plant);
-    let verdict = read.verdict;
-    match verdict {
-        Verdict::Refused(e) => Verdict::Refused(e),
-        Verdict::Accepted => {
-            judge(
-                frames::framed(read.plant),
-                &read.plant.bands,
-                &read.plant.coef,
-                table,
-            )
-        }
+    if FEW_MODES < plants::modes_told(plant) {
+        return check_many(plant, table);
     }
+    let mut bands = [0i64; FEW_BANDS];
+    let mut coef = [0i64; FEW_COEFFICIENTS];
+    check_in(plant, &mut bands, &mut coef, table)
 }

@@ -1,7 +1,7 @@
 // The controller's call (document 01, "The controller"): plant, table header, 12, 11, then the tree, in that order.
 // Relies on crate files for the plant, on headers, states and boxes for the tests, on finds for the tile. Leaves out how the state is kept between
 // calls.
-// A refused call has no state to go on with: the answer carries one only beside a mode.
+// A refused call has no state to go on with: the answer carries one only beside a mode. No call makes an image, so none is lent bands or coefficients.
 use crate::boxes;
 use crate::boxes::Bx;
 use crate::finds;
@@ -12,13 +12,12 @@ use crate::refusals;
 use crate::states;
 use files::plants;
 use meaning::Answer;
-use meaning::BANDS;
-use meaning::COEFFICIENTS;
 use meaning::Found;
 use meaning::State;
 use meaning::Verdict;
 use meaning::Walk;
 ghost use mathlib.Core.Path.{_≡_};
+ghost use mathlib.Core.List.{[]};
 ghost use Prim.Native.Nat.{_≤_};
 ghost use Rattle.meaning.specs.Boxes.{fits};
 ghost use Rattle.meaning.specs.Control.{idleCall, runningCall, call};
@@ -45,33 +44,15 @@ pub(crate) fn admit(can: bool, n: usize, b: Bx, x: [i64; 4]) -> Verdict
 }
 
 // Idle: the reading must be in R; its tile is found, its first mode answered.
-fn idle_call(
-    f: Frame,
-    bands: &[i64; BANDS],
-    coef: &[i64; COEFFICIENTS],
-    table: &[u8],
-    at: usize,
-    place: usize,
-    x: [i64; 4],
-) -> Answer
-    requires { ⌜ FrameSound f (now bands) (now coef) ⌝ }
-    ensures { λ r. ⌜ r ≡ idleCall (rulesIn f (now (bands .entry)) (now (coef .entry))) (now (table .entry)) at place x ⌝ }
+fn idle_call(f: Frame, table: &[u8], at: usize, place: usize, x: [i64; 4]) -> Answer
+    requires { ⌜ FrameSound f ⌝ }
+    ensures { λ r. ⌜ r ≡ idleCall (rulesIn f [] []) (now (table .entry)) at place x ⌝ }
 {
     match admit(place == 0, f.n, f.root, x) {
         Verdict::Refused(e) => Answer::Refused(e),
         Verdict::Accepted => {
             let edges = frames::edges_of(f);
-            match finds::find(
-                frames::counts_of(f),
-                &edges,
-                bands,
-                coef,
-                table,
-                f.d,
-                at,
-                f.root,
-                x,
-            ) {
+            match finds::find(frames::counts_of(f), &edges, table, f.d, at, f.root, x) {
                 Found::Refused(e) => Answer::Refused(e),
                 Found::Tile(from, k) => states::answer(table, from, k),
             }
@@ -80,17 +61,9 @@ fn idle_call(
 }
 
 // Running: the reading must be in S; the mode at the place is answered.
-fn running_call(
-    f: Frame,
-    bands: &[i64; BANDS],
-    coef: &[i64; COEFFICIENTS],
-    table: &[u8],
-    place: usize,
-    left: usize,
-    x: [i64; 4],
-) -> Answer
-    requires { ⌜ f .n ≤ 4 ⌝ }
-    ensures { λ r. ⌜ r ≡ runningCall (rulesIn f (now (bands .entry)) (now (coef .entry))) (now (table .entry)) place left x ⌝ }
+fn running_call(f: Frame, table: &[u8], place: usize, left: usize, x: [i64; 4]) -> Answer
+    requires { ⌜ FrameSound f ⌝ }
+    ensures { λ r. ⌜ r ≡ runningCall (rulesIn f [] []) (now (table .entry)) place left x ⌝ }
 {
     let can = states::can_run(f.k, f.modes, table, place, left);
     match admit(can, f.n, f.safe, x) {
@@ -100,24 +73,17 @@ fn running_call(
 }
 
 // A call on a plant that was read.
-pub(crate) fn call<'a>(
-    f: Frame,
-    bands: &'a [i64; BANDS],
-    coef: &'a [i64; COEFFICIENTS],
-    table: &[u8],
-    st: State,
-    x: [i64; 4],
-) -> Answer
-    requires { ⌜ FrameSound f (now bands) (now coef) ⌝ }
-    ensures { λ r. ⌜ r ≡ call (rulesIn f (now (bands .entry)) (now (coef .entry))) (now (table .entry)) st x ⌝ }
+pub(crate) fn call(f: Frame, table: &[u8], st: State, x: [i64; 4]) -> Answer
+    requires { ⌜ FrameSound f ⌝ }
+    ensures { λ r. ⌜ r ≡ call (rulesIn f [] []) (now (table .entry)) st x ⌝ }
 {
     match headers::header(f.n, table) {
         Walk::Refused(e) => Answer::Refused(e),
         Walk::Next(at) => {
             if st.left == 0 {
-                idle_call(f, bands, coef, table, at, st.place, x)
+                idle_call(f, table, at, st.place, x)
             } else {
-                running_call(f, bands, coef, table, st.place, st.left, x)
+                running_call(f, table, st.place, st.left, x)
             }
         }
     }
@@ -127,19 +93,10 @@ pub(crate) fn call<'a>(
 pub fn control(plant: &[u8], table: &[u8], st: State, x: [i64; 4]) -> Answer
     ensures { λ r. ⌜ r ≡ controlled (now (plant .entry)) (now (table .entry)) st x ⌝ }
 {
-    let read = plants::read_plant(plant);
+    let read = plants::judge_plant(plant);
     let verdict = read.verdict;
     match verdict {
         Verdict::Refused(e) => Answer::Refused(e),
-        Verdict::Accepted => {
-            call(
-                frames::framed(read.plant),
-                &read.plant.bands,
-                &read.plant.coef,
-                table,
-                st,
-                x,
-            )
-        }
+        Verdict::Accepted => { call(frames::framed(read.outline), table, st, x) }
     }
 }

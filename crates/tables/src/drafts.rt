@@ -8,23 +8,31 @@ use crate::frames::Counts;
 use crate::frames::Frame;
 use crate::levels::LONGEST;
 use crate::limits;
-use crate::limits::LIMITS;
+use crate::limits::FEW_LIMITS;
+use crate::limits::FEW_MARKS;
+use crate::limits::FEW_MODES;
+use crate::limits::MOST_LIMITS;
+use crate::limits::MOST_MARKS;
 use crate::search;
 use files::numbers;
-use meaning::BANDS;
-use meaning::COEFFICIENTS;
-ghost use Prim.Native.Nat.{_≤_};
+ghost use Prim.Native.Nat.{_*_, _≤_};
+ghost use lib.ListN.{length};
 ghost use Rattle.laws.specs.Writing.{Put};
 ghost use Rattle.meaning.specs.Plants.{edgeLimit};
 ghost use Rattle.meaning.specs.Trees.{tile, layout};
 ghost use Rattle.tables.specs.Boxes.{boxOf, Small};
-ghost use Rattle.tables.specs.Frames.{frameFrom, rulesIn, FrameSound};
-ghost use Rattle.tables.specs.Limits.{LimitsLaid};
+ghost use Rattle.tables.specs.Frames.{frameFrom, rulesIn, PlantSound};
+ghost use Rattle.tables.specs.Limits.{limitsSize, marksSize, LimitsLaid};
 ghost use Rattle.tables.specs.Tiles.{longestPattern, patternOf};
 ghost use Rattle.tables.specs.Drafts.{Wrote, treeBytes, definedBytes};
 
-// No table has more bytes; and none of at most sixteen tiles has more than FEW. Zeros of 30,039 bytes would be a sixth of what a small house needs.
-pub const MOST: usize = 30_039;
+// No table has more bytes than MOST; none of at most BRIEF modes, which take a byte each, more than LONG; and none of such and at most sixteen tiles more than
+// FEW. Zeros of 30,039 bytes would be a sixth of what a small house needs, and of 54,615 a half.
+pub const MOST: usize = 54_615;
+
+pub const BRIEF: usize = 128;
+
+pub const LONG: usize = 30_039;
 
 pub const FEW: usize = 129;
 
@@ -54,20 +62,21 @@ fn put_tile(buf: &mut [u8], at: usize, k: usize, us: &[usize; LONGEST]) -> usize
 fn tree(
     f: Counts,
     edges: &[[i64; 4]; 6],
-    bands: &[i64; BANDS],
-    coef: &[i64; COEFFICIENTS],
-    limits: &[i64; LIMITS],
+    bands: &[i64],
+    coef: &[i64],
+    limits: &[i64],
+    marks: &[i64],
     d: usize,
     b: Bx,
     buf: &mut [u8],
     at: usize,
 ) -> Grown
-    requires { ⌜ LimitsLaid (frameFrom f (now edges)) (now bands) (now coef) (now limits) × Small edgeLimit (boxOf (f .n) b) ⌝ }
+    requires { ⌜ LimitsLaid (frameFrom f (now edges)) (now bands) (now coef) (now limits) (now marks) × Small edgeLimit (boxOf (f .n) b) ⌝ }
     ensures { λ r. ⌜ Wrote (treeBytes (rulesIn (frameFrom f (now (edges .entry))) (now (bands .entry)) (now (coef .entry))) d (boxOf (f .n) b)) (now (buf .entry)) at r (now (buf .exit)) ⌝ }
 {
     let n = f.n;
     let mut us = [0usize; LONGEST];
-    let size = search::first(n, f.modes, f.q, f.k, bands, coef, limits, b, &mut us);
+    let size = search::first(n, f.modes, f.q, f.k, bands, coef, limits, marks, b, &mut us);
     if size != 0 {
         return Grown::Next(put_tile(buf, at, size, &us));
     }
@@ -82,7 +91,18 @@ fn tree(
     let mut c: usize = 0;
     while c < count {
         let child = boxes::child(n, b, c);
-        let grown = tree(f, edges, bands, coef, limits, d - 1, child, buf, place);
+        let grown = tree(
+            f,
+            edges,
+            bands,
+            coef,
+            limits,
+            marks,
+            d - 1,
+            child,
+            buf,
+            place,
+        );
         let Grown::Next(next) = grown else {
             return Grown::Nothing;
         };
@@ -92,13 +112,20 @@ fn tree(
     Grown::Next(place)
 }
 
-// The table of a frame: header, then the tree of the box that is tiled. The limits are made once, and lent from then on.
-pub fn table(f: Frame, bands: &[i64; BANDS], coef: &[i64; COEFFICIENTS], buf: &mut [u8]) -> Grown
-    requires { ⌜ FrameSound f (now bands) (now coef) ⌝ }
+// The table of a frame, with room for its limits: header, then the tree of the box that is tiled. The limits are made once, and lent from then on.
+fn table_with(
+    f: Frame,
+    bands: &[i64],
+    coef: &[i64],
+    limits: &mut [i64],
+    marks: &mut [i64],
+    buf: &mut [u8],
+) -> Grown
+    requires plant { ⌜ PlantSound f (now bands) (now coef) ⌝ }
+    requires room { ⌜ (limitsSize * f .modes ≤ length (now limits)) × (marksSize * f .modes ≤ length (now marks)) ⌝ }
     ensures { λ r. ⌜ Wrote (definedBytes (rulesIn f (now (bands .entry)) (now (coef .entry)))) (now (buf .entry)) 0 r (now (buf .exit)) ⌝ }
 {
-    let mut limits = [0i64; LIMITS];
-    limits::lay(f, bands, coef, &mut limits);
+    limits::lay(f, bands, coef, limits, marks);
     let root = f.root;
     let edges = frames::edges_of(f);
     let past_form = numbers::put_number(buf, 0, 1);
@@ -108,10 +135,26 @@ pub fn table(f: Frame, bands: &[i64; BANDS], coef: &[i64; COEFFICIENTS], buf: &m
         &edges,
         bands,
         coef,
-        &limits,
+        limits,
+        marks,
         f.d,
         root,
         buf,
         past_rooms,
     )
+}
+
+// The table of a frame.
+pub fn table(f: Frame, bands: &[i64], coef: &[i64], buf: &mut [u8]) -> Grown
+    requires { ⌜ PlantSound f (now bands) (now coef) ⌝ }
+    ensures { λ r. ⌜ Wrote (definedBytes (rulesIn f (now (bands .entry)) (now (coef .entry)))) (now (buf .entry)) 0 r (now (buf .exit)) ⌝ }
+{
+    if f.modes <= FEW_MODES {
+        let mut limits = [0i64; FEW_LIMITS];
+        let mut marks = [0i64; FEW_MARKS];
+        return table_with(f, bands, coef, &mut limits, &mut marks, buf);
+    }
+    let mut limits = [0i64; MOST_LIMITS];
+    let mut marks = [0i64; MOST_MARKS];
+    table_with(f, bands, coef, &mut limits, &mut marks, buf)
 }

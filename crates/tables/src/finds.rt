@@ -8,12 +8,11 @@ use crate::modes;
 use crate::refusals;
 use crate::walks;
 use files::numbers;
-use meaning::BANDS;
-use meaning::COEFFICIENTS;
 use meaning::Found;
 use meaning::Number;
 use meaning::Walk;
 ghost use mathlib.Core.Path.{_≡_};
+ghost use mathlib.Core.List.{[]};
 ghost use Prim.Native.Nat.{_≤_};
 ghost use Rattle.meaning.specs.Control.{find, tileFound};
 ghost use Rattle.meaning.specs.Plants.{edgeLimit};
@@ -34,20 +33,18 @@ fn tile(modes: usize, k: usize, table: &[u8], from: usize) -> Found
     }
 }
 
-// The tile in the tree at `at`, over box b with depth d left.
+// The tile in the tree at `at`, over box b with depth d left. It hangs on no band and no coefficient, so the walk is lent a zero for each.
 pub fn find(
     f: Counts,
     edges: &[[i64; 4]; 6],
-    bands: &[i64; BANDS],
-    coef: &[i64; COEFFICIENTS],
     table: &[u8],
     d: usize,
     at: usize,
     b: Bx,
     x: [i64; 4],
 ) -> Found
-    requires { ⌜ FrameSound (frameFrom f (now edges)) (now bands) (now coef) × Small edgeLimit (boxOf (f .n) b) ⌝ }
-    ensures { λ r. ⌜ r ≡ find (rulesIn (frameFrom f (now (edges .entry))) (now (bands .entry)) (now (coef .entry))) d (now (table .entry)) at (boxOf (f .n) b) x ⌝ }
+    requires { ⌜ FrameSound (frameFrom f (now edges)) × Small edgeLimit (boxOf (f .n) b) ⌝ }
+    ensures { λ r. ⌜ r ≡ find (rulesIn (frameFrom f (now (edges .entry))) [] []) d (now (table .entry)) at (boxOf (f .n) b) x ⌝ }
 {
     let Number::Value(k, next) = numbers::number(table, at) else {
         return Found::Refused(files::refusals::broken(at));
@@ -62,15 +59,16 @@ pub fn find(
     if d == 0 {
         return Found::Refused(refusals::bad_table(at));
     }
+    let none = [0i64; 1];
     let count = boxes::count(n, b);
     let mut place = next;
     let mut c: usize = 0;
     while c < count {
         let child = boxes::child(n, b, c);
         if n <= boxes::missed(n, child, x) {
-            return find(f, edges, bands, coef, table, d - 1, place, child, x);
+            return find(f, edges, table, d - 1, place, child, x);
         }
-        match walks::walk(f, edges, bands, coef, false, table, d - 1, place, child) {
+        match walks::walk(f, edges, &none, &none, false, table, d - 1, place, child) {
             Walk::Refused(e) => {
                 return Found::Refused(e);
             }

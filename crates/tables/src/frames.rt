@@ -1,7 +1,7 @@
 // What a table is made, checked and run by, all but bands and coefficients: their arrays are lent beside it, so that a call copies only what is small.
 // Relies on boxes. Leaves out how a plant is read and judged.
 use crate::boxes::Bx;
-use meaning::Plant;
+use meaning::Outline;
 ghost use mathlib.Core.Path.{_≡_};
 ghost use Rattle.tables.specs.Frames.{frameOf, countsOf, edgesOf};
 
@@ -18,7 +18,7 @@ pub struct Frame {
 }
 
 // A plant's own frame: R is tiled, and patterns end in R.
-pub fn framed(p: Plant) -> Frame
+pub fn framed(p: Outline) -> Frame
     ensures { λ r. ⌜ r ≡ frameOf p ⌝ }
 {
     let rlo = p.rlo;

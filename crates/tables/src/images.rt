@@ -3,15 +3,14 @@
 // Every sum fits 64 bits: 4 entries of A within 20,000 times edges within 1,000,000, an offset and a band.
 use crate::boxes::Bx;
 use crate::division;
-use meaning::BANDS;
-use meaning::COEFFICIENTS;
 ghost use mathlib.Core.Path.{_≡_};
-ghost use Prim.Native.Nat.{_+_, _*_, _≤_, _<_};
+ghost use Prim.Native.Nat.{_+_, _*_, _^_, _≤_, _<_};
+ghost use lib.ListN.{length};
 ghost use lib.IntN.{natAbs, _+ℤ_};
 ghost use Rattle.laws.specs.Lists.{at};
 ghost use Rattle.meaning.specs.Boxes.{side, sideAt, sidesOf};
 ghost use Rattle.meaning.specs.Images.{leastOf, greatestOf, imageSide, image};
-ghost use Rattle.meaning.specs.Plants.{edgeLimit, bandLimit, entryLimit, rowStart, mostCoefs, mostBands, bandStart};
+ghost use Rattle.meaning.specs.Plants.{edgeLimit, bandLimit, entryLimit, rowStart, bandStart};
 ghost use Rattle.tables.specs.Boxes.{boxOf, Small};
 ghost use Rattle.promises.specs.files.Sound.{Bounded};
 ghost use Rattle.tables.specs.Images.{negativePart, rowLimit, entriesOf, rowAt, stepFrom, RowSound, StepSound, Extremes};
@@ -31,15 +30,8 @@ fn negative_part(a: i64) -> i64
 
 // One more term of a row: s and entry j, taken over side j. A larger reading makes the product with a positive part larger and that with a negative
 // part smaller, so for the least the positive part takes the low edge and the negative part the high one, and for the greatest the other way round.
-fn more(
-    coef: &[i64; COEFFICIENTS],
-    start: usize,
-    j: usize,
-    lo: &[i64; 4],
-    hi: &[i64; 4],
-    s: Span,
-) -> Span
-    requires place { ⌜ (j < 4) × (start + j < mostCoefs) ⌝ }
+fn more(coef: &[i64], start: usize, j: usize, lo: &[i64; 4], hi: &[i64; 4], s: Span) -> Span
+    requires place { ⌜ (j < 4) × (start + j < length (now coef)) ⌝ }
     requires entry { ⌜ (natAbs (at (now coef) (start + j)) ≤ entryLimit) × Bounded edgeLimit (sideAt (now lo) (now hi) j) ⌝ }
     requires sums { ⌜ (natAbs (s .lo) ≤ rowLimit) × (natAbs (s .hi) ≤ rowLimit) ⌝ }
     ensures least { λ r. ⌜ r .lo ≡ s .lo +ℤ leastOf (at (now (coef .entry)) (start + j)) (sideAt (now (lo .entry)) (now (hi .entry)) j) ⌝ }
@@ -60,13 +52,7 @@ fn more(
 
 // The least and the greatest of A·x over a box, A being the row that starts at `start`. Written out room by room: a loop of at most four rounds
 // costs more than its terms.
-pub fn extremes(
-    n: usize,
-    coef: &[i64; COEFFICIENTS],
-    start: usize,
-    lo: &[i64; 4],
-    hi: &[i64; 4],
-) -> Span
+pub fn extremes(n: usize, coef: &[i64], start: usize, lo: &[i64; 4], hi: &[i64; 4]) -> Span
     requires { ⌜ RowSound n (now coef) start × Small edgeLimit (sidesOf n (now lo) (now hi)) ⌝ }
     ensures { λ r. ⌜ Extremes (entriesOf n (now (coef .entry)) start) (sidesOf n (now (lo .entry)) (now (hi .entry))) (r .lo) (r .hi) ⌝ }
 {
@@ -86,9 +72,9 @@ pub fn extremes(
     more(coef, start, 3, lo, hi, three)
 }
 
-// Where row i of mode u starts.
+// Where row i of mode u starts: a row whose end is a usize.
 pub fn row(n: usize, u: usize, i: usize) -> usize
-    requires { ⌜ rowStart n u i + n < mostCoefs ⌝ }
+    requires { ⌜ rowStart n u i + n + 1 < 2 ^ 64 ⌝ }
     ensures { λ r. ⌜ r ≡ rowStart n u i ⌝ }
 {
     (u * n + i) * (n + 1)
@@ -96,9 +82,8 @@ pub fn row(n: usize, u: usize, i: usize) -> usize
 
 // Where the band of mode u in dimension i stands: its low end, and behind it its high end.
 pub fn band(n: usize, u: usize, i: usize) -> usize
-    requires { ⌜ bandStart n u i + 1 < mostBands ⌝ }
-    ensures place { λ r. ⌜ r ≡ bandStart n u i ⌝ }
-    ensures inside { λ r. ⌜ r + 1 < mostBands ⌝ }
+    requires { ⌜ bandStart n u i < 2 ^ 64 ⌝ }
+    ensures { λ r. ⌜ r ≡ bandStart n u i ⌝ }
 {
     (u * n + i) * 2
 }
@@ -107,7 +92,7 @@ pub fn band(n: usize, u: usize, i: usize) -> usize
 fn image_side(
     n: usize,
     q: usize,
-    coef: &[i64; COEFFICIENTS],
+    coef: &[i64],
     start: usize,
     wl: i64,
     wh: i64,
@@ -129,8 +114,8 @@ fn image_side(
 pub fn image(
     n: usize,
     q: usize,
-    bands: &[i64; BANDS],
-    coef: &[i64; COEFFICIENTS],
+    bands: &[i64],
+    coef: &[i64],
     u: usize,
     lo: &[i64; 4],
     hi: &[i64; 4],

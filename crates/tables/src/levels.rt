@@ -4,7 +4,6 @@
 use crate::boxes::Bx;
 use crate::images;
 use crate::images::Span;
-use meaning::COEFFICIENTS;
 ghost use mathlib.Core.Path.{_≡_};
 ghost use Prim.Native.Nat.{_+_, _≤_, _<_};
 ghost use lib.ListN.{length};
@@ -12,7 +11,7 @@ ghost use lib.IntN.{natAbs, _+ℤ_};
 ghost use Rattle.laws.specs.Lists.{at};
 ghost use Rattle.meaning.specs.Boxes.{side};
 ghost use Rattle.meaning.specs.Images.{leastOf, greatestOf};
-ghost use Rattle.meaning.specs.Plants.{edgeLimit, entryLimit, mostCoefs};
+ghost use Rattle.meaning.specs.Plants.{edgeLimit, entryLimit};
 ghost use Rattle.tables.specs.Boxes.{boxOf, Small};
 ghost use Rattle.promises.specs.files.Sound.{Bounded};
 ghost use Rattle.tables.specs.Images.{rowLimit, entriesOf, RowSound, Extremes};
@@ -49,15 +48,8 @@ pub fn begin(n: usize, b: Bx, boxes: &mut [i64; ROOM])
 }
 
 // One more term of a row: s and entry j, taken over side j of the box at `place`.
-fn more(
-    coef: &[i64; COEFFICIENTS],
-    start: usize,
-    j: usize,
-    boxes: &[i64; ROOM],
-    place: usize,
-    s: Span,
-) -> Span
-    requires place { ⌜ (j < 4) × (start + j < mostCoefs) × (place + wide ≤ room) ⌝ }
+fn more(coef: &[i64], start: usize, j: usize, boxes: &[i64; ROOM], place: usize, s: Span) -> Span
+    requires place { ⌜ (j < 4) × (start + j < length (now coef)) × (place + wide ≤ room) ⌝ }
     requires entry { ⌜ (natAbs (at (now coef) (start + j)) ≤ entryLimit) × Bounded edgeLimit (sideIn (now boxes) place j) ⌝ }
     requires sums { ⌜ (natAbs (s .lo) ≤ rowLimit) × (natAbs (s .hi) ≤ rowLimit) ⌝ }
     ensures least { λ r. ⌜ r .lo ≡ s .lo +ℤ leastOf (at (now (coef .entry)) (start + j)) (sideIn (now (boxes .entry)) place j) ⌝ }
@@ -76,13 +68,7 @@ fn more(
 }
 
 // The least and the greatest of A·x over the box at `place`, A being the row that starts at `start`: as images has it of a box by itself.
-pub fn extremes(
-    n: usize,
-    coef: &[i64; COEFFICIENTS],
-    start: usize,
-    boxes: &[i64; ROOM],
-    place: usize,
-) -> Span
+pub fn extremes(n: usize, coef: &[i64], start: usize, boxes: &[i64; ROOM], place: usize) -> Span
     requires { ⌜ RowSound n (now coef) start × (place + wide ≤ room) × Small edgeLimit (boxIn n (now boxes) place) ⌝ }
     ensures { λ r. ⌜ Extremes (entriesOf n (now (coef .entry)) start) (boxIn n (now (boxes .entry)) place) (r .lo) (r .hi) ⌝ }
 {

@@ -2,9 +2,14 @@
 // touched once: plant, 9, 10.
 // Relies on crate files for the plant and for what a write leaves, on drafts for the table. Leaves out whether the table works: that is proved of the
 // definition.
+use crate::arrays::FEW_BANDS;
+use crate::arrays::FEW_COEFFICIENTS;
+use crate::arrays::FEW_MODES;
 use crate::drafts;
+use crate::drafts::BRIEF;
 use crate::drafts::FEW;
 use crate::drafts::Grown;
+use crate::drafts::LONG;
 use crate::drafts::MOST;
 use crate::frames;
 use crate::frames::Frame;
@@ -19,20 +24,21 @@ ghost use mathlib.Core.Path.{_≡_};
 ghost use Prim.Native.Nat.{_+_, _^_, _≤_};
 ghost use lib.ListN.{length};
 ghost use Rattle.meaning.specs.Tables.{makerLeft};
-ghost use Rattle.promises.specs.tables.TableLengths.{most};
-ghost use Rattle.tables.specs.Frames.{rulesIn, FrameSound};
+ghost use Rattle.promises.specs.tables.TableLengths.{most, tileBytes};
+ghost use Rattle.tables.specs.Arrays.{RoomFor};
+ghost use Rattle.tables.specs.Frames.{rulesIn, PlantSound};
 ghost use Rattle.tables.specs.Makes.{definedLeft};
 
 // The table of a frame, drafted where there is room for it, and written: 9, 10. Finished, only the table's bytes are changed; refused, the buffer is all zeros.
 fn write_table<'a>(
     f: Frame,
-    bands: &'a [i64; BANDS],
-    coef: &'a [i64; COEFFICIENTS],
+    bands: &'a [i64],
+    coef: &'a [i64],
     draft: &mut [u8],
     buf: &mut [u8],
 ) -> Written
-    requires frame { ⌜ FrameSound f (now bands) (now coef) ⌝ }
-    requires room { ⌜ 2 + most (2 ^ f .n) 7 (f .d) ≤ length (now draft) ⌝ }
+    requires frame { ⌜ PlantSound f (now bands) (now coef) ⌝ }
+    requires room { ⌜ 2 + most (2 ^ f .n) (tileBytes (f .modes)) (f .d) ≤ length (now draft) ⌝ }
     ensures answer { λ r. ⌜ r ≡ definedLeft (rulesIn f (now (bands .entry)) (now (coef .entry))) (now (buf .entry)) .answer ⌝ }
     ensures bytes { λ r. ⌜ now (buf .exit) ≡ definedLeft (rulesIn f (now (bands .entry)) (now (coef .entry))) (now (buf .entry)) .buffer ⌝ }
 {
@@ -42,23 +48,66 @@ fn write_table<'a>(
     buffers::leave(Verdict::Accepted, &draft[..length], buf)
 }
 
+// In a draft for any table.
+fn write_most<'a>(f: Frame, bands: &'a [i64], coef: &'a [i64], buf: &mut [u8]) -> Written
+    requires { ⌜ PlantSound f (now bands) (now coef) ⌝ }
+    ensures answer { λ r. ⌜ r ≡ definedLeft (rulesIn f (now (bands .entry)) (now (coef .entry))) (now (buf .entry)) .answer ⌝ }
+    ensures bytes { λ r. ⌜ now (buf .exit) ≡ definedLeft (rulesIn f (now (bands .entry)) (now (coef .entry))) (now (buf .entry)) .buffer ⌝ }
+{
+    let mut draft = [0u8; MOST];
+    write_table(f, bands, coef, &mut draft, buf)
+}
+
+// In the smallest draft that is sure to have room.
+fn write_own<'a>(f: Frame, bands: &'a [i64], coef: &'a [i64], buf: &mut [u8]) -> Written
+    requires { ⌜ PlantSound f (now bands) (now coef) ⌝ }
+    ensures answer { λ r. ⌜ r ≡ definedLeft (rulesIn f (now (bands .entry)) (now (coef .entry))) (now (buf .entry)) .answer ⌝ }
+    ensures bytes { λ r. ⌜ now (buf .exit) ≡ definedLeft (rulesIn f (now (bands .entry)) (now (coef .entry))) (now (buf .entry)) .buffer ⌝ }
+{
+    if BRIEF < f.modes {
+        return write_most(f, bands, coef, buf);
+    }
+    if f.n * f.d <= 4 {
+        let mut few = [0u8; FEW];
+        return write_table(f, bands, coef, &mut few, buf);
+    }
+    let mut draft = [0u8; LONG];
+    write_table(f, bands, coef, &mut draft, buf)
+}
+
+// The table's file for a plant's file, the plant being read into arrays that have room for it.
+fn make_in(plant: &[u8], bands: &mut [i64], coef: &mut [i64], buf: &mut [u8]) -> Written
+    requires { ⌜ RoomFor (now plant) (now bands) (now coef) ⌝ }
+    ensures answer { λ r. ⌜ r ≡ makerLeft (now (plant .entry)) (now (buf .entry)) .answer ⌝ }
+    ensures bytes { λ r. ⌜ now (buf .exit) ≡ makerLeft (now (plant .entry)) (now (buf .entry)) .buffer ⌝ }
+{
+    let read = plants::read_plant(plant, bands, coef);
+    let verdict = read.verdict;
+    match verdict {
+        Verdict::Refused(e) => buffers::refuse(e, buf),
+        Verdict::Accepted => write_own(frames::framed(read.outline), bands, coef, buf),
+    }
+}
+
+// In arrays for any plant.
+fn make_many(plant: &[u8], buf: &mut [u8]) -> Written
+    ensures answer { λ r. ⌜ r ≡ makerLeft (now (plant .entry)) (now (buf .entry)) .answer ⌝ }
+    ensures bytes { λ r. ⌜ now (buf .exit) ≡ makerLeft (now (plant .entry)) (now (buf .entry)) .buffer ⌝ }
+{
+    let mut bands = [0i64; BANDS];
+    let mut coef = [0i64; COEFFICIENTS];
+    make_in(plant, &mut bands, &mut coef, buf)
+}
+
 // The table's file for a plant's file: plant, 9, 10.
 pub fn make(plant: &[u8], buf: &mut [u8]) -> Written
     ensures answer { λ r. ⌜ r ≡ makerLeft (now (plant .entry)) (now (buf .entry)) .answer ⌝ }
     ensures bytes { λ r. ⌜ now (buf .exit) ≡ makerLeft (now (plant .entry)) (now (buf .entry)) .buffer ⌝ }
 {
-    let read = plants::read_plant(plant);
-    let verdict = read.verdict;
-    match verdict {
-        Verdict::Refused(e) => buffers::refuse(e, buf),
-        Verdict::Accepted => {
-            let f = frames::framed(read.plant);
-            if f.n * f.d <= 4 {
-                let mut few = [0u8; FEW];
-                return write_table(f, &read.plant.bands, &read.plant.coef, &mut few, buf);
-            }
-            let mut draft = [0u8; MOST];
-            write_table(f, &read.plant.bands, &read.plant.coef, &mut draft, buf)
-        }
+    if FEW_MODES < plants::modes_told(plant) {
+        return make_many(plant, buf);
     }
+    let mut bands = [0i64; FEW_BANDS];
+    let mut coef = [0i64; FEW_COEFFICIENTS];
+    make_in(plant, &mut bands, &mut coef, buf)
 }

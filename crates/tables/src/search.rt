@@ -8,10 +8,7 @@ use crate::levels;
 use crate::levels::LONGEST;
 use crate::levels::ROOM;
 use crate::levels::WIDE;
-use crate::limits::LIMITS;
 use crate::steps;
-use meaning::BANDS;
-use meaning::COEFFICIENTS;
 ghost use mathlib.Core.Path.{_≡_};
 ghost use mathlib.Core.Bool.{true};
 ghost use Prim.Native.Nat.{suc, _+_, _≤_, _<_};
@@ -19,7 +16,7 @@ ghost use lib.ListN.{length};
 ghost use Rattle.meaning.specs.Plants.{edgeLimit};
 ghost use Rattle.tables.specs.Boxes.{boxOf, Small};
 ghost use Rattle.tables.specs.Levels.{levelIn};
-ghost use Rattle.tables.specs.Limits.{staysLent, imageLent, Lent};
+ghost use Rattle.tables.specs.Limits.{staysLent, imageLent, Lent, MarksLent};
 ghost use Rattle.tables.specs.Tiles.{longestPattern, modeAt};
 ghost use Rattle.tables.specs.Search.{patternBy, shortestLent, Standing, SameTo};
 
@@ -28,9 +25,9 @@ fn descend(
     n: usize,
     count: usize,
     q: usize,
-    bands: &[i64; BANDS],
-    coef: &[i64; COEFFICIENTS],
-    limits: &[i64; LIMITS],
+    bands: &[i64],
+    coef: &[i64],
+    limits: &[i64],
     l: usize,
     u: usize,
     us: &mut [usize; LONGEST],
@@ -62,13 +59,14 @@ pub fn first(
     count: usize,
     q: usize,
     k: usize,
-    bands: &[i64; BANDS],
-    coef: &[i64; COEFFICIENTS],
-    limits: &[i64; LIMITS],
+    bands: &[i64],
+    coef: &[i64],
+    limits: &[i64],
+    marks: &[i64],
     b: Bx,
     us: &mut [usize; LONGEST],
 ) -> usize
-    requires { ⌜ Lent n count q (now bands) (now coef) (now limits) × (k ≤ longestPattern) × Small edgeLimit (boxOf n b) ⌝ }
+    requires { ⌜ Lent n count q (now bands) (now coef) (now limits) × (k ≤ longestPattern) × Small edgeLimit (boxOf n b) × MarksLent n count (now coef) (now marks) ⌝ }
     ensures pattern { λ r. ⌜ patternBy r (now (us .exit)) ≡ shortestLent n count q (now (bands .entry)) (now (coef .entry)) (now (limits .entry)) k (boxOf n b) ⌝ }
     ensures size { λ r. ⌜ (r ≤ longestPattern) × (length (now (us .exit)) ≡ longestPattern) ⌝ }
 {
@@ -91,7 +89,7 @@ pub fn first(
                 continue;
             }
             if l == m {
-                u = steps::last(n, count, coef, limits, &boxes, WIDE * l);
+                u = steps::last(n, count, coef, limits, marks, &boxes, WIDE * l);
                 if u < count {
                     us[l] = u;
                     size = m + 1;

@@ -15,8 +15,6 @@ use crate::parts::Part;
 use crate::refusals;
 use files::plants;
 use meaning::Answer;
-use meaning::BANDS;
-use meaning::COEFFICIENTS;
 use meaning::Refusal;
 use meaning::StartAnswer;
 use meaning::StartState;
@@ -111,24 +109,15 @@ fn state_in(i: usize, st: State) -> StartState
 }
 
 // The call on table i, the first length being at `at`. What is told of the table is told at its place in the file.
-fn call_behind<'a>(
-    f: Frame,
-    bands: &'a [i64; BANDS],
-    coef: &'a [i64; COEFFICIENTS],
-    start: &[u8],
-    at: usize,
-    i: usize,
-    st: State,
-    x: [i64; 4],
-) -> StartAnswer
-    requires { ⌜ FrameSound f (now bands) (now coef) ⌝ }
-    ensures { λ r. ⌜ r ≡ callBehind f (now (bands .entry)) (now (coef .entry)) (now (start .entry)) at i st x ⌝ }
+fn call_behind(f: Frame, start: &[u8], at: usize, i: usize, st: State, x: [i64; 4]) -> StartAnswer
+    requires { ⌜ FrameSound f ⌝ }
+    ensures { λ r. ⌜ r ≡ callBehind f (now (start .entry)) at i st x ⌝ }
 {
     match parts::part_behind(i, start, at) {
         Part::Refused(e) => StartAnswer::Refused(e),
         Part::At(first, size) => {
             let end = first + size;
-            match control::call(f, bands, coef, &start[first..end], st, x) {
+            match control::call(f, &start[first..end], st, x) {
                 Answer::Refused(e) => StartAnswer::Refused(refusals::moved(first, e)),
                 Answer::Mode(u, then) => StartAnswer::Mode(u, state_in(i, then)),
             }
@@ -137,36 +126,23 @@ fn call_behind<'a>(
 }
 
 // A call on a chain that was read.
-fn start_call<'a>(
+fn start_call(
     f: Frame,
     edges: &[i64; EDGES],
-    bands: &'a [i64; BANDS],
-    coef: &'a [i64; COEFFICIENTS],
     start: &[u8],
     m: usize,
     at: usize,
     st: StartState,
     x: [i64; 4],
 ) -> StartAnswer
-    requires { ⌜ FramesSound f (now bands) (now coef) (now edges) m ⌝ }
-    ensures { λ r. ⌜ r ≡ startAnswer f (now (edges .entry)) (now (bands .entry)) (now (coef .entry)) (now (start .entry)) m at st x ⌝ }
+    requires { ⌜ FramesSound f (now edges) m ⌝ }
+    ensures { λ r. ⌜ r ≡ startAnswer f (now (edges .entry)) (now (start .entry)) m at st x ⌝ }
 {
     let root = f.root;
     let state = st.state;
     match choose_table(f.n, root, edges, m, st, x) {
         Choice::Refused(e) => StartAnswer::Refused(e),
-        Choice::Table(i) => {
-            call_behind(
-                chains::frame_at(f, edges, i),
-                bands,
-                coef,
-                start,
-                at,
-                i,
-                state,
-                x,
-            )
-        }
+        Choice::Table(i) => { call_behind(chains::frame_at(f, edges, i), start, at, i, state, x) }
     }
 }
 
@@ -174,28 +150,18 @@ fn start_call<'a>(
 pub fn start_control(plant: &[u8], start: &[u8], st: StartState, x: [i64; 4]) -> StartAnswer
     ensures { λ r. ⌜ r ≡ startControlled (now (plant .entry)) (now (start .entry)) st x ⌝ }
 {
-    let read = plants::read_plant(plant);
+    let read = plants::judge_plant(plant);
     let verdict = read.verdict;
     match verdict {
         Verdict::Refused(e) => StartAnswer::Refused(e),
         Verdict::Accepted => {
-            let f = frames::framed(read.plant);
+            let f = frames::framed(read.outline);
             let chain = chains::read_chain(f, false, start);
             let kept = chain.verdict;
             match kept {
                 Verdict::Refused(e) => StartAnswer::Refused(e),
                 Verdict::Accepted => {
-                    start_call(
-                        f,
-                        &chain.edges,
-                        &read.plant.bands,
-                        &read.plant.coef,
-                        start,
-                        chain.m,
-                        chain.next,
-                        st,
-                        x,
-                    )
+                    start_call(f, &chain.edges, start, chain.m, chain.next, st, x)
                 }
             }
         }

@@ -2,11 +2,16 @@
 // into the lent buffer, for 9 comes before 10: plant, chain, 15, 9 with the first index that has no table, 10.
 // Relies on crate files for the plant, for numbers and for what a write leaves, on chains for the chain and each box's frame, on drafts for a table. Leaves
 // out whether the tables work: that is proved of the definition.
+use crate::arrays::FEW_BANDS;
+use crate::arrays::FEW_COEFFICIENTS;
+use crate::arrays::FEW_MODES;
 use crate::chains;
 use crate::chains::EDGES;
 use crate::drafts;
+use crate::drafts::BRIEF;
 use crate::drafts::FEW;
 use crate::drafts::Grown;
+use crate::drafts::LONG;
 use crate::drafts::MOST;
 use crate::frames;
 use crate::frames::Frame;
@@ -26,24 +31,25 @@ ghost use mathlib.Core.Bool.{true};
 ghost use Rattle.meaning.specs.Boxes.{within};
 ghost use Rattle.meaning.specs.Buffers.{left};
 ghost use Rattle.meaning.specs.Starts.{startLeft};
-ghost use Rattle.promises.specs.tables.TableLengths.{most};
+ghost use Rattle.promises.specs.tables.TableLengths.{most, tileBytes};
+ghost use Rattle.tables.specs.Arrays.{RoomFor};
 ghost use Rattle.tables.specs.Boxes.{boxOf};
 ghost use Rattle.tables.specs.Chains.{mostAbove};
 ghost use Rattle.tables.specs.Drafts.{Wrote};
-ghost use Rattle.tables.specs.Frames.{rulesIn, FrameSound};
+ghost use Rattle.tables.specs.Frames.{rulesIn, PlantSound};
 ghost use Rattle.tables.specs.StartMakes.{partBytes, WroteParts, framesTables, FramesSound, behindChain, chainLeft};
 
 // A frame's table behind its length: drafted where there is room for it, then copied.
 fn put_part(
     f: Frame,
-    bands: &[i64; BANDS],
-    coef: &[i64; COEFFICIENTS],
+    bands: &[i64],
+    coef: &[i64],
     draft: &mut [u8],
     buf: &mut [u8],
     at: usize,
 ) -> Grown
-    requires frame { ⌜ FrameSound f (now bands) (now coef) ⌝ }
-    requires room { ⌜ 2 + most (2 ^ f .n) 7 (f .d) ≤ length (now draft) ⌝ }
+    requires frame { ⌜ PlantSound f (now bands) (now coef) ⌝ }
+    requires room { ⌜ 2 + most (2 ^ f .n) (tileBytes (f .modes)) (f .d) ≤ length (now draft) ⌝ }
     ensures { λ r. ⌜ Wrote (partBytes (rulesIn f (now (bands .entry)) (now (coef .entry)))) (now (buf .entry)) at r (now (buf .exit)) ⌝ }
 {
     let Grown::Next(size) = drafts::table(f, bands, coef, draft) else {
@@ -56,8 +62,8 @@ fn put_part(
 // The tables of R0..Rm, one draft for all; or 9 with the first index that has none.
 fn put_parts(
     f: Frame,
-    bands: &[i64; BANDS],
-    coef: &[i64; COEFFICIENTS],
+    bands: &[i64],
+    coef: &[i64],
     edges: &[i64; EDGES],
     m: usize,
     draft: &mut [u8],
@@ -65,7 +71,7 @@ fn put_parts(
     at: usize,
 ) -> Walk
     requires frames { ⌜ (m ≤ mostAbove) × FramesSound f (now bands) (now coef) (now edges) m ⌝ }
-    requires room { ⌜ 2 + most (2 ^ f .n) 7 (f .d) ≤ length (now draft) ⌝ }
+    requires room { ⌜ 2 + most (2 ^ f .n) (tileBytes (f .modes)) (f .d) ≤ length (now draft) ⌝ }
     requires place { ⌜ at ≤ length (now buf) + 1 ⌝ }
     ensures { λ r. ⌜ WroteParts (framesTables f (now (bands .entry)) (now (coef .entry)) (now (edges .entry)) m) (now (buf .entry)) at r (now (buf .exit)) ⌝ }
 {
@@ -86,8 +92,8 @@ fn put_parts(
 // The chain's bytes, then the tables: 9, 10. Finished, only the file's bytes are changed; refused, the buffer is all zeros.
 fn write_start(
     f: Frame,
-    bands: &[i64; BANDS],
-    coef: &[i64; COEFFICIENTS],
+    bands: &[i64],
+    coef: &[i64],
     edges: &[i64; EDGES],
     m: usize,
     chain: &[u8],
@@ -95,7 +101,7 @@ fn write_start(
     buf: &mut [u8],
 ) -> Written
     requires frames { ⌜ (m ≤ mostAbove) × FramesSound f (now bands) (now coef) (now edges) m ⌝ }
-    requires room { ⌜ 2 + most (2 ^ f .n) 7 (f .d) ≤ length (now draft) ⌝ }
+    requires room { ⌜ 2 + most (2 ^ f .n) (tileBytes (f .modes)) (f .d) ≤ length (now draft) ⌝ }
     ensures answer { λ r. ⌜ r ≡ left (behindChain (now (chain .entry)) (framesTables f (now (bands .entry)) (now (coef .entry)) (now (edges .entry)) m)) (now (buf .entry)) .answer ⌝ }
     ensures bytes { λ r. ⌜ now (buf .exit) ≡ left (behindChain (now (chain .entry)) (framesTables f (now (bands .entry)) (now (coef .entry)) (now (edges .entry)) m)) (now (buf .entry)) .buffer ⌝ }
 {
@@ -112,15 +118,33 @@ fn write_start(
     }
 }
 
-// For a frame: chain, 15, 9, 10.
-fn make_start<'a>(
+// In a draft for any table.
+fn write_start_most(
     f: Frame,
-    bands: &'a [i64; BANDS],
-    coef: &'a [i64; COEFFICIENTS],
+    bands: &[i64],
+    coef: &[i64],
+    edges: &[i64; EDGES],
+    m: usize,
     chain: &[u8],
     buf: &mut [u8],
 ) -> Written
-    requires frame { ⌜ FrameSound f (now bands) (now coef) ⌝ }
+    requires { ⌜ (m ≤ mostAbove) × FramesSound f (now bands) (now coef) (now edges) m ⌝ }
+    ensures answer { λ r. ⌜ r ≡ left (behindChain (now (chain .entry)) (framesTables f (now (bands .entry)) (now (coef .entry)) (now (edges .entry)) m)) (now (buf .entry)) .answer ⌝ }
+    ensures bytes { λ r. ⌜ now (buf .exit) ≡ left (behindChain (now (chain .entry)) (framesTables f (now (bands .entry)) (now (coef .entry)) (now (edges .entry)) m)) (now (buf .entry)) .buffer ⌝ }
+{
+    let mut draft = [0u8; MOST];
+    write_start(f, bands, coef, edges, m, chain, &mut draft, buf)
+}
+
+// For a frame: chain, 15, 9, 10. The draft is the smallest that is sure to have room.
+fn make_start<'a>(
+    f: Frame,
+    bands: &'a [i64],
+    coef: &'a [i64],
+    chain: &[u8],
+    buf: &mut [u8],
+) -> Written
+    requires frame { ⌜ PlantSound f (now bands) (now coef) ⌝ }
     requires root { ⌜ within (boxOf (f .n) (f .root)) (boxOf (f .n) (f .safe)) ≡ true ⌝ }
     ensures answer { λ r. ⌜ r ≡ chainLeft f (now (bands .entry)) (now (coef .entry)) (now (chain .entry)) (now (buf .entry)) .answer ⌝ }
     ensures bytes { λ r. ⌜ now (buf .exit) ≡ chainLeft f (now (bands .entry)) (now (coef .entry)) (now (chain .entry)) (now (buf .entry)) .buffer ⌝ }
@@ -130,14 +154,47 @@ fn make_start<'a>(
     match verdict {
         Verdict::Refused(e) => buffers::refuse(e, buf),
         Verdict::Accepted => {
+            if BRIEF < f.modes {
+                return write_start_most(f, bands, coef, &read.edges, read.m, chain, buf);
+            }
             if f.n * f.d <= 4 {
                 let mut few = [0u8; FEW];
                 return write_start(f, bands, coef, &read.edges, read.m, chain, &mut few, buf);
             }
-            let mut draft = [0u8; MOST];
+            let mut draft = [0u8; LONG];
             write_start(f, bands, coef, &read.edges, read.m, chain, &mut draft, buf)
         }
     }
+}
+
+// The start file for a plant's file and a chain's, the plant being read into arrays that have room for it.
+fn start_make_in(
+    plant: &[u8],
+    bands: &mut [i64],
+    coef: &mut [i64],
+    chain: &[u8],
+    buf: &mut [u8],
+) -> Written
+    requires { ⌜ RoomFor (now plant) (now bands) (now coef) ⌝ }
+    ensures answer { λ r. ⌜ r ≡ startLeft (now (plant .entry)) (now (chain .entry)) (now (buf .entry)) .answer ⌝ }
+    ensures bytes { λ r. ⌜ now (buf .exit) ≡ startLeft (now (plant .entry)) (now (chain .entry)) (now (buf .entry)) .buffer ⌝ }
+{
+    let read = plants::read_plant(plant, bands, coef);
+    let verdict = read.verdict;
+    match verdict {
+        Verdict::Refused(e) => buffers::refuse(e, buf),
+        Verdict::Accepted => make_start(frames::framed(read.outline), bands, coef, chain, buf),
+    }
+}
+
+// In arrays for any plant.
+fn start_make_many(plant: &[u8], chain: &[u8], buf: &mut [u8]) -> Written
+    ensures answer { λ r. ⌜ r ≡ startLeft (now (plant .entry)) (now (chain .entry)) (now (buf .entry)) .answer ⌝ }
+    ensures bytes { λ r. ⌜ now (buf .exit) ≡ startLeft (now (plant .entry)) (now (chain .entry)) (now (buf .entry)) .buffer ⌝ }
+{
+    let mut bands = [0i64; BANDS];
+    let mut coef = [0i64; COEFFICIENTS];
+    start_make_in(plant, &mut bands, &mut coef, chain, buf)
 }
 
 // The start file for a plant's file and a chain's: plant, chain, 15, 9, 10.
@@ -145,18 +202,10 @@ pub fn start_make(plant: &[u8], chain: &[u8], buf: &mut [u8]) -> Written
     ensures answer { λ r. ⌜ r ≡ startLeft (now (plant .entry)) (now (chain .entry)) (now (buf .entry)) .answer ⌝ }
     ensures bytes { λ r. ⌜ now (buf .exit) ≡ startLeft (now (plant .entry)) (now (chain .entry)) (now (buf .entry)) .buffer ⌝ }
 {
-    let read = plants::read_plant(plant);
-    let verdict = read.verdict;
-    match verdict {
-        Verdict::Refused(e) => buffers::refuse(e, buf),
-        Verdict::Accepted => {
-            make_start(
-                frames::framed(read.plant),
-                &read.plant.bands,
-                &read.plant.coef,
-                chain,
-                buf,
-            )
-        }
+    if FEW_MODES < plants::modes_told(plant) {
+        return start_make_many(plant, chain, buf);
     }
+    let mut bands = [0i64; FEW_BANDS];
+    let mut coef = [0i64; FEW_COEFFICIENTS];
+    start_make_in(plant, &mut bands, &mut coef, chain, buf)
 }

@@ -1,16 +1,19 @@
 // The controller between two calls (document 01, "The controller" and row 12): whether a running state can be, and the mode that a place answers.
-// Relies on crate files for numbers, and on crates/meaning for what a state is. Leaves out the reading, and an idle state.
+// Relies on crate files for numbers, on modes for those that are left, and on crates/meaning for what a state is. Leaves out the reading, and an idle state.
+use crate::modes;
 use crate::refusals;
 use files::numbers;
 use meaning::Answer;
 use meaning::Number;
 use meaning::State;
+use meaning::Walk;
 ghost use mathlib.Core.Path.{_≡_};
+ghost use Prim.Native.Nat.{_≤_};
 ghost use Rattle.meaning.specs.Control.{canRun, modeAt};
 
-// Whether `left` modes, at most k, from `place` on stand in the table behind its header, and the first of them is a mode. The sum of place and left may
-// be beyond a usize, so left is held against what stands behind the place.
+// Whether `left` modes, at most k, stand in the table from `place` on behind its header, each a mode: all of them are read, as those of a tile are.
 pub fn can_run(k: usize, modes: usize, table: &[u8], place: usize, left: usize) -> bool
+    requires { ⌜ k ≤ 6 ⌝ }
     ensures { λ r. ⌜ r ≡ canRun k modes (now (table .entry)) place left ⌝ }
 {
     if k < left {
@@ -19,16 +22,12 @@ pub fn can_run(k: usize, modes: usize, table: &[u8], place: usize, left: usize) 
     if place < 2 {
         return false;
     }
-    if table.len() < place {
-        return false;
+    let read = modes::read_modes(modes, left, table, place);
+    let answer = read.answer;
+    match answer {
+        Walk::Refused(_) => false,
+        Walk::Next(_) => true,
     }
-    if table.len() - place < left {
-        return false;
-    }
-    let Number::Value(u, _) = numbers::number(table, place) else {
-        return false;
-    };
-    u < modes
 }
 
 // The mode at a place with that many left, itself counted, and the state behind it: at the number that follows, or idle behind the last. That none is

@@ -10,15 +10,11 @@ use crate::levels;
 use crate::levels::ROOM;
 use crate::levels::WIDE;
 use crate::limits::GOAL;
-use crate::limits::LIMITS;
-use crate::limits::MARK;
-use crate::limits::OFFSET;
+use crate::limits::PAIR;
 use crate::limits::SPAN;
-use meaning::BANDS;
-use meaning::COEFFICIENTS;
 ghost use mathlib.Core.Path.{_≡_};
 ghost use mathlib.Core.Bool.{true, false};
-ghost use Prim.Native.Nat.{ℕ, _+_, _-_, _≤_, _<_};
+ghost use Prim.Native.Nat.{ℕ, _+_, _-_, _*_, _≤_, _<_};
 ghost use lib.ListN.{length};
 ghost use lib.IntN.{natAbs, pos};
 ghost use Rattle.laws.specs.Lists.{at, tab};
@@ -28,17 +24,11 @@ ghost use Rattle.meaning.specs.Plants.{edgeLimit};
 ghost use Rattle.tables.specs.Boxes.{Small};
 ghost use Rattle.tables.specs.Images.{RowSound, Extremes};
 ghost use Rattle.tables.specs.Levels.{wide, room, sideIn, boxIn, Beside};
-ghost use Rattle.tables.specs.Limits.{addLimit, markAt, offsetAt, mostModes, mostLimits, sumSide, sumsAt, covered, staysLent, landsLent, imageLent, landing, dividedIn, Within, RowsSound, BandsSound, lastEntries, lastOffset, Marked};
+ghost use Rattle.tables.specs.Limits.{addLimit, limitsSize, safeAt, goalAt, markAt, offsetAt, sumSide, sumsAt, covered, staysLent, landsLent, imageLent, landing, dividedIn, Within, RowsSound, BandsSound, lastEntries, lastOffset, MarksLent};
 ghost use Rattle.tables.specs.Search.{oneOf};
 
 // The least and the greatest of A·x + b over the box at `place`, by the row that starts at `start`.
-fn sums(
-    n: usize,
-    coef: &[i64; COEFFICIENTS],
-    start: usize,
-    boxes: &[i64; ROOM],
-    place: usize,
-) -> Span
+fn sums(n: usize, coef: &[i64], start: usize, boxes: &[i64; ROOM], place: usize) -> Span
     requires { ⌜ RowSound n (now coef) start × (place + wide ≤ room) × Small edgeLimit (boxIn n (now boxes) place) ⌝ }
     ensures sides { λ r. ⌜ side (r .lo) (r .hi) ≡ sumSide n (now (coef .entry)) start (boxIn n (now (boxes .entry)) place) ⌝ }
     ensures sizes { λ r. ⌜ (natAbs (r .lo) ≤ addLimit) × (natAbs (r .hi) ≤ addLimit) ⌝ }
@@ -54,8 +44,8 @@ fn sums(
 }
 
 // Whether sums lie in side i of the limits at `base`.
-fn inside(limits: &[i64; LIMITS], base: usize, i: usize, least: i64, greatest: i64) -> bool
-    requires { ⌜ (base + wide ≤ mostLimits) × (i < 4) ⌝ }
+fn inside(limits: &[i64], base: usize, i: usize, least: i64, greatest: i64) -> bool
+    requires { ⌜ (base + wide ≤ length (now limits)) × (i < 4) ⌝ }
     ensures { λ r. ⌜ r ≡ covers (sideIn (now (limits .entry)) base i) (side least greatest) ⌝ }
 {
     let from = limits[base + i];
@@ -67,8 +57,8 @@ fn inside(limits: &[i64; LIMITS], base: usize, i: usize, least: i64, greatest: i
 // say nothing.
 fn stays(
     n: usize,
-    coef: &[i64; COEFFICIENTS],
-    limits: &[i64; LIMITS],
+    coef: &[i64],
+    limits: &[i64],
     base: usize,
     u: usize,
     boxes: &[i64; ROOM],
@@ -76,7 +66,7 @@ fn stays(
     slo: &mut [i64; 4],
     shi: &mut [i64; 4],
 ) -> bool
-    requires rows { ⌜ RowsSound n (now coef) u × (base + wide ≤ mostLimits) ⌝ }
+    requires rows { ⌜ RowsSound n (now coef) u × (base + wide ≤ length (now limits)) ⌝ }
     requires edges { ⌜ (place + wide ≤ room) × Small edgeLimit (boxIn n (now boxes) place) × (length (now slo) ≡ 4) × (length (now shi) ≡ 4) ⌝ }
     ensures stays { λ r. ⌜ r ≡ covered n (now (coef .entry)) (now (limits .entry)) base u (boxIn n (now (boxes .entry)) place) ⌝ }
     ensures sums { λ r. ⌜ (r ≡ true → sidesOf n (now (slo .exit)) (now (shi .exit)) ≡ tab (sumsAt n (now (coef .entry)) u (boxIn n (now (boxes .entry)) place)) n 0) ⌝ }
@@ -102,7 +92,7 @@ fn stays(
 fn divide(
     n: usize,
     q: usize,
-    bands: &[i64; BANDS],
+    bands: &[i64],
     u: usize,
     slo: &[i64; 4],
     shi: &[i64; 4],
@@ -133,14 +123,14 @@ fn divide(
 pub fn step(
     n: usize,
     q: usize,
-    bands: &[i64; BANDS],
-    coef: &[i64; COEFFICIENTS],
-    limits: &[i64; LIMITS],
+    bands: &[i64],
+    coef: &[i64],
+    limits: &[i64],
     u: usize,
     boxes: &mut [i64; ROOM],
     place: usize,
 ) -> bool
-    requires step { ⌜ RowsSound n (now coef) u × (n ≤ 4) × (1 ≤ q) × (q ≤ 10_000) × BandsSound n (now bands) u × (u < mostModes) ⌝ }
+    requires step { ⌜ RowsSound n (now coef) u × (n ≤ 4) × (1 ≤ q) × (q ≤ 10_000) × BandsSound n (now bands) u × (safeAt u + wide ≤ length (now limits)) ⌝ }
     requires edges { ⌜ (place + wide + wide ≤ room) × Small edgeLimit (boxIn n (now boxes) place) × (length (now boxes) ≡ room) ⌝ }
     ensures stays { λ r. ⌜ r ≡ staysLent n (now (coef .entry)) (now (limits .entry)) u (boxIn n (now (boxes .entry)) place) ⌝ }
     ensures image { λ r. ⌜ (r ≡ true → boxIn n (now (boxes .exit)) (place + wide) ≡ imageLent n q (now (bands .entry)) (now (coef .entry)) u (boxIn n (now (boxes .entry)) place)) ⌝ }
@@ -169,18 +159,18 @@ pub fn step(
 // The extremes of the last row under mode u: e where the mode is marked, which then are those of the mode before.
 fn shared(
     n: usize,
-    coef: &[i64; COEFFICIENTS],
-    limits: &[i64; LIMITS],
+    coef: &[i64],
+    marks: &[i64],
     u: usize,
     e: Span,
     boxes: &[i64; ROOM],
     place: usize,
 ) -> Span
-    requires row { ⌜ (u < mostModes) × (1 ≤ n) × RowsSound n (now coef) u × (place + wide ≤ room) × Small edgeLimit (boxIn n (now boxes) place) ⌝ }
-    requires kept { ⌜ ((at (now limits) (markAt u) ≡ pos 0 → ⊥) → Extremes (lastEntries n (now coef) u) (boxIn n (now boxes) place) (e .lo) (e .hi)) ⌝ }
+    requires row { ⌜ (markAt u < length (now marks)) × (1 ≤ n) × RowsSound n (now coef) u × (place + wide ≤ room) × Small edgeLimit (boxIn n (now boxes) place) ⌝ }
+    requires kept { ⌜ ((at (now marks) (markAt u) ≡ pos 0 → ⊥) → Extremes (lastEntries n (now coef) u) (boxIn n (now boxes) place) (e .lo) (e .hi)) ⌝ }
     ensures { λ r. ⌜ Extremes (lastEntries n (now (coef .entry)) u) (boxIn n (now (boxes .entry)) place) (r .lo) (r .hi) ⌝ }
 {
-    let mark = limits[MARK + u];
+    let mark = marks[PAIR * u];
     if mark == 0 {
         let start = images::row(n, u, n - 1);
         return levels::extremes(n, coef, start, boxes, place);
@@ -188,26 +178,39 @@ fn shared(
     e
 }
 
-// Whether the image under mode u lies in the goal. The last row is tried first, by its extremes e; most modes fail there, and need no other sum.
+// Whether the image under mode u lies in the goal. The last row is tried first, by its extremes e; most modes fail there, and need no other sum. The limits
+// are lent on as a part, the whole, which is made where all rows are tried: lent on as they are, they would be put by for that at every mode.
 fn lands(
     n: usize,
-    coef: &[i64; COEFFICIENTS],
-    limits: &[i64; LIMITS],
+    coef: &[i64],
+    limits: &[i64],
+    marks: &[i64],
     u: usize,
     e: Span,
     boxes: &[i64; ROOM],
     place: usize,
 ) -> bool
-    requires row { ⌜ (u < mostModes) × (1 ≤ n) × RowsSound n (now coef) u × (place + wide ≤ room) × Small edgeLimit (boxIn n (now boxes) place) ⌝ }
-    requires last { ⌜ Extremes (lastEntries n (now coef) u) (boxIn n (now boxes) place) (e .lo) (e .hi) × (at (now limits) (offsetAt u) ≡ lastOffset n (now coef) u) ⌝ }
+    requires row { ⌜ (goalAt u + wide ≤ length (now limits)) × (1 ≤ n) × RowsSound n (now coef) u × (place + wide ≤ room) × Small edgeLimit (boxIn n (now boxes) place) ⌝ }
+    requires last { ⌜ Extremes (lastEntries n (now coef) u) (boxIn n (now boxes) place) (e .lo) (e .hi) × (at (now marks) (offsetAt u) ≡ lastOffset n (now coef) u) × (offsetAt u < length (now marks)) ⌝ }
     ensures { λ r. ⌜ r ≡ landsLent n (now (coef .entry)) (now (limits .entry)) u (boxIn n (now (boxes .entry)) place) ⌝ }
 {
-    let offset = limits[OFFSET + u];
+    let offset = marks[PAIR * u + 1];
     let base = SPAN * u + GOAL;
     if inside(limits, base, n - 1, e.lo + offset, e.hi + offset) {
         let mut slo = [0i64; 4];
         let mut shi = [0i64; 4];
-        return stays(n, coef, limits, base, u, boxes, place, &mut slo, &mut shi);
+        let whole: usize = 0;
+        return stays(
+            n,
+            coef,
+            &limits[whole..],
+            base,
+            u,
+            boxes,
+            place,
+            &mut slo,
+            &mut shi,
+        );
     }
     false
 }
@@ -216,12 +219,13 @@ fn lands(
 pub fn last(
     n: usize,
     count: usize,
-    coef: &[i64; COEFFICIENTS],
-    limits: &[i64; LIMITS],
+    coef: &[i64],
+    limits: &[i64],
+    marks: &[i64],
     boxes: &[i64; ROOM],
     place: usize,
 ) -> usize
-    requires rows { ⌜ (1 ≤ n) × ((u : ℕ) → u < count → RowsSound n (now coef) u) × (count ≤ mostModes) × Marked n count (now coef) (now limits) ⌝ }
+    requires rows { ⌜ (1 ≤ n) × ((u : ℕ) → u < count → RowsSound n (now coef) u) × (limitsSize * count ≤ length (now limits)) × MarksLent n count (now coef) (now marks) ⌝ }
     requires edges { ⌜ (place + wide ≤ room) × Small edgeLimit (boxIn n (now boxes) place) ⌝ }
     ensures first { λ r. ⌜ oneOf count r ≡ firstMode (landing n (now (coef .entry)) (now (limits .entry)) (boxIn n (now (boxes .entry)) place)) count 0 ⌝ }
     ensures size { λ r. ⌜ r ≤ count ⌝ }
@@ -229,8 +233,8 @@ pub fn last(
     let mut e = Span { lo: 0, hi: 0 };
     let mut u: usize = 0;
     while u < count {
-        e = shared(n, coef, limits, u, e, boxes, place);
-        if lands(n, coef, limits, u, e, boxes, place) {
+        e = shared(n, coef, marks, u, e, boxes, place);
+        if lands(n, coef, limits, marks, u, e, boxes, place) {
             return u;
         }
         u += 1;

@@ -5,27 +5,25 @@ use crate::boxes;
 use crate::boxes::Bx;
 use crate::frames::Counts;
 use crate::images;
-use meaning::BANDS;
-use meaning::COEFFICIENTS;
 use meaning::Tried;
 ghost use mathlib.Core.Path.{_≡_};
 ghost use Rattle.meaning.specs.Plants.{edgeLimit};
 ghost use Rattle.meaning.specs.Rules.{rule};
 ghost use Rattle.tables.specs.Boxes.{boxOf, Small};
-ghost use Rattle.tables.specs.Frames.{frameFrom, rulesIn, FrameSound};
+ghost use Rattle.tables.specs.Frames.{frameFrom, rulesIn, PlantSound};
 ghost use Rattle.tables.specs.Tiles.{patternOf, Pattern};
 
 // The first k modes of us, tried on box b. Leaving S is told before missing R.
 pub fn tile_rule(
     f: Counts,
     edges: &[[i64; 4]; 6],
-    bands: &[i64; BANDS],
-    coef: &[i64; COEFFICIENTS],
+    bands: &[i64],
+    coef: &[i64],
     k: usize,
     us: [usize; 6],
     b: Bx,
 ) -> Tried
-    requires plant { ⌜ FrameSound (frameFrom f (now edges)) (now bands) (now coef) × Small edgeLimit (boxOf (f .n) b) ⌝ }
+    requires plant { ⌜ PlantSound (frameFrom f (now edges)) (now bands) (now coef) × Small edgeLimit (boxOf (f .n) b) ⌝ }
     requires pattern { ⌜ Pattern (f .modes) k us ⌝ }
     ensures { λ r. ⌜ r ≡ rule (rulesIn (frameFrom f (now (edges .entry))) (now (bands .entry)) (now (coef .entry))) (boxOf (f .n) b) (patternOf k us) ⌝ }
 {

@@ -1,5 +1,6 @@
 // The walk over a table's tree (document 01, "Table file" and the order of judgement): one pass, in file order; the checker's, which judges each tile by
-// the tile rule, and the passing of a subtree, which reads its numbers as the checker does and tests no image.
+// the tile rule, and the passing of a subtree, which reads its numbers as the checker does and tests no image, so that it asks nothing of bands and
+// coefficients.
 // Relies on crate files for numbers, on modes and tiles for a tile, on boxes for a split's children. Leaves out the header before the tree and what
 // stands behind it.
 use crate::boxes;
@@ -9,25 +10,24 @@ use crate::modes;
 use crate::refusals;
 use crate::tiles;
 use files::numbers;
-use meaning::BANDS;
-use meaning::COEFFICIENTS;
 use meaning::Number;
 use meaning::Tried;
 use meaning::Walk;
 ghost use mathlib.Core.Path.{_≡_};
+ghost use mathlib.Core.Bool.{true};
 ghost use Prim.Native.Nat.{_≤_};
 ghost use Rattle.meaning.specs.Plants.{edgeLimit};
 ghost use Rattle.meaning.specs.Verdicts.{onModes, modesAt};
 ghost use Rattle.tables.specs.Boxes.{boxOf, Small};
-ghost use Rattle.tables.specs.Frames.{frameFrom, rulesIn, FrameSound};
+ghost use Rattle.tables.specs.Frames.{frameFrom, rulesIn, FrameSound, ModesSound};
 ghost use Rattle.tables.specs.Walks.{judgeBy, walkBy};
 
 // The tile at `at`, whose k modes begin at `from`: all of them are read before an image is tested. A fault of the pattern is told at the tile.
 fn tile(
     f: Counts,
     edges: &[[i64; 4]; 6],
-    bands: &[i64; BANDS],
-    coef: &[i64; COEFFICIENTS],
+    bands: &[i64],
+    coef: &[i64],
     judged: bool,
     table: &[u8],
     at: usize,
@@ -35,7 +35,7 @@ fn tile(
     from: usize,
     b: Bx,
 ) -> Walk
-    requires frame { ⌜ FrameSound (frameFrom f (now edges)) (now bands) (now coef) × Small edgeLimit (boxOf (f .n) b) ⌝ }
+    requires frame { ⌜ FrameSound (frameFrom f (now edges)) × Small edgeLimit (boxOf (f .n) b) × (judged ≡ true → ModesSound (f .n) (f .modes) (f .q) (now bands) (now coef)) ⌝ }
     requires size { ⌜ k ≤ f .k ⌝ }
     ensures { λ r. ⌜ r ≡ onModes (modesAt (f .modes) k (now (table .entry)) from) at (judgeBy judged (rulesIn (frameFrom f (now (edges .entry))) (now (bands .entry)) (now (coef .entry))) (boxOf (f .n) b)) ⌝ }
 {
@@ -62,15 +62,15 @@ fn tile(
 pub fn walk(
     f: Counts,
     edges: &[[i64; 4]; 6],
-    bands: &[i64; BANDS],
-    coef: &[i64; COEFFICIENTS],
+    bands: &[i64],
+    coef: &[i64],
     judged: bool,
     table: &[u8],
     d: usize,
     at: usize,
     b: Bx,
 ) -> Walk
-    requires { ⌜ FrameSound (frameFrom f (now edges)) (now bands) (now coef) × Small edgeLimit (boxOf (f .n) b) ⌝ }
+    requires { ⌜ FrameSound (frameFrom f (now edges)) × Small edgeLimit (boxOf (f .n) b) × (judged ≡ true → ModesSound (f .n) (f .modes) (f .q) (now bands) (now coef)) ⌝ }
     ensures { λ r. ⌜ r ≡ walkBy judged (rulesIn (frameFrom f (now (edges .entry))) (now (bands .entry)) (now (coef .entry))) d (now (table .entry)) at (boxOf (f .n) b) ⌝ }
 {
     let Number::Value(k, next) = numbers::number(table, at) else {

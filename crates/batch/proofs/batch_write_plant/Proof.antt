@@ -17,23 +17,23 @@ element-copy-out-slo c = search needs
 element-copy-out-shi : tie.Need-element-copy-out-shi
 element-copy-out-shi c = search needs
 
-element-copy-out-t26 : tie.Need-element-copy-out-t26
-element-copy-out-t26 c = search needs
+element-copy-out-t24 : tie.Need-element-copy-out-t24
+element-copy-out-t24 c = search needs
 
-element-copy-out-t29 : tie.Need-element-copy-out-t29
-element-copy-out-t29 c = search needs
+element-copy-out-t27 : tie.Need-element-copy-out-t27
+element-copy-out-t27 c = search needs
 
-element-copy-out-t32 : tie.Need-element-copy-out-t32
-element-copy-out-t32 c = search needs
+element-copy-out-t30 : tie.Need-element-copy-out-t30
+element-copy-out-t30 c = search needs
 
-element-copy-out-t35 : tie.Need-element-copy-out-t35
-element-copy-out-t35 c = search needs
+element-copy-out-t33 : tie.Need-element-copy-out-t33
+element-copy-out-t33 c = search needs
 
-element-copy-out-t38 : tie.Need-element-copy-out-t38
-element-copy-out-t38 c = search needs
+element-copy-out-t36 : tie.Need-element-copy-out-t36
+element-copy-out-t36 c = search needs
 
-element-copy-out-t41 : tie.Need-element-copy-out-t41
-element-copy-out-t41 c = search needs
+element-copy-out-t39 : tie.Need-element-copy-out-t39
+element-copy-out-t39 c = search needs
 
 write-plant-requires : tie.Need-write-plant-requires
 write-plant-requires c κs = search needs
@@ -58,12 +58,12 @@ batch-write-plant-spec =
     element-copy-out-rhi
     element-copy-out-slo
     element-copy-out-shi
-    element-copy-out-t26
-    element-copy-out-t29
-    element-copy-out-t32
-    element-copy-out-t35
-    element-copy-out-t38
-    element-copy-out-t41
+    element-copy-out-t24
+    element-copy-out-t27
+    element-copy-out-t30
+    element-copy-out-t33
+    element-copy-out-t36
+    element-copy-out-t39
     write-plant-requires
     written-requires
     same-length

@@ -12,7 +12,7 @@ of-answer e = (ap (λ (a : Answer). mode (answerShown a)) e, ap (λ (a : Answer)
 
 -- what is shown of a refusal that was taken out of its answer
 pub of-refusal : {a : Answer} {e r : Refusal} → a ≡ Answer.Refused e → r ≡ refusalOf a
-    → (255 ≡ mode (answerShown a)) × (r .number ∷ r .place ∷ r .step ∷ 0 ∷ 0 ∷ [] ≡ numberAndState (answerShown a))
+    → (65_535 ≡ mode (answerShown a)) × (r .number ∷ r .place ∷ r .step ∷ 0 ∷ 0 ∷ [] ≡ numberAndState (answerShown a))
 of-refusal h k = let z = k ∙ ap refusalOf h in rw (h, z) (refl, refl)
 
 pub of-start-answer : {a b : StartAnswer} → a ≡ b
@@ -20,5 +20,5 @@ pub of-start-answer : {a b : StartAnswer} → a ≡ b
 of-start-answer e = (ap (λ (a : StartAnswer). mode (startAnswerShown a)) e, ap (λ (a : StartAnswer). numbersAndState (startAnswerShown a)) e)
 
 pub of-start-refusal : {a : StartAnswer} {e r : Refusal} → a ≡ StartAnswer.Refused e → r ≡ startRefusalOf a
-    → (255 ≡ mode (startAnswerShown a)) × (r .number ∷ r .place ∷ r .step ∷ 0 ∷ 0 ∷ 0 ∷ [] ≡ numbersAndState (startAnswerShown a))
+    → (65_535 ≡ mode (startAnswerShown a)) × (r .number ∷ r .place ∷ r .step ∷ 0 ∷ 0 ∷ 0 ∷ [] ≡ numbersAndState (startAnswerShown a))
 of-start-refusal h k = let z = k ∙ ap startRefusalOf h in rw (h, z) (refl, refl)

@@ -6,16 +6,16 @@ use Rattle.face.proofs.shown.Laws.{of-case}
 use Rattle.face.proofs.hoachulim_plant.Statement.{statement}
 use Rattle.face.proofs.hoachulim_plant.Tie as tie
 
-read-plant-requires : tie.Need-read-plant-requires
-read-plant-requires c κs = search needs
+judge-plant-requires : tie.Need-judge-plant-requires
+judge-plant-requires c κs = search needs
 
 verdict-requires : tie.Need-verdict-requires
 verdict-requires c κs = search needs
 
 returns : tie.Need-returns
 returns c =
-    let e = of-case (ap (λ (r : PlantRead). r .verdict) (c .before .before .read-plant .ensures)) in
+    let e = of-case (ap (λ (r : PlantRead). r .verdict) (c .before .before .judge-plant .ensures)) in
     (c .verdict .ensures .0 ∙ e .0, c .verdict .ensures .1 ∙ e .1)
 
 pub hoachulim-plant-spec : {M : Type 1} → statement M
-hoachulim-plant-spec = tie.close (tie.spec read-plant-requires verdict-requires returns)
+hoachulim-plant-spec = tie.close (tie.spec judge-plant-requires verdict-requires returns)

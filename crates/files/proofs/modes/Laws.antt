@@ -1,27 +1,31 @@
--- The bands and rows of a plant's modes in their two arrays: laid, of each mode as they were where later modes are laid, and judged. Assumes nothing.
+-- The bands and rows of a plant's modes, as lists and in their two arrays: laid, of each mode as they were with later modes behind them, and judged.
+-- Assumes nothing.
 use Prim.Native.Nat.{ℕ, zero, suc, _+_, _-_, _*_, _≤_, _<_}
 use mathlib.Core.Path.{_≡_, refl, sym, ap, _∙_}
-use mathlib.Core.Bool.{Bool, true, false, cond}
-use mathlib.Core.List.{List, [], _∷_, _++_, map, append-assoc}
+use mathlib.Core.Bool.{Bool, true, false}
+use mathlib.Core.List.{List, [], _∷_, _++_, map}
 use native.Mathlib.Omega.{arith}
 use native.Mathlib.Decide.{decLt}
 use native.Mathlib.Nat.{mul-le-mul, le-refl, zero-add}
-use lib.ListN.{length, set, length-map}
+use native.Mathlib.Numerals.{add-one}
+use lib.ListN.{length, set, length-append, length-map, length-set}
+use lib.Seq.{sets, length-sets}
 use borrow.Author.Tests.{lt-ltb, le-ltb}
 use lib.IntN.{ℤ, pos}
 use Rattle.laws.specs.Guards.{guard}
 use Rattle.laws.specs.Lists.{at, tab, tabs, all, firstFalse}
-use Rattle.laws.specs.Tabs.{Filled, filled-more, at-below, getD-tab, getD-tabs, tab-same, tabs-snoc}
+use Rattle.laws.specs.Columns.{tab-at, tab-front}
+use Rattle.laws.specs.Tabs.{getD-tab, getD-tabs, tab-same, tabs-step, tabs-done, length-tabs}
 use Rattle.laws.specs.Tests.{first-within, first-behind}
+use Rattle.laws.specs.Writing.{sets-out, sets-append}
 use Rattle.meaning.specs.declared.Verdict.{Verdict}
 use Rattle.meaning.specs.Refusals.{narrow}
 use Rattle.meaning.specs.Files.{good, bad}
 use Rattle.meaning.specs.Boxes.{Side, sideAt, sidesOf}
-use Rattle.meaning.specs.Plants.{mostModes, mostBands, mostCoefs, bandOf, bandNumbers, rowNumbers, bandStart, bandSide, wide, wideModes}
+use Rattle.meaning.specs.Plants.{mostModes, mostBands, mostCoefs, bandOf, bandNumbers, bandStart, bandSide, wide, wideModes}
 use Rattle.promises.specs.files.Related.{modes-pass}
 use Rattle.files.specs.Beginnings.{verdictOf}
-use Rattle.files.specs.Modes.{Laid, bandsFrom, afterMode}
-use Rattle.files.proofs.rows.Laws.{tab-grown}
+use Rattle.files.specs.Modes.{endsAlike, Numbers, Stored, bandsFrom, afterMode}
 
 -- ---- sizes
 
@@ -44,54 +48,96 @@ size-few n few = let c : n + 1 ≤ 5 = omega arith in let a : n * (n + 1) ≤ 4 
 pub all-few : (n modes : ℕ) → n ≤ 4 → modes ≤ mostModes → n * (n + 1) * modes ≤ mostCoefs
 all-few n modes few many = let a = mul-le-mul (size-few n few) many in omega arith
 
--- ---- laid: i dimensions are done
+-- ---- laid: i dimensions are done, and whoever lays the others has laid all
 
-pub record LaidTo (n u : ℕ) (wlo whi : List ℤ) (i : ℕ) (bands₀ bands : List ℤ) : Type 0 where
-  pub few : i ≤ n
-  pub here : tab (at bands) (2 * i) (2 * n * u) ≡ tabs (bandOf wlo whi) i 0
-  pub filled : Filled mostBands (2 * n * u + 2 * i) bands
-  pub below : (k : ℕ) → k < 2 * n * u → at bands k ≡ at bands₀ k
+module _ (n u : ℕ) (wlo whi bands₀ : List ℤ) where
+  pub record LaidTo (i : ℕ) (bands : List ℤ) : Type 0 where
+    pub long : length bands ≡ length bands₀
+    pub rest : sets bands (2 * n * u + 2 * i) (tabs (bandOf wlo whi) (n - i) i) ≡ sets bands₀ (2 * n * u) (tabs (bandOf wlo whi) n 0)
 
-pub laid-none : (n u : ℕ) (wlo whi bands : List ℤ) → Filled mostBands (2 * n * u) bands → LaidTo n u wlo whi 0 bands bands
-unfolding tab tabs
-laid-none n u wlo whi bands f = record {
-  few = omega arith;
-  here = refl;
-  filled = let q : 2 * n * u + 2 * 0 ≡ 2 * n * u = omega arith in rw q f;
-  below = λ k h. refl;
-}
+  pub laid-none : LaidTo 0 bands₀
+  laid-none = record { long = refl; rest = let z : 2 * n * u + 2 * 0 ≡ 2 * n * u = omega arith in let o : n - 0 ≡ n = omega arith in rw (z, o) refl }
 
-module _ {n u : ℕ} {wlo whi : List ℤ} {i : ℕ} {bands₀ bands : List ℤ} (w : LaidTo n u wlo whi i bands₀ bands) where
-  pub laid-more : n ≤ 4 → u < mostModes → i < n → LaidTo n u wlo whi (i + 1) bands₀ (set (set bands (2 * n * u + 2 * i) (at wlo i)) (2 * n * u + 2 * i + 1) (at whi i))
-  laid-more few m h =
-      let from = 2 * n * u in
-      let lo = set bands (from + 2 * i) (at wlo i) in
-      let room = ends-few n u few m in
-      let f : Filled mostBands (from + 2 * i + 1) lo = filled-more (at wlo i) (w .filled) in
-      let a : tab (at lo) (2 * i + 1) from ≡ tab (at bands) (2 * i) from ++ at wlo i ∷ [] = tab-grown bands from (2 * i) (at wlo i) (omega (arith, w .filled .size)) in
-      let e : from + 2 * i + 1 ≡ from + (2 * i + 1) = omega arith in
-      let b : tab (at (set lo (from + (2 * i + 1)) (at whi i))) (2 * i + 1 + 1) from ≡ tab (at lo) (2 * i + 1) from ++ at whi i ∷ [] =
-      tab-grown lo from (2 * i + 1) (at whi i) (omega (arith, f .size)) in
-      let d : 2 * (i + 1) ≡ 2 * i + 1 + 1 = omega arith in
-      let z : 0 + i ≡ i = zero-add i in
+  module _ {i : ℕ} {bands : List ℤ} (w : LaidTo i bands) where
+    pub laid-more : i < n → LaidTo (i + 1) (set (set bands (2 * n * u + 2 * i) (at wlo i)) (2 * n * u + 2 * i + 1) (at whi i))
+    laid-more h =
+        let from = 2 * n * u + 2 * i in
+        let more = tabs (bandOf wlo whi) (n - (i + 1)) (i + 1) in
+        let d : 2 * n * u + 2 * (i + 1) ≡ suc (suc from) = omega arith in
+        let e : from + 1 ≡ suc from = add-one from in
+        record {
+          long = length-set (set bands from (at wlo i)) (from + 1) (at whi i) ∙ length-set bands from (at wlo i) ∙ w .long;
+          rest = rw (d, e) (ap (λ (vs : List ℤ). sets bands from vs) (sym (tabs-step (bandOf wlo whi) n i h)) ∙ w .rest);
+        }
+
+    pub laid-all : n ≤ i → bands ≡ sets bands₀ (2 * n * u) (tabs (bandOf wlo whi) n 0)
+    laid-all h = ap (λ (vs : List ℤ). sets bands (2 * n * u + 2 * i) vs) (sym (tabs-done (bandOf wlo whi) n i h)) ∙ w .rest
+
+-- the same bands, laid for u modes
+pub bands-long : (n : ℕ) (wlo whi : List ℤ) → length (tabs (bandOf wlo whi) n 0) ≡ 2 * n
+bands-long n wlo whi = length-tabs (bandOf wlo whi) 2 (λ k. refl) n 0
+
+module _ (n modes : ℕ) (wlo whi bands₀ : List ℤ) where
+  abbrev one : ℕ → List ℤ
+  one = λ _. tabs (bandOf wlo whi) n 0
+
+  pub record AlikeTo (u : ℕ) (bands : List ℤ) : Type 0 where
+    pub long : length bands ≡ length bands₀
+    pub rest : sets bands (2 * n * u) (tabs one (modes - u) u) ≡ sets bands₀ 0 (endsAlike n wlo whi modes)
+
+  pub alike-none : AlikeTo 0 bands₀
+  alike-none = record { long = refl; rest = let z : 2 * n * 0 ≡ 0 = omega arith in let o : modes - 0 ≡ modes = omega arith in rw (z, o) refl }
+
+  module _ {u : ℕ} {bands : List ℤ} (w : AlikeTo u bands) where
+    pub alike-more : {more : List ℤ} → u < modes → more ≡ sets bands (2 * n * u) (tabs (bandOf wlo whi) n 0) → AlikeTo (u + 1) more
+    alike-more {more} h e =
+        let others = tabs one (modes - (u + 1)) (u + 1) in
+        let d : 2 * n * (u + 1) ≡ 2 * n * u + length (tabs (bandOf wlo whi) n 0) = omega (arith, bands-long n wlo whi) in
+        record {
+          long = ap length e ∙ length-sets bands (2 * n * u) (tabs (bandOf wlo whi) n 0) ∙ w .long;
+          rest = rw (d, e) (sym (sets-append (tabs (bandOf wlo whi) n 0) others bands (2 * n * u)) ∙ ap (λ (vs : List ℤ). sets bands (2 * n * u) vs) (sym (tabs-step one modes u h)) ∙ w .rest);
+        }
+
+    pub alike-full : length bands ≤ 2 * n * u → bands ≡ sets bands₀ 0 (endsAlike n wlo whi modes)
+    alike-full h = sym (sets-out (tabs one (modes - u) u) bands (2 * n * u) h) ∙ w .rest
+
+    pub alike-all : modes ≤ u → bands ≡ sets bands₀ 0 (endsAlike n wlo whi modes)
+    alike-all h = ap (λ (vs : List ℤ). sets bands (2 * n * u) vs) (sym (tabs-done one modes u h)) ∙ w .rest
+
+-- ---- numbers of some modes behind those of others
+
+-- a list of w numbers as those of mode 0
+pub of-first : (w : ℕ) (l : List ℤ) → length l ≡ w → tab (at l) w (w * 0) ≡ l
+of-first w l e = let z : w * 0 ≡ 0 = omega arith in rw z (ap (λ (c : ℕ). tab (at l) c 0) (sym e) ∙ tab-at l)
+
+-- w numbers for each of u modes, with others behind them: those of mode v
+pub kept : (w u : ℕ) (xs ys : List ℤ) → length xs ≡ w * u → (v : ℕ) → v < u → tab (at (xs ++ ys)) w (w * v) ≡ tab (at xs) w (w * v)
+kept w u xs ys e v h = let c : w * suc v ≤ w * u = mul-le-mul (le-refl w) h in tab-front xs ys w (w * v) (omega arith)
+
+module _ {n v : ℕ} {xs fs : List ℤ} (p : Numbers n v xs fs) where
+  pub numbers-joined : {w : ℕ} {ys gs : List ℤ} → Numbers n w ys gs → Numbers n (v + w) (xs ++ ys) (fs ++ gs)
+  numbers-joined {w} {ys} {gs} q = record {
+    ends-long = omega (arith, length-append xs ys, p .ends-long, q .ends-long);
+    entries-long = omega (arith, length-append fs gs, p .entries-long, q .entries-long);
+  }
+
+  pub stored-joined : (u : ℕ) {ys gs bands₀ coef₀ bands coef bands′ coef′ : List ℤ} → Stored n u xs fs bands₀ coef₀ bands coef → Stored n (u + v) ys gs bands coef bands′ coef′
+      → Stored n u (xs ++ ys) (fs ++ gs) bands₀ coef₀ bands′ coef′
+  stored-joined u {ys} {gs} {bands₀} {coef₀} a b =
+      let d : 2 * n * (u + v) ≡ 2 * n * u + length xs = omega (arith, p .ends-long) in
+      let e : n * (n + 1) * (u + v) ≡ n * (n + 1) * u + length fs = omega (arith, p .entries-long) in
       record {
-        few = omega arith;
-        here = rw (d, e, b, a, w .here) (append-assoc (tabs (bandOf wlo whi) i 0) (at wlo i ∷ []) (at whi i ∷ []) ∙ sym (tabs-snoc (bandOf wlo whi) i 0 ∙ rw z refl));
-        filled = let q : from + 2 * (i + 1) ≡ from + 2 * i + 1 + 1 = omega arith in rw q (filled-more (at whi i) f);
-        below = λ k g. at-below lo (from + 2 * i + 1) (at whi i) k (omega arith) ∙ at-below bands (from + 2 * i) (at wlo i) k (omega arith) ∙ w .below k g;
+        bands-stored = b .bands-stored ∙ rw (d, a .bands-stored) (sym (sets-append xs ys bands₀ (2 * n * u)));
+        coef-stored = b .coef-stored ∙ rw (e, a .coef-stored) (sym (sets-append fs gs coef₀ (n * (n + 1) * u)));
       }
 
-  pub laid-all : n ≤ i → Laid n u wlo whi bands₀ bands
-  laid-all h =
-      let j : i ≡ n = omega (arith, w .few) in
-      let q : 2 * n * (u + 1) ≡ 2 * n * u + 2 * n = omega arith in
-      record { here = rw j at (w .here); filled = rw q (rw j at (w .filled)); below = w .below }
+-- an array is as long as it was
+module _ {n u : ℕ} {xs fs bands₀ coef₀ bands coef : List ℤ} (p : Stored n u xs fs bands₀ coef₀ bands coef) where
+  pub bands-kept : length bands ≡ length bands₀
+  bands-kept = ap length (p .bands-stored) ∙ length-sets bands₀ (2 * n * u) xs
 
--- ---- what stood before stands
-
--- w numbers for each mode, those before mode u being as they were
-pub kept : (w u : ℕ) (l₀ l : List ℤ) → ((k : ℕ) → k < w * u → at l k ≡ at l₀ k) → (v : ℕ) → v < u → tab (at l) w (w * v) ≡ tab (at l₀) w (w * v)
-kept w u l₀ l below v h = tab-same (at l) (at l₀) w (w * v) (λ k a b. let c : w * suc v ≤ w * u = mul-le-mul (le-refl w) h in below k (omega arith))
+  pub coef-kept : length coef ≡ length coef₀
+  coef-kept = ap length (p .coef-stored) ∙ length-sets coef₀ (n * (n + 1) * u) fs
 
 -- ---- bands as sides
 

@@ -6,25 +6,22 @@ use mathlib.Core.Bool.{Bool, true, false, cond}
 use mathlib.Core.List.{List, [], _∷_, _++_, append-assoc, append-nil}
 use native.Mathlib.Omega.{arith}
 use native.Mathlib.Nat.{mul-le-mul}
-use lib.ListN.{length, take, drop, replicate, length-append, length-take, length-drop, take-append-drop}
+use lib.ListN.{length, take, drop, length-append, length-take, length-drop, take-append-drop}
 use lib.IntN.{ℤ}
 use Rattle.laws.specs.Lists.{at, tab, tabs}
 use Rattle.laws.specs.Tabs.{length-tab, length-tabs}
-use Rattle.laws.specs.Writing.{Put}
-use Rattle.meaning.specs.declared.Plant.{Plant}
 use Rattle.meaning.specs.declared.PlantRead.{PlantRead}
 use Rattle.meaning.specs.Buffers.{left}
-use Rattle.meaning.specs.Files.{Form, end, fileOf, Judged, good, bad, fileJudged}
-use Rattle.meaning.specs.Plants.{bandLimit, edgeLimit, entryLimit, offsetLimit, limited, span, times, edges, bands, row, plantForms, mostModes, ownBands, modeForm, modesOwn, modesAlike, modesForm, plantForm, edgesOf, bandOf, modeSize, bandNumbers, rowNumbers, modesNumbers, numbersOf, plantRelated, plantJudged, readOf, plantRead, plantLeft}
+use Rattle.meaning.specs.Files.{Form, end, fileOf, Judged, good, bad}
+use Rattle.meaning.specs.Plants.{bandLimit, edgeLimit, entryLimit, offsetLimit, limited, span, times, edges, bands, row, plantForms, mostModes, ownBands, modeForm, modesOwn, modesAlike, modesForm, plantForm, Plant, edgesOf, bandOf, modeSize, bandNumbers, rowNumbers, modesNumbers, numbersOf, plantRelated, plantJudged, readOf, plantRead, plantLeft}
 use Rattle.promises.specs.files.PlantShapes.{modesCount, modes-long}
-use Rattle.files.specs.declared.beginnings.Beginning.{Beginning}
 use Rattle.files.specs.Signed.{signedBytes, signed-append}
-use Rattle.files.specs.Beginnings.{headNumbers, headOf, edgesIn, bandsIn, verdictOf, byVerdict}
+use Rattle.files.specs.Beginnings.{edgesIn, bandsIn, verdictOf, byVerdict}
 use Rattle.files.specs.BeginningFiles.{signed-long}
-use Rattle.files.specs.DraftLaws.{draft-long, draft-left, InDraft, in-array}
+use Rattle.files.specs.DraftLaws.{draft-long, draft-left}
 use Rattle.promises.specs.files.Plants.{mode-long}
 use Rattle.files.specs.Modes.{modeNumbers, restNumbersBy}
-use Rattle.files.specs.Plants.{plantBeginning, restOf, plantRoom, plantDraft}
+use Rattle.files.specs.Plants.{plantBeginning, restOf, plantDraft}
 use Rattle.files.proofs.plants.Laws.{numbers-begin}
 
 -- ---- parts of signed numbers are stored as such
@@ -127,33 +124,37 @@ module _ (p : Plant) where
       ∙ ap signedBytes (sym (append-assoc e (bandsIn (plantBeginning p)) (restOf p)))
       ∙ signed-append (e ++ bandsIn (plantBeginning p)) (restOf p)
 
-  -- ---- the draft in its array
+  -- ---- the draft in an array that is long enough for k modes
 
-  rest-long : p .n ≤ 4 → p .modes ≤ mostModes → length (signedBytes (restOf p)) ≤ 4400
-  rest-long h l = omega (arith, signed-long (restOf p), few-rest (ownBands (p .form)))
-    where
-      few-rest : (own : Bool) → length (restNumbersBy own (p .n) (p .modes) (p .bands) (p .coef)) ≤ 440
-      few-rest true =
-          let c : p .n + 1 ≤ 5 = omega arith in
-          let a : p .n * (p .n + 1) ≤ 4 * 5 = mul-le-mul h c in
-          let m : p .modes - 1 ≤ 15 = omega arith in
-          let s : modeSize (p .n) ≤ 28 = omega arith in
-          let e = length-tabs (modeNumbers (p .n) (p .bands) (p .coef)) (modeSize (p .n)) (mode-long (p .n) (p .modes) (p .bands) (p .coef)) (p .modes - 1) 1 in
-          omega (
-            arith,
-            length-append (rowNumbers (p .n) (p .coef) 0) (tabs (modeNumbers (p .n) (p .bands) (p .coef)) (p .modes - 1) 1),
-            length-tab (at (p .coef)) (p .n * (p .n + 1)) (p .n * (p .n + 1) * 0),
-            mul-le-mul s m,
-          )
-      few-rest false =
-          let c : p .n + 1 ≤ 5 = omega arith in
-          let a : p .n * (p .n + 1) ≤ 4 * 5 = mul-le-mul h c in
-          let e = length-tabs (rowNumbers (p .n) (p .coef)) (p .n * (p .n + 1)) (λ u. length-tab (at (p .coef)) (p .n * (p .n + 1)) (p .n * (p .n + 1) * u)) (p .modes) 0 in
-          omega (arith, mul-le-mul a l)
+  module _ (k : ℕ) (one : 1 ≤ k) (few : p .modes ≤ mostModes → p .modes ≤ k) where
+    rest-long : p .n ≤ 4 → p .modes ≤ mostModes → length (signedBytes (restOf p)) ≤ 10 * (28 * k - 8)
+    rest-long h most = omega (arith, signed-long (restOf p), few-rest (ownBands (p .form)))
+      where
+        c : p .n + 1 ≤ 5
+        c = omega arith
 
-  pub in-draft : (r : ℕ) (out : List ℕ) → Put (replicate plantRoom 0) 0 (plantDraft p) r out → InDraft (plantDraft p) r out
-  unfolding plantDraft
-  in-draft r out t = in-array plantRoom (plantDraft p) r out (draft-long plantForms mostModes (omega arith) (omega arith) (plantBeginning p) (signedBytes (restOf p)) 4400 rest-long) t
+        a : p .n * (p .n + 1) ≤ 4 * 5
+        a = mul-le-mul h c
+
+        few-rest : (own : Bool) → length (restNumbersBy own (p .n) (p .modes) (p .bands) (p .coef)) ≤ 28 * k - 8
+        few-rest true =
+            let m : p .modes - 1 ≤ k - 1 = omega (arith, few most) in
+            let s : modeSize (p .n) ≤ 28 = omega (arith, a) in
+            let e = length-tabs (modeNumbers (p .n) (p .bands) (p .coef)) (modeSize (p .n)) (mode-long (p .n) (p .modes) (p .bands) (p .coef)) (p .modes - 1) 1 in
+            omega (
+              arith,
+              a,
+              length-append (rowNumbers (p .n) (p .coef) 0) (tabs (modeNumbers (p .n) (p .bands) (p .coef)) (p .modes - 1) 1),
+              length-tab (at (p .coef)) (p .n * (p .n + 1)) (p .n * (p .n + 1) * 0),
+              mul-le-mul s m,
+            )
+        few-rest false =
+            let e = length-tabs (rowNumbers (p .n) (p .coef)) (p .n * (p .n + 1)) (λ u. length-tab (at (p .coef)) (p .n * (p .n + 1)) (p .n * (p .n + 1) * u)) (p .modes) 0 in
+            omega (arith, mul-le-mul a (few most))
+
+    pub draft-room : length (plantDraft p) ≤ 10 * (22 + 28 * k)
+    unfolding plantDraft
+    draft-room = omega (arith, draft-long plantForms mostModes (omega arith) (omega arith) (plantBeginning p) (signedBytes (restOf p)) (10 * (28 * k - 8)) rest-long)
 
   -- ---- what the writer leaves, s being the draft and x what was read of it
 

@@ -1,6 +1,6 @@
 -- A plant whose file was judged good is sound (page Sound): what document 01 says of a plant's numbers, from the form that its file was
--- read by (pages Forms and Framed) and the two tests behind it (page Related). How many coefficients there can be is page PlantShapes. That its
--- arrays are 0 beyond n is left out.
+-- read by (pages Forms and Framed) and the two tests behind it (page Related). That its
+-- edges are 0 beyond n is left out.
 use Prim.Native.Nat.{ℕ, _+_, _*_, _≤_, _<_}
 use mathlib.Core.Path.{_≡_, refl, ap, _∙_, subst}
 use mathlib.Core.Bool.{Bool, true, false, cond}
@@ -8,17 +8,15 @@ use mathlib.Core.List.{List, map}
 use native.Mathlib.Omega.{arith}
 use native.Mathlib.Nat.{mul-le-mul, le-refl}
 use lib.IntN.{ℤ, pos, natAbs}
-use Rattle.laws.specs.Lists.{at, tab, tabs, padded, all}
-use Rattle.laws.specs.Columns.{parted-at, parted-filled}
-use Rattle.meaning.specs.declared.Plant.{Plant}
+use Rattle.laws.specs.Lists.{at, tab, tabs, all}
+use Rattle.laws.specs.Columns.{parted-long, parted-at}
 use Rattle.meaning.specs.Boxes.{side, within}
 use Rattle.meaning.specs.Files.{Form, end, valuesOf, good}
 use Rattle.meaning.specs.Plants as P
-use Rattle.meaning.specs.Plants.{bandLimit, entryLimit, offsetLimit, limited, row, times, plantForms, mostModes, ownBands, modeForm, modesOwn, modesAlike, modesForm, plantForm, mostCoefs, mostBands, modeSize, bandsAt, rowsAt, plantOf, rootOf, safeOf, bandStart, bandSide, bandsOf, wide, plantJudged, rowStart}
+use Rattle.meaning.specs.Plants.{bandLimit, entryLimit, offsetLimit, limited, row, times, plantForms, mostModes, ownBands, modeForm, modesOwn, modesAlike, modesForm, plantForm, Plant, coefCount, bandCount, modeSize, bandsAt, rowsAt, plantOf, rootOf, safeOf, bandStart, bandSide, bandsOf, wide, plantJudged, rowStart}
 use Rattle.promises.specs.files.Files.{file-writes}
 use Rattle.promises.specs.files.Forms.{Right, values-right, times-right}
 use Rattle.promises.specs.files.Framed.{limited-right, wide-bands, bands-right, framed}
-use Rattle.promises.specs.files.PlantShapes.{numbers-few, ends-few}
 use Rattle.promises.specs.files.Related.{good-plant}
 use Rattle.promises.specs.files.Sound.{Bounded, Sound}
 
@@ -77,24 +75,24 @@ module _ (vs : List ℤ) where
 
 module _ (vs : List ℤ) (form n modes : ℕ) where
   bands : List ℤ
-  bands = padded mostBands (pos 0) (tabs (λ u. tab (at vs) (2 * n) (bandsAt form n u)) modes 0)
+  bands = tabs (λ u. tab (at vs) (2 * n) (bandsAt form n u)) modes 0
 
   coefs : List ℤ
-  coefs = padded mostCoefs (pos 0) (tabs (λ u. tab (at vs) (n * (n + 1)) (rowsAt form n u)) modes 0)
+  coefs = tabs (λ u. tab (at vs) (n * (n + 1)) (rowsAt form n u)) modes 0
 
   -- the ends of the band of mode u in dimension i
   lows-at : (u i : ℕ) → u < modes → i < n → at bands (bandStart n u i) ≡ at vs (bandsAt form n u + 2 * i)
   unfolding bands
   lows-at u i hu hi =
       let e : bandStart n u i ≡ 2 * n * u + 2 * i = omega arith in
-      ap (at bands) e ∙ parted-at vs (2 * n) (bandsAt form n) modes mostBands u (2 * i) hu (omega arith)
+      ap (at bands) e ∙ parted-at vs (2 * n) (bandsAt form n) modes u (2 * i) hu (omega arith)
 
   highs-at : (u i : ℕ) → u < modes → i < n → at bands (bandStart n u i + 1) ≡ at vs (bandsAt form n u + 2 * i + 1)
   unfolding bands
   highs-at u i hu hi =
       let e : bandStart n u i + 1 ≡ 2 * n * u + (2 * i + 1) = omega arith in
       let q : bandsAt form n u + (2 * i + 1) ≡ bandsAt form n u + 2 * i + 1 = omega arith in
-      ap (at bands) e ∙ parted-at vs (2 * n) (bandsAt form n) modes mostBands u (2 * i + 1) hu (omega arith) ∙ rw q refl
+      ap (at bands) e ∙ parted-at vs (2 * n) (bandsAt form n) modes u (2 * i + 1) hu (omega arith) ∙ rw q refl
 
   -- entry j of row i of mode u, its b_i being entry n
   coefs-at : (u i j : ℕ) → u < modes → i < n → j ≤ n → at coefs (rowStart n u i + j) ≡ at vs (rowsAt form n u + (n + 1) * i + 1 * j)
@@ -103,7 +101,7 @@ module _ (vs : List ℤ) (form n modes : ℕ) where
       let e : rowStart n u i + j ≡ n * (n + 1) * u + ((n + 1) * i + 1 * j) = omega arith in
       let q : rowsAt form n u + ((n + 1) * i + 1 * j) ≡ rowsAt form n u + (n + 1) * i + 1 * j = omega arith in
       let l : (n + 1) * i + 1 * j < n * (n + 1) = omega (arith, mul-le-mul (le-refl (n + 1)) hi) in
-      ap (at coefs) e ∙ parted-at vs (n * (n + 1)) (rowsAt form n) modes mostCoefs u ((n + 1) * i + 1 * j) hu l ∙ rw q refl
+      ap (at coefs) e ∙ parted-at vs (n * (n + 1)) (rowsAt form n) modes u ((n + 1) * i + 1 * j) hu l ∙ rw q refl
 
 -- ---- the whole form
 
@@ -116,20 +114,18 @@ right-sound vs h inSafe allWide =
     let modes = natAbs (at vs 2) in
     let q = natAbs (at vs 3) in
     let f = framed plantForms mostModes modesForm vs h in
-    let few = f .ranges .n-high in
-    let many = f .ranges .m-high in
     let m = modes-right vs (ownBands form) n modes (f .behind) in
-    let b : 2 * n * modes ≤ mostBands = omega (arith, ends-few modes n few many) in
-    let c : n * (n + 1) * modes ≤ mostCoefs = omega (arith, numbers-few modes n few many) in
+    let b : 2 * n * modes ≡ bandCount modes n = omega arith in
+    let c : n * (n + 1) * modes ≡ coefCount modes n = omega arith in
     record {
       first = f .first;
       known = f .known;
       ranges = f .ranges;
       root-safe = inSafe;
-      band-size = parted-filled vs (2 * n) (bandsAt form n) modes mostBands b .size;
+      band-size = parted-long vs (2 * n) (bandsAt form n) modes ∙ b;
       bands = λ u i hu hi. rw (lows-at vs form n modes u i hu hi, highs-at vs form n modes u i hu hi) (m .bands u i hu hi);
       wide = λ u i hu hi. wide-bands q (bandSide n (bands vs form n modes) u) n (allWide u hu) i hi;
-      coef-size = parted-filled vs (n * (n + 1)) (rowsAt form n) modes mostCoefs c .size;
+      coef-size = parted-long vs (n * (n + 1)) (rowsAt form n) modes ∙ c;
       entries = λ u i j hu hi hj. rw (coefs-at vs form n modes u i j hu hi (omega arith)) (m .rows u i hu hi .entries j hj);
       offsets = λ u i hu hi. rw (coefs-at vs form n modes u i n hu hi (le-refl n)) (m .rows u i hu hi .offset);
     }

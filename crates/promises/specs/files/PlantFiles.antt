@@ -1,18 +1,18 @@
 -- S2 for plants, the files: a plant that was written is read back as itself, a file that was read is written back as the same bytes, and reader and
 -- writer refuse alike. Relies on pages Files, Writers, Plants and PlantShapes; how long a file may be is told on page PlantLengths.
 use Prim.Native.Nat.{ℕ, _≤_, _<_}
-use mathlib.Core.Path.{_≡_, sym, ap, _∙_, subst}
+use mathlib.Core.Path.{_≡_, refl, sym, ap, _∙_, subst}
 use mathlib.Core.List.{List}
 use lib.ListN.{length, take}
+use lib.Seq.{sets}
+use lib.IntN.{ℤ}
 use Rattle.meaning.specs.declared.Refusal.{Refusal}
 use Rattle.meaning.specs.declared.Verdict.{Verdict}
 use Rattle.meaning.specs.declared.Written.{Written}
-use Rattle.meaning.specs.declared.Plant.{Plant}
-use Rattle.meaning.specs.declared.PlantRead.{PlantRead}
 use Rattle.meaning.specs.Refusals.{short}
 use Rattle.meaning.specs.Files.{valuesOf, good, bad, fileOf}
 use Rattle.meaning.specs.Buffers.{refusedWith}
-use Rattle.meaning.specs.Plants.{plantForm, plantOf, numbersOf, plantRelated, plantJudged, plantRead, readOf, plantLeft}
+use Rattle.meaning.specs.Plants.{Plant, plantForm, plantOf, numbersOf, plantRelated, plantJudged, outlineOf, plantRead, bandsLeft, coefLeft, plantLeft}
 use Rattle.promises.specs.files.Files.{judgedValues, judged-back, file-reads, file-writes}
 use Rattle.promises.specs.files.Buffers.{wrote}
 use Rattle.promises.specs.files.Plants.{Tidy, plant-back}
@@ -37,20 +37,23 @@ judged-itself p p′ e =
     let g = good-plant (judgedValues plantForm (numbersOf p) 0) p′ (sym (judged-by-values p) ∙ e) in
     ap plantOf (sym (judged-back plantForm (numbersOf p) 0 (plant-shaped p) (g .was) .0)) ∙ g .plant
 
-abbrev accepted : Plant → PlantRead
-accepted p = record { verdict = Verdict.Accepted; plant = p }
-
--- of any plant, what its arrays hold beyond n rooms and N modes is read back as zeros
+-- of any plant, its edges beyond n rooms are read back as zeros, its lists with just what N modes have
 pub written-read-zeros : (p : Plant) (buf : List ℕ) (m : ℕ) → plantLeft p buf .answer ≡ Written.Length m
-    → plantRead (take m (plantLeft p buf .buffer)) ≡ accepted (plantOf (numbersOf p))
+    → plantJudged (take m (plantLeft p buf .buffer)) ≡ good (plantOf (numbersOf p))
 unfolding plantLeft
 written-read-zeros p buf m e =
     let w = was-written plantJudged (plantFile p) buf m e in
-    ap plantRead (w .2) ∙ ap readOf (w .1) ∙ ap accepted (sym (judged-itself p (w .0) (w .1)))
+    ap plantJudged (w .2) ∙ w .1 ∙ ap good (sym (judged-itself p (w .0) (w .1)))
 
--- and a plant that holds zeros there is read back as itself
-pub written-read : (p : Plant) → Tidy p → (buf : List ℕ) (m : ℕ) → plantLeft p buf .answer ≡ Written.Length m → plantRead (take m (plantLeft p buf .buffer)) ≡ accepted p
-written-read p t buf m e = written-read-zeros p buf m e ∙ ap accepted (plant-back p t)
+-- and a plant that is such is read back as itself, its bands and coefficients too
+pub written-read : (p : Plant) → Tidy p → (buf : List ℕ) (m : ℕ) → plantLeft p buf .answer ≡ Written.Length m → plantJudged (take m (plantLeft p buf .buffer)) ≡ good p
+written-read p t buf m e = written-read-zeros p buf m e ∙ ap good (plant-back p t)
+
+-- so what a reader answers of it, and leaves in arrays that it is lent
+pub written-answered : (p : Plant) → Tidy p → (buf : List ℕ) (m : ℕ) → plantLeft p buf .answer ≡ Written.Length m → (bands coef : List ℤ)
+    → let s = take m (plantLeft p buf .buffer) in
+    (plantRead s ≡ record { verdict = Verdict.Accepted; outline = outlineOf p }) × (bandsLeft s bands ≡ sets bands 0 (p .bands)) × (coefLeft s coef ≡ sets coef 0 (p .coef))
+written-answered p t buf m e bands coef = let w = written-read p t buf m e in (rw w refl, rw w refl, rw w refl)
 
 -- ---- reader and writer refuse alike: what the reader says of the file that a plant would be, its writer says of the plant
 
@@ -69,7 +72,7 @@ alike-fits p p′ h buf l = long-enough plantJudged (plantFile p) buf p′ h l
 
 -- ---- read, and written back
 
--- the plant that a file says: its arrays hold zeros beyond n rooms and N modes, and it is written as that file
+-- the plant that a file says: its edges are zeros beyond n rooms, its lists those of N modes, and it is written as that file
 pub read-tidy : (s : List ℕ) (p : Plant) → plantJudged s ≡ good p → Tidy p × (plantFile p ≡ s)
 unfolding plantJudged
 read-tidy s p e =

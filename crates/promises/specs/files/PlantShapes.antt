@@ -10,13 +10,12 @@ use native.Mathlib.Nat.{mul-le-mul, zero-add}
 use lib.ListN.{length, length-append}
 use lib.Seq.{getD-append-add}
 use lib.IntN.{ℤ, pos}
-use Rattle.laws.specs.Lists.{at, tab, tabs, padded}
+use Rattle.laws.specs.Lists.{at, tab, tabs}
 use Rattle.laws.specs.Tabs.{length-tab, length-tabs, Filled}
 use Rattle.laws.specs.Tests.{never}
-use Rattle.laws.specs.Columns.{tab-join, tabs-tab, tab-at, tab-moved, padded-filled, parted-tab, parted-filled}
-use Rattle.meaning.specs.declared.Plant.{Plant}
+use Rattle.laws.specs.Columns.{tab-join, tabs-tab, tab-at, tab-moved, padded-filled, parted-long, parted-tab}
 use Rattle.meaning.specs.Files.{Form, read, valuesAt}
-use Rattle.meaning.specs.Plants.{times, edges, row, headed, plantForms, mostModes, ownBands, modesOwn, modesAlike, modesForm, plantForm, edgesOf, column, mostCoefs, coefCount, mostBands, bandCount, modeSize, bandsAt, rowsAt, bandNumbers, rowNumbers, modesNumbers, plantOf, numbersOf}
+use Rattle.meaning.specs.Plants.{times, edges, row, headed, plantForms, mostModes, ownBands, modesOwn, modesAlike, modesForm, plantForm, edgesOf, column, Plant, mostCoefs, coefCount, mostBands, bandCount, modeSize, bandsAt, rowsAt, bandNumbers, rowNumbers, modesNumbers, plantOf, numbersOf}
 use Rattle.promises.specs.files.Bodies.{edges-taken}
 use Rattle.promises.specs.files.Files.{Shaped, writes-back}
 use Rattle.promises.specs.files.FormShapes.{Takes, edges-takes, bands-takes, row-takes, times-takes, then-takes, takes-all}
@@ -68,7 +67,7 @@ plant-shaped p = (refl, (refl, (refl, (refl, (refl, (refl, body-shape (ownBands 
         let b = modes-long (ownBands (p .form)) (p .n) (p .modes) (p .bands) (p .coef) in
         length-append sides modes ∙ rw (a, b) refl
 
--- a plant has at most 320 coefficients, and 128 ends of bands
+-- a plant has at most 5,120 coefficients, and 2,048 ends of bands
 pub numbers-few : (modes n : ℕ) → n ≤ 4 → modes ≤ mostModes → coefCount modes n ≤ mostCoefs
 numbers-few modes n few many = let a : modes * n ≤ mostModes * 4 = mul-le-mul many few in let b : n + 1 ≤ 5 = omega arith in omega (arith, mul-le-mul a b)
 
@@ -85,10 +84,10 @@ module _ (form n modes q k d : ℕ) (body : List ℤ) (few : n ≤ 4) (some : 1 
   numbers = front ++ body
 
   bands : List ℤ
-  bands = padded mostBands (pos 0) (tabs (λ u. tab (at numbers) (2 * n) (bandsAt form n u)) modes 0)
+  bands = tabs (λ u. tab (at numbers) (2 * n) (bandsAt form n u)) modes 0
 
   coefs : List ℤ
-  coefs = padded mostCoefs (pos 0) (tabs (λ u. tab (at numbers) (n * (n + 1)) (rowsAt form n u)) modes 0)
+  coefs = tabs (λ u. tab (at numbers) (n * (n + 1)) (rowsAt form n u)) modes 0
 
   -- behind the header
   here : (m i : ℕ) → tab (at numbers) m (6 + i) ≡ tab (at body) m i
@@ -100,14 +99,14 @@ module _ (form n modes q k d : ℕ) (body : List ℤ) (few : n ≤ 4) (some : 1 
   bands-back u h =
       let c = cond (ownBands form) (modeSize n * u) 0 in
       let e : 6 + 4 * n + c ≡ 6 + (4 * n + c) = omega arith in
-      parted-tab numbers (2 * n) (bandsAt form n) modes mostBands u h ∙ ap (tab (at numbers) (2 * n)) e ∙ here (2 * n) (4 * n + c)
+      parted-tab numbers (2 * n) (bandsAt form n) modes u h ∙ ap (tab (at numbers) (2 * n)) e ∙ here (2 * n) (4 * n + c)
 
   rows-back : (u : ℕ) → u < modes → rowNumbers n coefs u ≡ tab (at body) (n * (n + 1)) (6 * n + cond (ownBands form) (modeSize n * u) (n * (n + 1) * u))
   unfolding coefs
   rows-back u h =
       let c = cond (ownBands form) (modeSize n * u) (n * (n + 1) * u) in
       let e : 6 + 6 * n + c ≡ 6 + (6 * n + c) = omega arith in
-      parted-tab numbers (n * (n + 1)) (rowsAt form n) modes mostCoefs u h ∙ ap (tab (at numbers) (n * (n + 1))) e ∙ here (n * (n + 1)) (6 * n + c)
+      parted-tab numbers (n * (n + 1)) (rowsAt form n) modes u h ∙ ap (tab (at numbers) (n * (n + 1))) e ∙ here (n * (n + 1)) (6 * n + c)
 
   modes-back : (own : Bool)
       → ((u : ℕ) → u < modes → bandNumbers n bands u ≡ tab (at body) (2 * n) (4 * n + cond own (modeSize n * u) 0))
@@ -142,18 +141,14 @@ module _ (form n modes q k d : ℕ) (body : List ℤ) (few : n ≤ 4) (some : 1 
   numbers-tidy =
       let b : 2 * n * modes ≡ bandCount modes n = omega arith in
       let c : n * (n + 1) * modes ≡ coefCount modes n = omega arith in
-      let ends = ends-few modes n few many in
-      let entries = numbers-few modes n few many in
       record {
         rooms = few;
-        numbers = entries;
-        ends = ends;
         rlo-filled = columns 6 4;
         rhi-filled = columns 7 4;
         slo-filled = columns 8 4;
         shi-filled = columns 9 4;
-        bands-filled = rw b at (parted-filled numbers (2 * n) (bandsAt form n) modes mostBands (omega arith));
-        coef-filled = rw c at (parted-filled numbers (n * (n + 1)) (rowsAt form n) modes mostCoefs (omega arith));
+        bands-long = parted-long numbers (2 * n) (bandsAt form n) modes ∙ b;
+        coef-long = parted-long numbers (n * (n + 1)) (rowsAt form n) modes ∙ c;
         alike = λ one u h. alike (ownBands form) one u h bands-back;
       }
     where

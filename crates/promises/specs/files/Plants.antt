@@ -8,24 +8,21 @@ use native.Mathlib.Nat.{zero-add}
 use lib.IntN.{ℤ, pos}
 use lib.ListN.{length, length-append, List·getD-append}
 use lib.Seq.{getD-append-add}
-use Rattle.laws.specs.Columns.{tabs-tab, tab-moved}
-use Rattle.laws.specs.Lists.{at, tab, tabs, padded}
-use Rattle.laws.specs.Tabs.{length-tab, getD-tab, getD-tabs, Filled, filled-padded}
-use Rattle.meaning.specs.declared.Plant.{Plant}
-use Rattle.meaning.specs.Plants.{ownBands, edgesOf, column, mostCoefs, coefCount, mostBands, bandCount, modeSize, bandsAt, rowsAt, bandNumbers, rowNumbers, modesNumbers, plantOf, numbersOf}
+use Rattle.laws.specs.Columns.{tabs-tab, tab-at, tab-moved}
+use Rattle.laws.specs.Lists.{at, tab, tabs}
+use Rattle.laws.specs.Tabs.{length-tab, getD-tab, getD-tabs, Filled}
+use Rattle.meaning.specs.Plants.{Plant, ownBands, edgesOf, column, coefCount, bandCount, modeSize, bandsAt, rowsAt, bandNumbers, rowNumbers, modesNumbers, plantOf, numbersOf}
 use Rattle.promises.specs.files.Bodies.{edge-same, behind-at}
 
--- a plant whose arrays hold zeros beyond n rooms and N modes, and in form 1 the bands of mode 0 for each mode: what a reader makes
+-- a plant whose edges are zeros beyond n rooms, whose bands and coefficients are those of N modes, in form 1 the bands of mode 0 for each: what a reader makes
 pub record Tidy (p : Plant) : Type 0 where
   pub rooms : p .n ≤ 4
-  pub numbers : coefCount (p .modes) (p .n) ≤ mostCoefs
-  pub ends : bandCount (p .modes) (p .n) ≤ mostBands
   pub rlo-filled : Filled 4 (p .n) (p .rlo)
   pub rhi-filled : Filled 4 (p .n) (p .rhi)
   pub slo-filled : Filled 4 (p .n) (p .slo)
   pub shi-filled : Filled 4 (p .n) (p .shi)
-  pub bands-filled : Filled mostBands (bandCount (p .modes) (p .n)) (p .bands)
-  pub coef-filled : Filled mostCoefs (coefCount (p .modes) (p .n)) (p .coef)
+  pub bands-long : length (p .bands) ≡ bandCount (p .modes) (p .n)
+  pub coef-long : length (p .coef) ≡ coefCount (p .modes) (p .n)
   pub alike : ownBands (p .form) ≡ false → (u : ℕ) → u < p .modes → bandNumbers (p .n) (p .bands) 0 ≡ bandNumbers (p .n) (p .bands) u
 
 -- ---- the numbers of a mode among those of all
@@ -97,14 +94,14 @@ module _ (p : Plant) (t : Tidy p) where
   unfolding numbersOf n front edges modes
   edges-same = edge-same front refl n edges (λ i. refl) modes (t .rooms)
 
-  bands-same : padded mostBands (pos 0) (tabs (λ u. tab (at (numbersOf p)) (2 * n) (bandsAt (p .form) n u)) (p .modes) 0) ≡ p .bands
+  bands-same : tabs (λ u. tab (at (numbersOf p)) (2 * n) (bandsAt (p .form) n u)) (p .modes) 0 ≡ p .bands
   unfolding numbersOf n front edges modes one
   bands-same =
-      let e : 2 * n * p .modes ≡ bandCount (p .modes) n = omega arith in
-      ap (padded mostBands (pos 0)) (tabs-tab (at (p .bands)) (λ u. tab (at (numbersOf p)) (2 * n) (bandsAt (p .form) n u)) (2 * n) 0 (p .modes)
+      let e : 2 * n * p .modes ≡ length (p .bands) = omega (arith, t .bands-long) in
+      tabs-tab (at (p .bands)) (λ u. tab (at (numbersOf p)) (2 * n) (bandsAt (p .form) n u)) (2 * n) 0 (p .modes)
       (λ u h. let z : 0 + 2 * n * u ≡ 2 * n * u = zero-add (2 * n * u) in
-      rw z (tab-moved (at (numbersOf p)) (at (p .bands)) (2 * n) (bandsAt (p .form) n u) (2 * n * u) (λ k l. here u k h l))) ∙ ap (λ (c : ℕ). tab (at (p .bands)) c 0) e)
-      ∙ filled-padded (t .bands-filled) (t .ends)
+      rw z (tab-moved (at (numbersOf p)) (at (p .bands)) (2 * n) (bandsAt (p .form) n u) (2 * n * u) (λ k l. here u k h l)))
+      ∙ ap (λ (c : ℕ). tab (at (p .bands)) c 0) e ∙ tab-at (p .bands)
     where
       here : (u k : ℕ) → u < p .modes → k < 2 * n → at (numbersOf p) (bandsAt (p .form) n u + k) ≡ at (p .bands) (2 * n * u + k)
       here u k h l =
@@ -113,14 +110,14 @@ module _ (p : Plant) (t : Tidy p) where
           ap (at (numbersOf p)) e ∙ behind-at front refl n edges (λ i. refl) modes (c + k)
           ∙ band-at n (p .modes) (p .bands) (p .coef) (ownBands (p .form)) (t .alike) u k h l
 
-  coef-same : padded mostCoefs (pos 0) (tabs (λ u. tab (at (numbersOf p)) (n * (n + 1)) (rowsAt (p .form) n u)) (p .modes) 0) ≡ p .coef
+  coef-same : tabs (λ u. tab (at (numbersOf p)) (n * (n + 1)) (rowsAt (p .form) n u)) (p .modes) 0 ≡ p .coef
   unfolding numbersOf n front edges modes one
   coef-same =
-      let e : n * (n + 1) * p .modes ≡ coefCount (p .modes) n = omega arith in
-      ap (padded mostCoefs (pos 0)) (tabs-tab (at (p .coef)) (λ u. tab (at (numbersOf p)) (n * (n + 1)) (rowsAt (p .form) n u)) (n * (n + 1)) 0 (p .modes)
+      let e : n * (n + 1) * p .modes ≡ length (p .coef) = omega (arith, t .coef-long) in
+      tabs-tab (at (p .coef)) (λ u. tab (at (numbersOf p)) (n * (n + 1)) (rowsAt (p .form) n u)) (n * (n + 1)) 0 (p .modes)
       (λ u h. let z : 0 + n * (n + 1) * u ≡ n * (n + 1) * u = zero-add (n * (n + 1) * u) in
-      rw z (tab-moved (at (numbersOf p)) (at (p .coef)) (n * (n + 1)) (rowsAt (p .form) n u) (n * (n + 1) * u) (λ k l. here u k h l))) ∙ ap (λ (c : ℕ). tab (at (p .coef)) c 0) e)
-      ∙ filled-padded (t .coef-filled) (t .numbers)
+      rw z (tab-moved (at (numbersOf p)) (at (p .coef)) (n * (n + 1)) (rowsAt (p .form) n u) (n * (n + 1) * u) (λ k l. here u k h l)))
+      ∙ ap (λ (c : ℕ). tab (at (p .coef)) c 0) e ∙ tab-at (p .coef)
     where
       here : (u k : ℕ) → u < p .modes → k < n * (n + 1) → at (numbersOf p) (rowsAt (p .form) n u + k) ≡ at (p .coef) (n * (n + 1) * u + k)
       here u k h l =

@@ -10,13 +10,12 @@ use Rattle.laws.specs.Lists.{tab, all}
 use native.Mathlib.Omega.{arith}
 use native.Mathlib.Nat.{zero-add}
 use Rattle.laws.specs.Tests.{never, guard-passed}
-use Rattle.meaning.specs.declared.Plant.{Plant}
 use Rattle.meaning.specs.declared.Refusal.{Refusal}
 use Rattle.meaning.specs.declared.Sheet.{Sheet}
 use Rattle.meaning.specs.Boxes.{Side, lies, within}
 use Rattle.meaning.specs.Files.{Read, read, refused, Judged, good, bad}
 use Rattle.meaning.specs.Plants as P
-use Rattle.meaning.specs.Plants.{plantOf, rootOf, safeOf, bandsOf, wide, wideModes, related, plantRelated}
+use Rattle.meaning.specs.Plants.{Plant, plantOf, rootOf, safeOf, bandsOf, wide, wideModes, related, plantRelated}
 use Rattle.meaning.specs.Sheets.{rootSheet, safeSheet, bandsSheet, sheetOf, madeNumbers, isNear, sheetRelated}
 
 bad-good : {A : Type 0} {r : Refusal} {a : A} → bad r ≡ good a → ⊥

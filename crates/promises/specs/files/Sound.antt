@@ -8,9 +8,8 @@ use lib.ListN.{length}
 use lib.IntN.{ℤ, pos, natAbs, _-ℤ_}
 use lib.Signed.{_≤ℤ_}
 use Rattle.laws.specs.Lists.{at}
-use Rattle.meaning.specs.declared.Plant.{Plant}
 use Rattle.meaning.specs.Boxes.{Side, sideAt, within}
-use Rattle.meaning.specs.Plants.{edgeLimit, bandLimit, entryLimit, offsetLimit, plantForms, mostModes, rootOf, safeOf, rowStart, mostCoefs, bandSide, mostBands}
+use Rattle.meaning.specs.Plants.{edgeLimit, bandLimit, entryLimit, offsetLimit, plantForms, mostModes, Plant, coefCount, bandCount, rootOf, safeOf, bandSide, rowStart}
 
 -- a side within ± a limit, and not empty
 pub record Bounded (limit : ℕ) (s : Side) : Type 0 where
@@ -49,10 +48,10 @@ pub record Sound (p : Plant) : Type 0 where
   pub ranges : Ranges mostModes (p .n) (p .modes) (p .q) (p .k) (p .d) (p .rlo) (p .rhi) (p .slo) (p .shi)
   pub root-safe : within (rootOf p) (safeOf p) ≡ true
   -- the band of mode u in dimension i
-  pub band-size : length (p .bands) ≡ mostBands
+  pub band-size : length (p .bands) ≡ bandCount (p .modes) (p .n)
   pub bands : (u i : ℕ) → u < p .modes → i < p .n → Bounded bandLimit (bandSide (p .n) (p .bands) u i)
   pub wide : (u i : ℕ) → u < p .modes → i < p .n → Wide (p .q) (bandSide (p .n) (p .bands) u i)
   -- row i of mode u, its n entries of A and b_i behind them
-  pub coef-size : length (p .coef) ≡ mostCoefs
+  pub coef-size : length (p .coef) ≡ coefCount (p .modes) (p .n)
   pub entries : (u i j : ℕ) → u < p .modes → i < p .n → j < p .n → natAbs (at (p .coef) (rowStart (p .n) u i + j)) ≤ entryLimit
   pub offsets : (u i : ℕ) → u < p .modes → i < p .n → natAbs (at (p .coef) (rowStart (p .n) u i + p .n)) ≤ offsetLimit

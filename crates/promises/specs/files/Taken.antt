@@ -13,10 +13,9 @@ use Rattle.laws.specs.Lists as L
 use Rattle.laws.specs.Lists.{at, tab, tabs, all}
 use Rattle.laws.specs.Tabs.{map-tab}
 use Rattle.laws.specs.Tests.{true-leZ, tab-holds}
-use Rattle.meaning.specs.declared.Plant.{Plant}
 use Rattle.meaning.specs.Files.{Form, end, good}
 use Rattle.meaning.specs.Plants as P
-use Rattle.meaning.specs.Plants.{times, bands, row, plantForms, mostModes, ownBands, modeForm, modesOwn, modesAlike, plantForm, bandNumbers, rowNumbers, numbersOf, rootOf, safeOf, bandStart, bandSide, bandsOf, wide, plantRelated, plantJudged, rowStart}
+use Rattle.meaning.specs.Plants.{Plant, times, bands, row, plantForms, mostModes, ownBands, modeForm, modesOwn, modesAlike, plantForm, bandNumbers, rowNumbers, numbersOf, rootOf, safeOf, bandStart, bandSide, bandsOf, wide, plantRelated, plantJudged, rowStart}
 use Rattle.promises.specs.files.FormShapes.{times-each}
 use Rattle.promises.specs.files.Judged.{judged-sound}
 use Rattle.promises.specs.files.Passing as Q

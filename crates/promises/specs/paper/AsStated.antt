@@ -2,7 +2,7 @@
 -- the code meet each: `checked`, `makerLeft`, `controlled`. How tight they are: what is asked of a maker settles every answer and every byte, of a controller
 -- every call on an accepted table, of a checker every verdict on a table that keeps the file's rules. Relies on pages Checked, Promise, FirstFault, Made and
 -- Chosen. What is told of tables that break the file's rules is left out: the definitions say it. Which programs each demand shuts out is page ShutOut.
-use Prim.Native.Nat.{ℕ, zero, suc, _+_, _≤_, _<_}
+use Prim.Native.Nat.{ℕ, zero, suc, _^_, _≤_, _<_}
 use mathlib.Core.Path.{_≡_, refl, sym, ap, _∙_}
 use mathlib.Core.Bool.{Bool, true, false, _&&_}
 use mathlib.Core.Logic.{_↔_}
@@ -10,7 +10,7 @@ use mathlib.Core.List.{List, [], _∷_, append-nil}
 use mathlib.Core.Option.{Option, none, some}
 use native.Mathlib.Omega.{arith}
 use native.Mathlib.Decide.{decLt}
-use borrow.Author.Tests.{le-leb, lt-ltb, leb-true, ltb-true}
+use borrow.Author.Tests.{le-leb, leb-true}
 use lib.Dec.{leb, eqb·suc-zero}
 use lib.ListN.{length, replicate}
 use lib.Seq.{sets}
@@ -20,7 +20,6 @@ use Rattle.laws.specs.Standing.{Stands}
 use Rattle.laws.specs.Tests.{never, first, second, both}
 use Rattle.meaning.specs.declared.Answer.{Answer}
 use Rattle.meaning.specs.declared.Number.{Number}
-use Rattle.meaning.specs.declared.Plant.{Plant}
 use Rattle.meaning.specs.declared.Refusal.{Refusal}
 use Rattle.meaning.specs.declared.State.{State}
 use Rattle.meaning.specs.declared.Verdict.{Verdict}
@@ -28,25 +27,24 @@ use Rattle.meaning.specs.declared.Walk.{Walk}
 use Rattle.meaning.specs.declared.Written.{Written}
 use Rattle.meaning.specs.Buffers.{Left, refusedWith, left}
 use Rattle.meaning.specs.Control as C
-use Rattle.meaning.specs.Control.{idle, stateAt, stateWith, isMode, canRun, idleCall, runningCall}
+use Rattle.meaning.specs.Control.{idle, stateAt, stateWith, areRead, canRun, idleCall, runningCall}
 use Rattle.meaning.specs.Defined.{definedTree}
-use Rattle.meaning.specs.Files.{Judged, good, bad}
-use Rattle.meaning.specs.Numbers.{numberAt, bytesOf}
-use Rattle.meaning.specs.Plants.{plantJudged, rootOf, safeOf}
+use Rattle.meaning.specs.Files.{Read, read, refused, Judged, good, bad}
+use Rattle.meaning.specs.Numbers.{numberAt}
+use Rattle.meaning.specs.Plants.{Plant, plantJudged, rootOf, safeOf}
 use Rattle.meaning.specs.Refusals.{leaves, misses, noTable, short, outside, badState}
 use Rattle.meaning.specs.Rules.{Rules, rule, holds, missed}
 use Rattle.meaning.specs.Tables as T
 use Rattle.meaning.specs.Tables.{rulesOf, checked, made, makerLeft, controlled, startsIn, safeIn}
-use Rattle.meaning.specs.Trees.{Tree, Pattern, longest, tableOf, Tile, tilesOf, having}
-use Rattle.meaning.specs.Verdicts.{header, verdict}
+use Rattle.meaning.specs.Trees.{Tree, Pattern, modesBytes, below, longest, tableOf, Tile, tilesOf, having}
+use Rattle.meaning.specs.Verdicts.{modesAt, header, verdict}
 use Rattle.promises.specs.files.Buffers.{wrote}
 use Rattle.promises.specs.tables.Checked.{Tiled, accepted-judged, checked-exactly}
 use Rattle.promises.specs.tables.Chosen.{chosen}
 use Rattle.promises.specs.tables.Finds.{firstPlace, nextPlace}
 use Rattle.promises.specs.tables.FirstFault.{LeavesAt, MissesAt, FirstBad, Comes, working, leaving, missing, comes, leaving-told, missing-told}
-use Rattle.promises.specs.tables.Layouts.{headed, table-header}
+use Rattle.promises.specs.tables.Layouts.{ModesStand, modes-stand, first-read, modes-read, headed, table-header}
 use Rattle.promises.specs.tables.Made.{made-accepted, made-exactly, nine-exactly, maker-nine, maker-ten, maker-writes}
-use Rattle.promises.specs.files.Numbers.{reads, was}
 use Rattle.promises.specs.tables.PlantRules.{judged-sizes, checked-as, made-as, controlled-as}
 use Rattle.promises.specs.tables.Promise.{Promised, promise}
 use Rattle.promises.specs.tables.Shapes.{Shaped, Good, over-map}
@@ -215,16 +213,17 @@ module _ (f g : Maker) (F : Makes f) (G : Makes g) (plant buf : List ℕ) where
 
 -- ---- demand 2, a call of the controller on an accepted table
 
--- row 12 turned round: so many modes left, the one at the place counted, can be
+-- row 12 turned round (request 2026-08): so many modes left, the one at the place counted, can be
 pub record CanRun (p : Plant) (table : List ℕ) (place left : ℕ) : Type 0 where
   pub few : left ≤ p .k
   pub behind-header : 2 ≤ place
-  pub in-table : place + left ≤ length table
-  -- the number there is a mode
+  -- as many modes of the plant stand there
   pub mode : ℕ
-  pub next : ℕ
-  pub stand : Stands table place (bytesOf mode) next
-  pub a-mode : mode < p .modes
+  pub later : List ℕ
+  pub all-left : suc (length later) ≡ left
+  pub end : ℕ
+  pub stand : Stands table place (modesBytes (mode ∷ later)) end
+  pub are-modes : below (p .modes) (mode ∷ later)
 
 abbrev pub stateOf : ℕ → ℕ → State
 stateOf place left = record { place = place; left = left }
@@ -236,7 +235,7 @@ pub record Answers (control : Controller) : Type 0 where
       → (u : ℕ) (us : List ℕ) → one .modes ≡ u ∷ us → control plant table idle x ≡ Answer.Mode u (stateWith us (nextPlace (firstPlace (rulesOf (t .p)) one) u))
   -- running, the reading in S: the mode at the place is answered; with modes left the state moves behind it, else it is idle
   pub next-mode : (plant table : List ℕ) (t : Tiled plant table) (x : List ℤ) → safeIn plant x ≡ true
-      → (place m : ℕ) (k : CanRun (t .p) table place (suc m)) → control plant table (stateOf place (suc m)) x ≡ Answer.Mode (k .mode) (stateAt (k .next) m)
+      → (place m : ℕ) (k : CanRun (t .p) table place (suc m)) → control plant table (stateOf place (suc m)) x ≡ Answer.Mode (k .mode) (stateAt (nextPlace place (k .mode)) m)
   -- 11: the reading is outside R, idle, or outside S, running; the first dimension in which it is
   pub outside-root : (plant table : List ℕ) (t : Tiled plant table) (x : List ℤ) → startsIn plant x ≡ false
       → control plant table idle x ≡ Answer.Refused (outside (missed (rulesOf (t .p)) (rootOf (t .p)) x))
@@ -249,34 +248,33 @@ pub record Answers (control : Controller) : Type 0 where
       → control plant table (stateOf place (suc m)) x ≡ Answer.Refused badState
 
 -- the test of a state
-module _ (plant : List ℕ) (p : Plant) (good-plant : plantJudged plant ≡ good p) (table : List ℕ) (place left : ℕ) where
-  mode-there : (k : CanRun p table place left) → numberAt table place ≡ Number.Value (k .mode) (k .next)
-  mode-there k = reads (k .mode) place (k .next) table (omega (arith, k .a-mode, judged-sizes plant p good-plant .modes)) (k .stand)
+module _ (plant : List ℕ) (p : Plant) (good-plant : plantJudged plant ≡ good p) (table : List ℕ) (place m : ℕ) where
+  small : p .modes ≤ 2 ^ 35
+  small = judged-sizes plant p good-plant .modes
 
-  can-run : (canRun (p .k) (p .modes) table place left ≡ true) ↔ CanRun p table place left
+  mode-there : (k : CanRun p table place (suc m)) → numberAt table place ≡ Number.Value (k .mode) (nextPlace place (k .mode))
+  mode-there k = first-read (p .modes) small (k .mode) (k .later) table place (k .end) (k .are-modes) (k .stand)
+
+  modes-there : (k : CanRun p table place (suc m)) → modesAt (p .modes) (suc m) table place ≡ read (k .mode ∷ k .later) (k .end)
+  modes-there k = rw (← k .all-left) (modes-read (p .modes) small (k .mode ∷ k .later) table place (k .end) (k .are-modes) (k .stand))
+
+  can-run : (canRun (p .k) (p .modes) table place (suc m) ≡ true) ↔ CanRun p table place (suc m)
   can-run =
-      let a = leb left (p .k) in
+      let a = leb (suc m) (p .k) in
       let b = leb 2 place in
-      let c = leb (place + left) (length table) in
-      let d = isMode (p .modes) (numberAt table place) in (
-        λ e. go (numberAt table place) refl (leb-true left (p .k) (first a b (first (a && b) c (first (a && b && c) d e))))
-            (leb-true 2 place (second a b (first (a && b) c (first (a && b && c) d e))))
-            (leb-true (place + left) (length table) (second (a && b) c (first (a && b && c) d e))) (second (a && b && c) d e),
-        λ h. both (both (both (le-leb left (p .k) (h .few)) (le-leb 2 place (h .behind-header))) (le-leb (place + left) (length table) (h .in-table)))
-            (rw (mode-there h) (lt-ltb (h .mode) (p .modes) (h .a-mode))),
+      let c = areRead (modesAt (p .modes) (suc m) table place) in (
+        λ e. go (modesAt (p .modes) (suc m) table place) refl (leb-true (suc m) (p .k) (first a b (first (a && b) c e))) (leb-true 2 place (second a b (first (a && b) c e)))
+            (second (a && b) c e),
+        λ h. both (both (le-leb (suc m) (p .k) (h .few)) (le-leb 2 place (h .behind-header))) (rw (modes-there h) refl),
       )
     where
-      go : (v : Number) → numberAt table place ≡ v → left ≤ p .k → 2 ≤ place → place + left ≤ length table → isMode (p .modes) v ≡ true → CanRun p table place left
-      go Number.Broken q a b c e = never e
-      go (Number.Value u next) q a b c e = record {
-        few = a;
-        behind-header = b;
-        in-table = c;
-        mode = u;
-        next = next;
-        stand = was u place next table q .1;
-        a-mode = ltb-true u (p .modes) e;
-      }
+      stood : suc m ≤ p .k → 2 ≤ place → (us : List ℕ) (end : ℕ) → ModesStand (p .modes) (suc m) table place us end → CanRun p table place (suc m)
+      stood a b [] end w = absurd (omega (arith, w .count))
+      stood a b (u ∷ us) end w = record { few = a; behind-header = b; mode = u; later = us; all-left = w .count; end = end; stand = w .stand; are-modes = w .modes }
+
+      go : (o : Read (List ℕ)) → modesAt (p .modes) (suc m) table place ≡ o → suc m ≤ p .k → 2 ≤ place → areRead o ≡ true → CanRun p table place (suc m)
+      go (refused e) q a b h = never h
+      go (read us end) q a b h = stood a b us end (modes-stand (p .modes) (suc m) table place us end q)
 
 cannot : (b : Bool) → (b ≡ true → ⊥) → b ≡ false
 cannot true h = absurd (h refl)
@@ -315,14 +313,14 @@ controlled-answers = record {
       let at : firstPlace (rulesOf (t .p)) (c .the) ≡ firstPlace (rulesOf (t .p)) one = ap (firstPlace (rulesOf (t .p))) same in
       c .answered ∙ rw (a, b, at) refl;
   next-mode = λ plant table t x h place m k.
-      running-as plant table t x place m ∙ simp (can-run plant (t .p) (t .judged) table place (suc m) .1 k, in-safe plant table t x true h) (rw (mode-there plant (t .p) (t .judged) table place (suc m) k) refl);
+      running-as plant table t x place m ∙ simp (can-run plant (t .p) (t .judged) table place m .1 k, in-safe plant table t x true h) (rw (mode-there plant (t .p) (t .judged) table place m k) refl);
   outside-root = λ plant table t x h. idle-as plant table t x 0 ∙ simp (in-root plant table t x false h);
   outside-safe = λ plant table t x h place m k.
-      running-as plant table t x place m ∙ simp (can-run plant (t .p) (t .judged) table place (suc m) .1 k, in-safe plant table t x false h);
+      running-as plant table t x place m ∙ simp (can-run plant (t .p) (t .judged) table place m .1 k, in-safe plant table t x false h);
   no-place = λ plant table t x place. idle-as plant table t x (suc place) ∙ simp (eqb·suc-zero place);
   cannot-run = λ plant table t x place m k.
       running-as plant table t x place m
-      ∙ simp (cannot (canRun (t .p .k) (t .p .modes) table place (suc m)) (λ e. k (can-run plant (t .p) (t .judged) table place (suc m) .0 e)));
+      ∙ simp (cannot (canRun (t .p .k) (t .p .modes) table place (suc m)) (λ e. k (can-run plant (t .p) (t .judged) table place m .0 e)));
 }
 
 -- two controllers of which this is true answer alike on every accepted table, in every state, whatever the reading
@@ -341,9 +339,9 @@ one-call f g F G plant table t st x = go (st .place) (st .left)
     safe-alike place m k true h = F .next-mode plant table t x h place m k ∙ sym (G .next-mode plant table t x h place m k)
 
     run-alike : (place m : ℕ) (b : Bool) → canRun (t .p .k) (t .p .modes) table place (suc m) ≡ b → f plant table (stateOf place (suc m)) x ≡ g plant table (stateOf place (suc m)) x
-    run-alike place m true e = safe-alike place m (can-run plant (t .p) (t .judged) table place (suc m) .0 e) (safeIn plant x) refl
+    run-alike place m true e = safe-alike place m (can-run plant (t .p) (t .judged) table place m .0 e) (safeIn plant x) refl
     run-alike place m false e =
-        let k : CanRun (t .p) table place (suc m) → ⊥ = λ h. never (sym e ∙ can-run plant (t .p) (t .judged) table place (suc m) .1 h) in
+        let k : CanRun (t .p) table place (suc m) → ⊥ = λ h. never (sym e ∙ can-run plant (t .p) (t .judged) table place m .1 h) in
         F .cannot-run plant table t x place m k ∙ sym (G .cannot-run plant table t x place m k)
 
     go : (place left : ℕ) → f plant table (stateOf place left) x ≡ g plant table (stateOf place left) x

@@ -6,13 +6,12 @@ use mathlib.Core.List.{List, [], _∷_}
 use lib.IntN.{ℤ, pos, negℤ}
 use Rattle.laws.specs.Every as E
 use Rattle.laws.specs.Every.{Every}
-use Rattle.meaning.specs.declared.Plant.{Plant}
 use Rattle.meaning.specs.declared.Sheet.{Sheet}
 use Rattle.meaning.specs.declared.State.{State}
 use Rattle.meaning.specs.Computing.{computing}
 use Rattle.meaning.specs.Control.{idle}
 use Rattle.meaning.specs.Files.{fileOf}
-use Rattle.meaning.specs.Plants.{plantForm, plantOf, plantRead, plantLeft}
+use Rattle.meaning.specs.Plants.{Plant, plantForm, plantOf, plantRead, plantLeft}
 use Rattle.meaning.specs.Refusals.{verdictShown, writtenShown, answerShown}
 use Rattle.meaning.specs.Sheets.{sheetForm, sheetOf, sheetRead, sheetLeft, madeLeft}
 use Rattle.meaning.specs.Tables.{checked, makerLeft, controlled}

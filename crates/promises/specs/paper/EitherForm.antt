@@ -6,11 +6,10 @@ use mathlib.Core.Path.{_≡_, refl}
 use mathlib.Core.List.{List}
 use lib.IntN.{ℤ}
 use lib.ListN.{length}
-use Rattle.meaning.specs.declared.Plant.{Plant}
 use Rattle.meaning.specs.declared.StartState.{StartState}
 use Rattle.meaning.specs.declared.State.{State}
 use Rattle.meaning.specs.Files.{good}
-use Rattle.meaning.specs.Plants.{plantForms, bandNumbers, plantJudged, plantLeft}
+use Rattle.meaning.specs.Plants.{Plant, plantForms, bandNumbers, plantJudged, plantLeft}
 use Rattle.meaning.specs.Starts as S
 use Rattle.meaning.specs.Starts.{startChecked, startLeft, startControlled}
 use Rattle.meaning.specs.Tables as T
@@ -69,14 +68,12 @@ module _ (plant : List ℕ) (p : Plant) (e : plantJudged plant ≡ good p) (equa
       })
       (record {
         rooms = t .rooms;
-        numbers = t .numbers;
-        ends = t .ends;
         rlo-filled = t .rlo-filled;
         rhi-filled = t .rhi-filled;
         slo-filled = t .slo-filled;
         shi-filled = t .shi-filled;
-        bands-filled = t .bands-filled;
-        coef-filled = t .coef-filled;
+        bands-long = t .bands-long;
+        coef-long = t .coef-long;
         alike = λ _. equal;
       })
 

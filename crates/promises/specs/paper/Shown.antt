@@ -20,7 +20,6 @@ use Rattle.meaning.specs.declared.Signed.{Signed}
 use Rattle.meaning.specs.declared.Tried.{Tried}
 use Rattle.meaning.specs.declared.Walk.{Walk}
 use Rattle.meaning.specs.declared.Found.{Found}
-use Rattle.meaning.specs.declared.Plant.{Plant}
 use Rattle.meaning.specs.declared.Verdict.{Verdict}
 use Rattle.meaning.specs.declared.Written.{Written}
 use Rattle.meaning.specs.declared.State.{State}
@@ -30,7 +29,7 @@ use Rattle.meaning.specs.Control as C
 use Rattle.meaning.specs.Control.{idle, stateWith, onFound, find}
 use Rattle.meaning.specs.Files.{good}
 use Rattle.meaning.specs.Numbers.{numberAt, asSigned, signedAt, bytesOf, stored, restored}
-use Rattle.meaning.specs.Plants.{plantJudged, rootOf}
+use Rattle.meaning.specs.Plants.{Plant, plantJudged, rootOf}
 use Rattle.meaning.specs.Rules.{Rules, rule, holds}
 use Rattle.meaning.specs.Tables.{rulesOf, checked, made, makerLeft, controlled, startsIn, TableRun}
 use Rattle.meaning.specs.Verdicts as W
@@ -164,9 +163,9 @@ module _ (plant table : List ℕ) (st : State) (x : List ℤ) where
       → (answerShown (controlled plant table st x) ≡ shows 0 0 0 (pos u ∷ pos (then .place) ∷ pos (then .left) ∷ [])) ↔ (controlled plant table st x ≡ Answer.Mode u then)
   mode-answered-shown u then = answer-exactly (controlled plant table st x) (Answer.Mode u then) (controller-some plant table st x) (mode-some u then)
 
-  -- a refused one returns idle, with mode 255
+  -- a refused one returns idle, with no mode
   pub call-refused-shown : (e : Refusal) → Some e
-      → (answerShown (controlled plant table st x) ≡ refusing e (pos 255 ∷ pos 0 ∷ pos 0 ∷ [])) ↔ (controlled plant table st x ≡ Answer.Refused e)
+      → (answerShown (controlled plant table st x) ≡ refusing e noMode) ↔ (controlled plant table st x ≡ Answer.Refused e)
   call-refused-shown e s = answer-exactly (controlled plant table st x) (Answer.Refused e) (controller-some plant table st x) (call-some e s)
 
 -- ---- S6 and S8 in their parts, which show what they pass on

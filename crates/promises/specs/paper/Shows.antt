@@ -27,9 +27,9 @@ shows n p i vs = record { number = n; place = p; step = i; values = vs }
 abbrev pub refusing : Refusal → List ℤ → Shown
 refusing e vs = shows (e .number) (e .place) (e .step) vs
 
--- mode 255 and idle
+-- no mode and idle
 abbrev pub noMode : List ℤ
-noMode = pos 255 ∷ pos 0 ∷ pos 0 ∷ []
+noMode = pos 65_535 ∷ pos 0 ∷ pos 0 ∷ []
 
 -- ---- what is shown says which it is
 

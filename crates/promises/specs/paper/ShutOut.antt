@@ -12,7 +12,6 @@ use lib.IntN.{ℤ, pos}
 use Rattle.laws.specs.Every as E
 use Rattle.laws.specs.Tests.{never}
 use Rattle.meaning.specs.declared.Answer.{Answer}
-use Rattle.meaning.specs.declared.Plant.{Plant}
 use Rattle.meaning.specs.declared.Refusal.{Refusal}
 use Rattle.meaning.specs.declared.State.{State}
 use Rattle.meaning.specs.declared.Verdict.{Verdict}
@@ -20,7 +19,7 @@ use Rattle.meaning.specs.declared.Written.{Written}
 use Rattle.meaning.specs.Computing.{computing}
 use Rattle.meaning.specs.Control.{idle}
 use Rattle.meaning.specs.Files.{good}
-use Rattle.meaning.specs.Plants.{plantOf, plantJudged, rootOf}
+use Rattle.meaning.specs.Plants.{Plant, plantOf, plantJudged, rootOf}
 use Rattle.meaning.specs.Refusals.{leaves, noTable}
 use Rattle.meaning.specs.Runs.{start, sample}
 use Rattle.meaning.specs.Tables.{rulesOf, checked, safeIn, startsIn, TableRun}
@@ -149,7 +148,7 @@ module _ (control : Controller) (demand : Answers control) where
   unfolding computing tiled₅ Y.having
   line-9 = (
     demand .first-mode P′ table₅ tiled₅ (just 200) refl (record { box = rootOf plantP′; modes = 0 ∷ 1 ∷ []; place = 2 }) refl 0 (1 ∷ []) refl,
-    demand .next-mode P′ table₅ tiled₅ (just 186) refl 4 0 (record { few = omega arith; behind-header = omega arith; in-table = omega arith; mode = 1; next = 5; stand = record { end = refl; bytes = refl }; a-mode = omega arith }),
+    demand .next-mode P′ table₅ tiled₅ (just 186) refl 4 0 (record { few = omega arith; behind-header = omega arith; mode = 1; later = []; all-left = refl; end = 5; stand = record { end = refl; bytes = refl }; are-modes = (omega arith, tt) }),
   )
 
 pub one-mode : (control : Controller) (u : ℕ) → ((plant table : List ℕ) (st then : State) (x : List ℤ) (v : ℕ) → control plant table st x ≡ Answer.Mode v then → v ≡ u)

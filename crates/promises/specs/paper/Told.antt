@@ -17,7 +17,6 @@ use Rattle.laws.specs.Guards.{guard}
 use Rattle.laws.specs.Lists.{at}
 use Rattle.laws.specs.Tabs.{length-tab}
 use Rattle.laws.specs.Tests.{never}
-use Rattle.meaning.specs.declared.Plant.{Plant}
 use Rattle.meaning.specs.declared.Sheet.{Sheet}
 use Rattle.meaning.specs.declared.Refusal.{Refusal}
 use Rattle.meaning.specs.declared.Found.{Found}
@@ -31,7 +30,7 @@ use Rattle.meaning.specs.Boxes.{Side, side, sideAt, sidesOf, fits}
 use Rattle.meaning.specs.Buffers.{left, refusedWith}
 use Rattle.meaning.specs.Files.{Judged, good, bad, fileJudged}
 use Rattle.meaning.specs.Plants as P
-use Rattle.meaning.specs.Plants.{plantForms, rootOf, safeOf, plantJudged, plantRead, readOf, plantLeft}
+use Rattle.meaning.specs.Plants.{Plant, plantForms, rootOf, safeOf, plantJudged, plantRead, readOf, plantLeft}
 use Rattle.meaning.specs.Rules.{Rules, rule, holds}
 use Rattle.meaning.specs.Sheets as S
 use Rattle.meaning.specs.Sheets.{plantFileMade, sheetJudged, sheetRead, sheetReadOf, madeLeft, sheetLeft}
@@ -308,7 +307,7 @@ pub checker-shows : (plant table : List ℕ)
 checker-shows plant table = verdict-shows (Told plant table checkerNumbers) (told-some plant table checkerNumbers refl) (checked plant table) (checker-told plant table)
 
 pub controller-shows : (plant table : List ℕ) (st : State) (x : List ℤ)
-    → Showing ((u : ℕ) × (then : State) × (controlled plant table st x ≡ Answer.Mode u then)) (Told plant table controllerNumbers) (pos 255 ∷ pos 0 ∷ pos 0 ∷ [])
+    → Showing ((u : ℕ) × (then : State) × (controlled plant table st x ≡ Answer.Mode u then)) (Told plant table controllerNumbers) noMode
     (answerShown (controlled plant table st x))
 controller-shows plant table st x =
     answer-shows (Told plant table controllerNumbers) (told-some plant table controllerNumbers refl) (controlled plant table st x) (controller-told plant table st x)

@@ -23,7 +23,6 @@ use Rattle.laws.specs.Standing.{Stands, stand-within}
 use Rattle.laws.specs.Tabs.{length-tab, length-tabs}
 use Rattle.laws.specs.Tests.{never}
 use Rattle.meaning.specs.declared.Number.{Number}
-use Rattle.meaning.specs.declared.Plant.{Plant}
 use Rattle.meaning.specs.declared.Refusal.{Refusal}
 use Rattle.meaning.specs.declared.Sheet.{Sheet}
 use Rattle.meaning.specs.declared.Whole.{Whole}
@@ -33,7 +32,7 @@ use Rattle.meaning.specs.Files as F
 use Rattle.meaning.specs.Files.{Kind, plain, signed, float, Form, end, field, Taken, taken, none, takenAs, bytesAs, Read, read, refused, before, onTaken, valuesAt, ended, valuesOf, Judged, good, bad}
 use Rattle.meaning.specs.Numbers.{numberAt, bytesOf, stored}
 use Rattle.meaning.specs.Plants as P
-use Rattle.meaning.specs.Plants.{edgeLimit, bandLimit, entryLimit, offsetLimit, edgesOf, counted, from, limited, span, times, edges, bands, row, sized, headed, plantForms, mostModes, ownBands, modeForm, modesOwn, modesAlike, modesForm, plantForm, plantOf, rootOf, safeOf, bandSide, bandsOf, wide, wideModes, related, plantRelated, plantJudged}
+use Rattle.meaning.specs.Plants.{Plant, edgeLimit, bandLimit, entryLimit, offsetLimit, edgesOf, counted, from, limited, span, times, edges, bands, row, sized, headed, plantForms, mostModes, ownBands, modeForm, modesOwn, modesAlike, modesForm, plantForm, plantOf, rootOf, safeOf, bandSide, bandsOf, wide, wideModes, related, plantRelated, plantJudged}
 use Rattle.meaning.specs.Refusals.{unfit, notInSafe, narrow}
 use Rattle.meaning.specs.Sheets as S
 use Rattle.meaning.specs.Sheets.{floating, notBelow, anyFloat, above, emitterForm, roomForm, sheetForm, sheetOf, sheetEdges, madeModes, madeBand, madeRow, madeNumbers, isNear, fitting, rootSheet, safeSheet, bandsSheet, sheetRelated, sheetJudged}

@@ -15,7 +15,7 @@ use Rattle.meaning.specs.declared.Whole.{Whole}
 use Rattle.meaning.specs.declared.Sheet.{Sheet}
 use Rattle.meaning.specs.Images.{Row}
 use Rattle.meaning.specs.Plants as P
-use Rattle.meaning.specs.Plants.{entryLimit, offsetLimit, bandLimit, column, mostCoefs, mostBands, bandsAt, rowsAt, edgesOf, plantOf, bandStart, rowStart, rowOf}
+use Rattle.meaning.specs.Plants.{entryLimit, offsetLimit, bandLimit, column, bandsAt, rowsAt, edgesOf, plantOf, bandStart, rowStart, rowOf}
 use Rattle.meaning.specs.Sheets as S
 use Rattle.meaning.specs.Sheets.{sheetEdges, coefficient, offset, wholeOf, limitedTo, widening, madeBand, madeRow, madeModes, madeNumbers, nearValue, madeValues, madePlant}
 use Rattle.promises.specs.files.Bodies.{edge-column, band-at, rest-at}
@@ -79,7 +79,7 @@ module _ (h : Sheet) where
       let t : k ≡ 2 * n * u + (2 * i + j) = omega arith in
       let d : 6 + 4 * n + 0 + (2 * i + j) ≡ 6 + 4 * n + (2 * i + j) = omega arith in
       ap (at (madePlant h .bands)) t
-      ∙ parted-at (madeValues h) (2 * n) (bandsAt 1 n) (madeModes h) mostBands u (2 * i + j) a (omega arith) ∙ ap (at (madeValues h)) d
+      ∙ parted-at (madeValues h) (2 * n) (bandsAt 1 n) (madeModes h) u (2 * i + j) a (omega arith) ∙ ap (at (madeValues h)) d
       ∙ rw made-groups (band-at header refl n edges ends (λ i. refl) (λ i. refl) rows i j b l)
 
   -- ---- the coefficients
@@ -114,7 +114,7 @@ module _ (h : Sheet) where
       let e : rowStart n u i + j ≡ n * (n + 1) * u + m = omega arith in
       let d : 6 + 6 * n + n * (n + 1) * u + m ≡ 6 + 6 * n + (rowStart n u i + j) = omega arith in
       ap (at (madePlant h .coef)) e
-      ∙ parted-at (madeValues h) (n * (n + 1)) (rowsAt 1 n) (madeModes h) mostCoefs u m a l ∙ ap (at (madeValues h)) d
+      ∙ parted-at (madeValues h) (n * (n + 1)) (rowsAt 1 n) (madeModes h) u m a l ∙ ap (at (madeValues h)) d
       ∙ rw made-groups (rest-at header refl n edges ends (λ i. refl) (λ i. refl) rows (rowStart n u i + j)) ∙ row-at u i j a b c
 
   -- ---- a row of the plant

@@ -47,8 +47,12 @@ emitters-few h zero = omega arith
 emitters-few h (suc m) = omega (arith, emitters-few h m, has-one (roomAt h m .emitter))
 
 module _ (h : Sheet) (s : SoundSheet h) where
+  -- sheets reach 16 modes at most
+  pub modes-sixteen : madeModes h ≤ 16
+  modes-sixteen = pow-mono {j = 4} (omega (arith, emitters-few h (h .n), s .ranges .n-high))
+
   modes-few : madeModes h ≤ mostModes
-  modes-few = pow-mono {j = 4} (omega (arith, emitters-few h (h .n), s .ranges .n-high))
+  modes-few = omega (arith, modes-sixteen)
 
   -- ---- the numbers pass, group by group
 

@@ -19,12 +19,11 @@ use Rattle.laws.specs.Lists.{tab, all}
 use Rattle.laws.specs.Standing.{Stands, stand-nil, stand-join}
 use Rattle.laws.specs.Tests.{guard-passed}
 use Rattle.meaning.specs.declared.Number.{Number}
-use Rattle.meaning.specs.declared.Plant.{Plant}
 use Rattle.meaning.specs.declared.Verdict.{Verdict}
 use Rattle.meaning.specs.declared.Walk.{Walk}
 use Rattle.meaning.specs.Files.{read, valuesAt, fileOf, good}
 use Rattle.meaning.specs.Numbers.{numberAt, bytesOf}
-use Rattle.meaning.specs.Plants.{plantJudged, rootOf, safeOf}
+use Rattle.meaning.specs.Plants.{Plant, plantJudged, rootOf, safeOf}
 use Rattle.meaning.specs.Rules.{Rules}
 use Rattle.meaning.specs.Starts as S
 use Rattle.meaning.specs.Starts.{chainForm, above, held, boxRules, part, partsOf, startOf, tablesAt, startChecked}
@@ -102,7 +101,7 @@ shorts (t ∷ ts) h = (h 0 (omega arith), shorts ts (λ k l. h (suc k) (omega ar
 
 module _ (plant start : List ℕ) where
   module _ (t : Started plant start) where
-    pub table-short : (i : ℕ) → i < length (t .tables) → length (getD (t .tables) i []) ≤ 30_039
+    pub table-short : (i : ℕ) → i < length (t .tables) → length (getD (t .tables) i []) ≤ 54_615
     table-short i h = over-box (t .p) (judged-sound plant (t .p) (t .judged)) _ _ (box-size (t .p) (t .vs) i) (getD (t .tables) i []) (t .each i h)
 
     pub tables-short : Every Short (t .tables)

@@ -6,13 +6,13 @@ use mathlib.Core.Bool.{true, false}
 use mathlib.Core.List.{List}
 use lib.IntN.{ℤ}
 use Rattle.laws.specs.Lists.{tab, all, firstFalse}
-use Rattle.meaning.specs.declared.Plant.{Plant}
 use Rattle.meaning.specs.declared.Refusal.{Refusal}
 use Rattle.meaning.specs.Boxes.{Side}
 use Rattle.meaning.specs.Files.{Read, read, refused, Judged, good, bad}
 use Rattle.meaning.specs.Refusals.{notHeld}
 use Rattle.meaning.specs.Starts.{above, held, onChain}
 use Rattle.meaning.specs.Tables.{onPlant}
+use Rattle.meaning.specs.Plants.{Plant}
 use Rattle.promises.specs.files.Telling.{guard-keeps}
 
 module _ {A : Type 0} (P : A → Type 0) where

@@ -14,10 +14,9 @@ use Rattle.laws.specs.Every.{Every, every-tab}
 use Rattle.laws.specs.Lists.{at, tab, all}
 use Rattle.laws.specs.Tabs.{length-tab}
 use Rattle.laws.specs.Tests.{first, second, all-tab}
-use Rattle.meaning.specs.declared.Plant.{Plant}
 use Rattle.meaning.specs.Boxes.{Side, side, sideAt, within}
 use Rattle.meaning.specs.Files.{end, read, valuesAt}
-use Rattle.meaning.specs.Plants.{edgeLimit, span, rootOf, safeOf, stepOf}
+use Rattle.meaning.specs.Plants.{Plant, edgeLimit, span, rootOf, safeOf, stepOf}
 use Rattle.meaning.specs.Rules.{holds}
 use Rattle.meaning.specs.Starts as S
 use Rattle.meaning.specs.Starts.{chainForm, above, chainSide, boxAt, boxBelow, held, boxRules}

@@ -1,4 +1,4 @@
--- How long a start file may be: one that is accepted, and so one that is made, has at most 270,476 bytes. Form and m take a byte each, an edge 3, a table's length 3.
+-- How long a start file may be: one that is accepted, and so one that is made, has at most 491,660 bytes. Form and m take a byte each, an edge 3, a table's length 3.
 -- The longest tables have n 2 and D 6; with n 3 and 4 the edges are more, the tables shorter by more than that. Relies on pages Accepted, Maker and TableLengths;
 -- that some file is so long is left out.
 use Prim.Native.Nat.{ℕ, zero, suc, _+_, _*_, _^_, _≤_, _<_}
@@ -21,7 +21,7 @@ use Rattle.promises.specs.files.Headers.{most-of}
 use Rattle.promises.specs.files.Judged.{judged-sound}
 use Rattle.promises.specs.files.Lengths.{short, Longest, longer, end-longest, field-longest, counted-longest, span-adds, times-adds}
 use Rattle.promises.specs.tables.TableLengths as L
-use Rattle.promises.specs.tables.TableLengths.{most, most-grows, over-most}
+use Rattle.promises.specs.tables.TableLengths.{most, most-grows, tileBytes, tile-most, over-most}
 use Rattle.promises.specs.starts.Accepted.{start-checked-exactly}
 use Rattle.promises.specs.starts.Chains.{chain-few, box-size}
 use Rattle.promises.specs.starts.Maker.{start-made-accepted, start-maker-ten}
@@ -53,25 +53,26 @@ parts-length b h (t ∷ ts) each =
     )
 
 -- n·D ≤ 12, D ≤ 6: two dimensions of depth 6 have the most, nine tables and the edges of eight boxes together
-cap : (n d : ℕ) → 1 ≤ n → n ≤ 4 → d ≤ 6 → n * d ≤ 12 → 48 * n + 9 * most (2 ^ n) 7 d ≤ 270_429
+cap : (m n d : ℕ) → 1 ≤ n → n ≤ 4 → d ≤ 6 → n * d ≤ 12 → 48 * n + 9 * most (2 ^ n) m d ≤ 36_864 * m + 12_381
 unfolding L.most
-cap zero d l h k e = absurd (omega arith)
-cap (suc zero) d l h k e = omega (arith, most-grows 2 7 (omega arith) d 6 k)
-cap (suc (suc zero)) d l h k e = omega (arith, most-grows 4 7 (omega arith) d 6 k)
-cap (suc (suc (suc zero))) d l h k e = omega (arith, most-grows 8 7 (omega arith) d 4 (omega arith))
-cap (suc (suc (suc (suc zero)))) d l h k e = omega (arith, most-grows 16 7 (omega arith) d 3 (omega arith))
-cap (suc (suc (suc (suc (suc n))))) d l h k e = absurd (omega arith)
+cap m zero d l h k e = absurd (omega arith)
+cap m (suc zero) d l h k e = omega (arith, most-grows 2 m (omega arith) d 6 k)
+cap m (suc (suc zero)) d l h k e = omega (arith, most-grows 4 m (omega arith) d 6 k)
+cap m (suc (suc (suc zero))) d l h k e = omega (arith, most-grows 8 m (omega arith) d 4 (omega arith))
+cap m (suc (suc (suc (suc zero)))) d l h k e = omega (arith, most-grows 16 m (omega arith) d 3 (omega arith))
+cap m (suc (suc (suc (suc (suc n))))) d l h k e = absurd (omega arith)
 
 -- ---- the file
 
-started-length : (plant start : List ℕ) → Started plant start → length start ≤ 270_476
+started-length : (plant start : List ℕ) → Started plant start → length start ≤ 491_660
 started-length plant start t =
     let p = t .p in
     let s = judged-sound plant p (t .judged) in
     let form = chainForm (p .n) in
-    let b = 2 + most (2 ^ p .n) 7 (p .d) in
+    let m = tileBytes (p .modes) in
+    let b = 2 + most (2 ^ p .n) m (p .d) in
     let each : (i : ℕ) → i < length (t .tables) → length (getD (t .tables) i []) ≤ b = λ i l. over-most p s _ _ (box-size p (t .vs) i) (getD (t .tables) i []) (t .each i l) in
-    let small : b < 2 ^ 21 = omega (arith, L.cap (p .n) (p .d) (s .ranges .n-low) (s .ranges .n-high) (s .ranges .d-high) (s .ranges .nd-high)) in
+    let small : b < 2 ^ 21 = omega (arith, tile-most (p .modes), L.cap m (p .n) (p .d) (s .ranges .n-low) (s .ranges .n-high) (s .ranges .d-high) (s .ranges .nd-high)) in
     let nine : length (t .tables) ≤ 9 = omega (arith, t .count, chain-few (p .n) (t .vs) start (t .next) (t .chain)) in
     omega (
       arith,
@@ -81,15 +82,16 @@ started-length plant start t =
       chain-longest (p .n) .most start 0 (t .chain),
       parts-length b small (t .tables) each,
       mul-le-mul nine (le-refl (3 + b)),
-      cap (p .n) (p .d) (s .ranges .n-low) (s .ranges .n-high) (s .ranges .d-high) (s .ranges .nd-high),
+      tile-most (p .modes),
+      cap m (p .n) (p .d) (s .ranges .n-low) (s .ranges .n-high) (s .ranges .d-high) (s .ranges .nd-high),
     )
 
-pub accepted-length : (plant start : List ℕ) → startChecked plant start ≡ Verdict.Accepted → length start ≤ 270_476
+pub accepted-length : (plant start : List ℕ) → startChecked plant start ≡ Verdict.Accepted → length start ≤ 491_660
 accepted-length plant start e = started-length plant start (start-checked-exactly plant start .0 e)
 
-pub made-length : (plant chain bytes : List ℕ) → startMade plant chain ≡ good bytes → length bytes ≤ 270_476
+pub made-length : (plant chain bytes : List ℕ) → startMade plant chain ≡ good bytes → length bytes ≤ 491_660
 made-length plant chain bytes e = accepted-length plant bytes (start-made-accepted plant chain bytes e)
 
 -- a buffer of so many is long enough for any
-pub start-maker-fits : (plant chain buf : List ℕ) → 270_476 ≤ length buf → startLeft plant chain buf .answer ≡ Written.Refused R.short → ⊥
+pub start-maker-fits : (plant chain buf : List ℕ) → 491_660 ≤ length buf → startLeft plant chain buf .answer ≡ Written.Refused R.short → ⊥
 start-maker-fits plant chain buf l e = let w = start-maker-ten plant chain buf .0 e in omega (arith, w .2, made-length plant chain (w .0) (w .1))

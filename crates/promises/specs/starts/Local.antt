@@ -1,50 +1,48 @@
 -- What a call on a start file reads (document 02, request 2026-03; readings: nothing of the tables before the one that is called but their lengths): the
 -- chain, the lengths up to that table's own, and of the table, idle, no more than up to the last mode of the tile that is found, running, its header and
--- the mode at the state's place. On every file that has the same bytes there, and is long enough for that table, the answer is the same: bytes of other
+-- the modes left from the state's place on. On every file that has the same bytes there, and is long enough for that table, the answer is the same: bytes of other
 -- tables, and all that stands behind the tile, do not count. Of every file, kept or not. Relies on page Local within the table, on Agreeing and Reaching.
--- What a refused call reads is left out, but for one that is refused before any length, and a running one that finds a number at its place.
+-- What a refused call reads is left out, but for one that is refused before any length, and a running one whose modes left can be read.
 use Prim.Native.Nat.{ℕ, zero, suc, _+_, _-_, _≤_, _<_}
 use mathlib.Core.Path.{_≡_, refl, sym, _∙_}
 use mathlib.Core.Bool.{true, false, _&&_}
 use mathlib.Core.Logic.{_⊎_, inl, inr}
-use mathlib.Core.List.{List, _++_}
+use mathlib.Core.List.{List, [], _∷_, _++_}
 use native.Mathlib.Omega.{arith}
 use lib.ListN.{length, getD, set, length-append, length-set}
 use lib.Seq.{getD-set-other}
-use lib.Dec.{eqb}
+use lib.Dec.{leb, eqb}
 use lib.IntN.{ℤ}
 use Rattle.laws.specs.Lists.{tab, all}
-use Rattle.laws.specs.Standing.{stand-within}
-use Rattle.laws.specs.Tests.{never, guard-passed}
+use Rattle.laws.specs.Standing.{Stands, stand-within}
+use Rattle.laws.specs.Tests.{never, second, guard-passed}
 use Rattle.meaning.specs.declared.Answer.{Answer}
 use Rattle.meaning.specs.declared.Found.{Found}
-use Rattle.meaning.specs.declared.Number.{Number}
-use Rattle.meaning.specs.declared.Plant.{Plant}
 use Rattle.meaning.specs.declared.StartState.{StartState}
 use Rattle.meaning.specs.declared.StartAnswer.{StartAnswer}
 use Rattle.meaning.specs.declared.State.{State}
 use Rattle.meaning.specs.declared.Walk.{Walk}
 use Rattle.meaning.specs.Control as C
-use Rattle.meaning.specs.Control.{call, canRun, stateAt, stateCall, find}
-use Rattle.meaning.specs.Files.{read, valuesAt, good}
-use Rattle.meaning.specs.Numbers.{numberAt, bytesOf}
-use Rattle.meaning.specs.Plants.{plantJudged, rootOf, safeOf}
+use Rattle.meaning.specs.Control.{call, areRead, canRun, stateCall, find}
+use Rattle.meaning.specs.Files.{Read, read, refused, valuesAt, good}
+use Rattle.meaning.specs.Numbers.{bytesOf}
+use Rattle.meaning.specs.Plants.{Plant, plantJudged, rootOf, safeOf}
 use Rattle.meaning.specs.Rules.{Rules, holds}
 use Rattle.meaning.specs.Starts as S
 use Rattle.meaning.specs.Starts.{chainForm, above, boxAt, held, boxRules, part, isIdle, startIdle, answerIn, canIndex, startCall, startControlled}
+use Rattle.meaning.specs.Trees.{modesBytes}
 use Rattle.meaning.specs.Verdicts.{modesAt, header}
 use Rattle.promises.specs.files.Bytes.{bytes-some}
 use Rattle.promises.specs.tables.Chosen.{Went, went}
 use Rattle.promises.specs.files.Judged.{judged-sound}
 use Rattle.promises.specs.tables.Laws.{Sizes}
-use Rattle.promises.specs.tables.Layouts.{modes-stand, header-stands, header-read}
+use Rattle.promises.specs.tables.Layouts.{ModesStand, modes-stand, first-read, modes-read, header-stands, header-read}
 use Rattle.promises.specs.tables.Local.{Unseen, unseen}
-use Rattle.promises.specs.files.Numbers.{was}
 use Rattle.promises.specs.tables.Modes.{refused-mode}
 use Rattle.promises.specs.tables.PlantRules.{header-size}
 use Rattle.promises.specs.files.Sound.{Sound}
-use Rattle.promises.specs.tables.Walking.{number-read, walk-went}
-use Rattle.promises.specs.starts.Agreeing.{part-byte, LengthByte, Same, stand-same, number-same, values-same, table-behind, table-same, part-same}
+use Rattle.promises.specs.tables.Walking.{walk-went}
+use Rattle.promises.specs.starts.Agreeing.{part-byte, LengthByte, Same, stand-same, values-same, table-behind, table-same, part-same}
 use Rattle.promises.specs.starts.Chains.{box-sizes}
 use Rattle.promises.specs.starts.Parts.{part-size}
 use Rattle.promises.specs.starts.Places.{table-inside}
@@ -153,79 +151,100 @@ idle-byte {start = start} w k b n =
 header-inside : (n : ℕ) (s : List ℕ) (at : ℕ) → header n s ≡ Walk.Next at → at ≤ length s
 header-inside n s at h = stand-within s (bytesOf 1 ++ bytesOf n) 0 at (header-stands n s at h) (omega (arith, length-append (bytesOf 1) (bytesOf n), bytes-some 1))
 
-number-inside : (s : List ℕ) (at v next : ℕ) → numberAt s at ≡ Number.Value v next → next ≤ length s
-number-inside s at v next e = stand-within s (bytesOf v) at next (was v at next s e .1) (bytes-some v)
+modes-inside : (s : List ℕ) (at u : ℕ) (us : List ℕ) (end : ℕ) → Stands s at (modesBytes (u ∷ us)) end → end ≤ length s
+unfolding modesBytes
+modes-inside s at u us end w = stand-within s (modesBytes (u ∷ us)) at end w (omega (arith, bytes-some u, length-append (bytesOf u) (modesBytes us)))
 
--- a call on two tables of one length that have the same header and the same number at the state's place
+read-inside : (N : ℕ) (s : List ℕ) (at left : ℕ) (us : List ℕ) (end : ℕ) → 1 ≤ left → modesAt N left s at ≡ read us end → end ≤ length s
+read-inside N s at left us end l e = go us (modes-stand N left s at us end e)
+  where
+    go : (us : List ℕ) → ModesStand N left s at us end → end ≤ length s
+    go [] w = absurd (omega (arith, w .count))
+    go (u ∷ us) w = modes-inside s at u us end (w .stand)
+
+-- a call on two tables of one length that have the same header and the same modes left from the state's place on
 module _ (r : Rules) (sizes : Sizes r) (s z : List ℕ) (long : length z ≡ length s) (st : State) (x : r .Reading) where
-  run-same : (at v behind : ℕ) → 1 ≤ st .left → header (r .n) s ≡ Walk.Next at → numberAt s (st .place) ≡ Number.Value v behind
-      → Same s z 0 at → Same s z (st .place) behind → call r z st x ≡ call r s st x
+  run-same : (at : ℕ) (us : List ℕ) (end : ℕ) → 1 ≤ st .left → header (r .n) s ≡ Walk.Next at → modesAt (r .N) (st .left) s (st .place) ≡ read us end
+      → Same s z 0 at → Same s z (st .place) end → call r z st x ≡ call r s st x
   unfolding C.call
-  run-same at v behind l h n a b =
+  run-same at us end l h n a b =
       let i = header-inside (r .n) s at h in
-      let j = number-inside s (st .place) v behind n in
       let hz = header-read (r .n) (sizes .dimensions) z at (stand-same s z (bytesOf 1 ++ bytesOf (r .n)) 0 at (omega arith) a (header-stands (r .n) s at h)) in
-      let nz = number-same s z v (st .place) behind (omega arith) b n in
-      rw (h, hz) (go (st .left) l nz)
+      rw (h, hz) (go (st .left) l us (modes-stand (r .N) (st .left) s (st .place) us end n))
     where
-      go : (left : ℕ) → 1 ≤ left → numberAt z (st .place) ≡ Number.Value v behind → stateCall r z at (st .place) left x ≡ stateCall r s at (st .place) left x
-      go zero l nz = absurd (omega arith)
-      go (suc m) l nz = rw (n, nz, long) refl
+      go : (left : ℕ) → 1 ≤ left → (us : List ℕ) → ModesStand (r .N) left s (st .place) us end → stateCall r z at (st .place) left x ≡ stateCall r s at (st .place) left x
+      go zero l us w = absurd (omega arith)
+      go (suc m) l [] w = absurd (omega (arith, w .count))
+      go (suc m) l (u ∷ us) w =
+          let N = r .N in
+          let j = modes-inside s (st .place) u us end (w .stand) in
+          let there = stand-same s z (modesBytes (u ∷ us)) (st .place) end (omega arith) b (w .stand) in
+          let c = w .count in
+          let here-read : modesAt N (suc m) s (st .place) ≡ read (u ∷ us) end = rw c at (modes-read N (sizes .modes) (u ∷ us) s (st .place) end (w .modes) (w .stand)) in
+          let there-read : modesAt N (suc m) z (st .place) ≡ read (u ∷ us) end = rw c at (modes-read N (sizes .modes) (u ∷ us) z (st .place) end (w .modes) there) in
+          let here-first = first-read N (sizes .modes) u us s (st .place) end (w .modes) (w .stand) in
+          let there-first = first-read N (sizes .modes) u us z (st .place) end (w .modes) there in
+          rw (here-read, there-read, here-first, there-first) refl
 
--- byte j of a table is one of its header's two, or of the number at a place, `behind` being the place behind that
-abbrev pub HeaderOrMode : ℕ → ℕ → ℕ → Type 0
-HeaderOrMode place behind j = (j < 2) ⊎ ((place ≤ j) × (j < behind))
+-- byte j of a table is one of its header's two, or of the modes left from a place on, `end` being the place behind them
+abbrev pub HeaderOrModes : ℕ → ℕ → ℕ → Type 0
+HeaderOrModes place end j = (j < 2) ⊎ ((place ≤ j) × (j < end))
 
--- The header was read, a number stands at the state's place, and some mode is left: whatever is answered, no other byte of the table is read.
-pub running-same : (plant start : List ℕ) (st : StartState) (x : List ℤ) (way : Reaching plant start st x) (v behind : ℕ) → 1 ≤ st .state .left
-    → header (way .p .n) (tableOn way) ≡ Walk.Next 2 → numberAt (tableOn way) (st .state .place) ≡ Number.Value v behind
+-- The header was read, and so are the modes left, of which there are some: whatever is answered, no other byte of the table is read.
+pub running-same : (plant start : List ℕ) (st : StartState) (x : List ℤ) (way : Reaching plant start st x) (us : List ℕ) (end : ℕ) → 1 ≤ st .state .left
+    → header (way .p .n) (tableOn way) ≡ Walk.Next 2 → modesAt (way .p .modes) (st .state .left) (tableOn way) (st .state .place) ≡ read us end
     → (other : List ℕ) → way .place + way .size ≤ length other
-    → ((k : ℕ) → Sees start (boxOn way) (way .next) (way .place) (HeaderOrMode (st .state .place) behind) k → getD other k 0 ≡ getD start k 0)
+    → ((k : ℕ) → Sees start (boxOn way) (way .next) (way .place) (HeaderOrModes (st .state .place) end) k → getD other k 0 ≡ getD start k 0)
     → startControlled plant other st x ≡ startControlled plant start st x
-running-same plant start st x way v behind l h n other long same =
-    let T = HeaderOrMode (st .state .place) behind in
+running-same plant start st x way us end l h n other long same =
+    let T = HeaderOrModes (st .state .place) end in
     let size = part-size start (way .place) (way .size) (table-inside start (way .there)) in
     let sizes = box-sizes (way .p) (judged-sound plant (way .p) (way .judged)) (way .vs) (boxOn way) in
     let e : length (part other (way .place) (way .size)) ≡ length (tableOn way) = omega (arith, size, part-size other (way .place) (way .size) long) in
     let i = header-inside (way .p .n) (tableOn way) 2 h in
-    let j = number-inside (tableOn way) (st .state .place) v behind n in
+    let j = read-inside (way .p .modes) (tableOn way) (st .state .place) (st .state .left) us end l n in
     call-same way other long T same
-    (run-same (rulesOn way) sizes (tableOn way) (part other (way .place) (way .size)) e (st .state) x 2 v behind l h n
+    (run-same (rulesOn way) sizes (tableOn way) (part other (way .place) (way .size)) e (st .state) x 2 us end l h n
     (table-bytes way other long T same 0 2 (omega arith) (λ k _ g. inl g))
-    (table-bytes way other long T same (st .state .place) behind (omega arith) (λ k g f. inr (g, f))))
+    (table-bytes way other long T same (st .state .place) end (omega arith) (λ k g f. inr (g, f))))
 
 -- such is a call that was answered
-record RunWas (r : Rules) (s : List ℕ) (st : State) (u : ℕ) : Type 0 where
+record RunWas (r : Rules) (s : List ℕ) (st : State) : Type 0 where
   at : ℕ
-  behind : ℕ
   head : header (r .n) s ≡ Walk.Next at
   some : 1 ≤ st .left
-  is : numberAt s (st .place) ≡ Number.Value u behind
+  modes : List ℕ
+  end : ℕ
+  are : modesAt (r .N) (st .left) s (st .place) ≡ read modes end
 
-run-was : (r : Rules) (s : List ℕ) (st : State) (x : r .Reading) {u : ℕ} {then : State} → isIdle st ≡ false → call r s st x ≡ Answer.Mode u then → RunWas r s st u
+were-read : (o : Read (List ℕ)) → areRead o ≡ true → (us : List ℕ) × (end : ℕ) × (o ≡ read us end)
+were-read (refused e) h = never h
+were-read (read us end) h = (us, end, refl)
+
+run-was : (r : Rules) (s : List ℕ) (st : State) (x : r .Reading) {u : ℕ} {then : State} → isIdle st ≡ false → call r s st x ≡ Answer.Mode u then → RunWas r s st
 unfolding C.call
 run-was r s st x {u} {then} n e =
     let w = walk-went (header (r .n) s) Answer.Refused (λ at. stateCall r s at (st .place) (st .left) x) (λ _. refused-mode) e in
     let k = go (w .0) (st .place) (st .left) n (w .2) in
-    record { at = w .0; behind = k .0; head = w .1; some = k .1; is = k .2 }
+    record { at = w .0; head = w .1; some = k .0; modes = k .1; end = k .2; are = k .3 }
   where
     go : (at place left : ℕ) → (eqb place 0 && eqb left 0) ≡ false → stateCall r s at place left x ≡ Answer.Mode u then
-        → (behind : ℕ) × (1 ≤ left) × (numberAt s place ≡ Number.Value u behind)
+        → (1 ≤ left) × (us : List ℕ) × (end : ℕ) × (modesAt (r .N) left s place ≡ read us end)
     go at place zero n e = let a = guard-passed (eqb place 0) _ refused-mode e in never (sym (rw (a .0) at n))
     go at place (suc m) n e =
         let a = guard-passed (canRun (r .K) (r .N) s place (suc m)) _ refused-mode e in
-        let b = guard-passed (holds r (r .safe) x) _ refused-mode (a .1) in
-        let v = number-read (numberAt s place) (λ u next. Answer.Mode u (stateAt next m)) refused-mode (b .1) in
-        let q : v .0 ≡ u = cc (v .3) in
-        (v .1, omega arith, rw q at (v .2))
+        let o = modesAt (r .N) (suc m) s place in
+        let w = were-read o (second (leb (suc m) (r .K) && leb 2 place) (areRead o) (a .0)) in
+        (omega arith, w .0, w .1, w .2)
 
 -- a running call that is answered
 pub record RunningUnread (plant start : List ℕ) (st : StartState) (x : List ℤ) (u : ℕ) (then : StartState) : Type 0 where
   pub way : Reaching plant start st x
-  pub behind : ℕ
-  pub mode : numberAt (tableOn way) (st .state .place) ≡ Number.Value u behind
+  pub modes : List ℕ
+  pub end : ℕ
+  pub are : modesAt (way .p .modes) (st .state .left) (tableOn way) (st .state .place) ≡ read modes end
   pub same : (other : List ℕ) → way .place + way .size ≤ length other
-      → ((k : ℕ) → Sees start (st .index) (way .next) (way .place) (HeaderOrMode (st .state .place) behind) k → getD other k 0 ≡ getD start k 0)
+      → ((k : ℕ) → Sees start (st .index) (way .next) (way .place) (HeaderOrModes (st .state .place) end) k → getD other k 0 ≡ getD start k 0)
       → startControlled plant other st x ≡ StartAnswer.Mode u then
 
 pub running-unread : (plant start : List ℕ) (st : StartState) (x : List ℤ) (u : ℕ) (then : StartState) → isIdle (st .state) ≡ false
@@ -235,22 +254,23 @@ running-unread plant start st x u then n a =
     let t = table-answered plant start st x way a in
     of way (judged-sound plant (way .p) (way .judged)) (run-was (rulesOn way) (tableOn way) (st .state) x n (t .1))
   where
-    of : (way : Reaching plant start st x) → Sound (way .p) → RunWas (rulesOn way) (tableOn way) (st .state) u → RunningUnread plant start st x u then
+    of : (way : Reaching plant start st x) → Sound (way .p) → RunWas (rulesOn way) (tableOn way) (st .state) → RunningUnread plant start st x u then
     of way sound w =
         let begin : w .at ≡ 2 = omega (arith, header-stands (way .p .n) (tableOn way) (w .at) (w .head) .end, header-size (way .p) sound) in
         let i : boxOn way ≡ st .index = rw n refl in
         record {
           way = way;
-          behind = w .behind;
-          mode = w .is;
-          same = λ other long same. running-same plant start st x way u (w .behind) (w .some) (rw begin at (w .head)) (w .is) other long (rw i same) ∙ a;
+          modes = w .modes;
+          end = w .end;
+          are = w .are;
+          same = λ other long same. running-same plant start st x way (w .modes) (w .end) (w .some) (rw begin at (w .head)) (w .are) other long (rw i same) ∙ a;
         }
 
 pub running-byte : {plant start : List ℕ} {st : StartState} {x : List ℤ} {u : ℕ} {then : StartState} (w : RunningUnread plant start st x u then) (k b : ℕ)
-    → (Sees start (st .index) (w .way .next) (w .way .place) (HeaderOrMode (st .state .place) (w .behind)) k → ⊥) → startControlled plant (set start k b) st x ≡ StartAnswer.Mode u then
+    → (Sees start (st .index) (w .way .next) (w .way .place) (HeaderOrModes (st .state .place) (w .end)) k → ⊥) → startControlled plant (set start k b) st x ≡ StartAnswer.Mode u then
 running-byte {start = start} {st = st} w k b n =
     w .same (set start k b) (rw (length-set start k b) (table-inside start (w .way .there)))
-    (others start k b (Sees start (st .index) (w .way .next) (w .way .place) (HeaderOrMode (st .state .place) (w .behind))) n)
+    (others start k b (Sees start (st .index) (w .way .next) (w .way .place) (HeaderOrModes (st .state .place) (w .end))) n)
 
 -- ---- refused before any length is read: 12 for the index, 11 where it is idle
 

@@ -13,12 +13,11 @@ use lib.IntN.{ℤ}
 use lib.ListN.{length, getD}
 use Rattle.laws.specs.Lists.{tab, all}
 use Rattle.laws.specs.Tests.{never}
-use Rattle.meaning.specs.declared.Plant.{Plant}
 use Rattle.meaning.specs.declared.Refusal.{Refusal}
 use Rattle.meaning.specs.declared.Verdict.{Verdict}
 use Rattle.meaning.specs.declared.Written.{Written}
 use Rattle.meaning.specs.Files.{read, valuesOf, Judged, good, bad}
-use Rattle.meaning.specs.Plants.{plantJudged, rootOf, safeOf}
+use Rattle.meaning.specs.Plants.{Plant, plantJudged, rootOf, safeOf}
 use Rattle.meaning.specs.Refusals.{noTable, short}
 use Rattle.meaning.specs.Starts as S
 use Rattle.meaning.specs.Starts.{chainForm, above, held, boxRules, partsOf, startOf, tablesFrom, startBytes, startChecked, startMade, startLeft}

@@ -12,7 +12,6 @@ use borrow.Author.Tests.{eqb-true, lt-ltb}
 use Rattle.laws.specs.Guards.{choose}
 use Rattle.laws.specs.Lists.{tab, all}
 use Rattle.laws.specs.Tests.{never, guard-passed, first, second}
-use Rattle.meaning.specs.declared.Plant.{Plant}
 use Rattle.meaning.specs.declared.Refusal.{Refusal}
 use Rattle.meaning.specs.declared.State.{State}
 use Rattle.meaning.specs.declared.Answer.{Answer}
@@ -20,7 +19,7 @@ use Rattle.meaning.specs.declared.StartState.{StartState}
 use Rattle.meaning.specs.declared.StartAnswer.{StartAnswer}
 use Rattle.meaning.specs.Control.{idle, call}
 use Rattle.meaning.specs.Files.{read, valuesAt, good}
-use Rattle.meaning.specs.Plants.{plantJudged, rootOf, safeOf}
+use Rattle.meaning.specs.Plants.{Plant, plantJudged, rootOf, safeOf}
 use Rattle.meaning.specs.Rules.{Rules, holds}
 use Rattle.meaning.specs.Starts as S
 use Rattle.meaning.specs.Starts.{chainForm, above, boxAt, held, chosen, onStart, boxRules, part, isIdle, stateIn, answerIn, callIn, chosenCall, canIndex, startCall, startControlled}

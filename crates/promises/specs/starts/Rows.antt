@@ -7,10 +7,9 @@ use mathlib.Core.Bool.{Bool, true, false, cond}
 use mathlib.Core.List.{List, [], _∷_}
 use lib.ListN.{length, getD}
 use Rattle.laws.specs.Every.{Every}
-use Rattle.meaning.specs.declared.Plant.{Plant}
 use Rattle.meaning.specs.declared.Refusal.{Refusal}
 use Rattle.meaning.specs.Files.{good, bad}
-use Rattle.meaning.specs.Plants.{plantJudged}
+use Rattle.meaning.specs.Plants.{Plant, plantJudged}
 use Rattle.meaning.specs.Refusals.{refusal, atByte, moved}
 use Rattle.promises.specs.sheets.Faults.{plantNumbers}
 use Rattle.promises.specs.files.Telling.{oneOf, areOf, Place, none, byte, mode, dimension, figure, box, boxAbove, places, PlaceIs, TellingBy, Telling, each-one, told-more, not-told}

@@ -7,10 +7,9 @@ use mathlib.Core.List.{List, []}
 use lib.IntN.{ℤ}
 use lib.ListN.{length, getD}
 use Rattle.laws.specs.Lists.{tab, all}
-use Rattle.meaning.specs.declared.Plant.{Plant}
 use Rattle.meaning.specs.declared.Verdict.{Verdict}
 use Rattle.meaning.specs.Files.{read, valuesAt, good}
-use Rattle.meaning.specs.Plants.{plantJudged, rootOf, safeOf}
+use Rattle.meaning.specs.Plants.{Plant, plantJudged, rootOf, safeOf}
 use Rattle.meaning.specs.Starts.{chainForm, above, held, boxRules, startOf}
 use Rattle.meaning.specs.Verdicts.{verdict}
 

@@ -14,7 +14,6 @@ use Rattle.laws.specs.Every as E
 use Rattle.laws.specs.Guards.{choose}
 use Rattle.laws.specs.Tabs.{length-tab}
 use Rattle.laws.specs.Tests.{never}
-use Rattle.meaning.specs.declared.Plant.{Plant}
 use Rattle.meaning.specs.declared.Refusal.{Refusal}
 use Rattle.meaning.specs.declared.Verdict.{Verdict}
 use Rattle.meaning.specs.declared.Written.{Written}
@@ -25,7 +24,7 @@ use Rattle.meaning.specs.declared.StartAnswer.{StartAnswer}
 use Rattle.meaning.specs.Boxes.{Side, sideAt, fits}
 use Rattle.meaning.specs.Control.{idle, call}
 use Rattle.meaning.specs.Files.{good, valuesAt}
-use Rattle.meaning.specs.Plants.{plantJudged, rootOf, safeOf}
+use Rattle.meaning.specs.Plants.{Plant, plantJudged, rootOf, safeOf}
 use Rattle.meaning.specs.Refusals.{broken, unfit, badState, moved, verdictShown, writtenShown, startAnswerShown}
 use Rattle.meaning.specs.Rules.{Rules, holds}
 use Rattle.meaning.specs.Starts as S
@@ -224,9 +223,9 @@ pub start-maker-shows : (plant chain buf : List ℕ)
 start-maker-shows plant chain buf =
     written-shows (StartTold plant chain startMakerNumbers) (start-some plant chain startMakerNumbers refl) (startLeft plant chain buf .answer) (start-maker-told plant chain buf)
 
--- mode 255 and idle
+-- no mode and idle
 abbrev pub noStartMode : List ℤ
-noStartMode = pos 255 ∷ pos 0 ∷ pos 0 ∷ pos 0 ∷ []
+noStartMode = pos 65_535 ∷ pos 0 ∷ pos 0 ∷ pos 0 ∷ []
 
 start-answer-shows : (Tells : Refusal → Type 0) → ((e : Refusal) → Tells e → Some e) → (a : StartAnswer) → ((e : Refusal) → a ≡ StartAnswer.Refused e → Tells e)
     → Showing ((u : ℕ) × (then : StartState) × (a ≡ StartAnswer.Mode u then)) Tells noStartMode (startAnswerShown a)

@@ -5,10 +5,9 @@ use Prim.Native.Nat.{ℕ}
 use mathlib.Core.Path.{_≡_, refl, sym, _∙_}
 use mathlib.Core.Logic.{_↔_}
 use mathlib.Core.List.{List}
-use Rattle.meaning.specs.declared.Plant.{Plant}
 use Rattle.meaning.specs.declared.Verdict.{Verdict}
 use Rattle.meaning.specs.Files.{Judged, good, bad}
-use Rattle.meaning.specs.Plants.{plantJudged}
+use Rattle.meaning.specs.Plants.{Plant, plantJudged}
 use Rattle.meaning.specs.Tables as T
 use Rattle.meaning.specs.Tables.{rulesOf, onPlant, checked}
 use Rattle.meaning.specs.Trees.{Tree, tableOf}

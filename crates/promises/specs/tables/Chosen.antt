@@ -10,7 +10,6 @@ use lib.ListN.{length, take}
 use lib.IntN.{ℤ}
 use Rattle.laws.specs.Tests.{never, guard-passed}
 use Rattle.meaning.specs.declared.Refusal.{Refusal}
-use Rattle.meaning.specs.declared.Plant.{Plant}
 use Rattle.meaning.specs.declared.State.{State}
 use Rattle.meaning.specs.declared.Answer.{Answer}
 use Rattle.meaning.specs.declared.Walk.{Walk}
@@ -18,7 +17,7 @@ use Rattle.meaning.specs.declared.Found.{Found}
 use Rattle.meaning.specs.Control as C
 use Rattle.meaning.specs.Control.{idle, onFound, find, idleCall, call, stateWith}
 use Rattle.meaning.specs.Files.{Judged, good, bad, read}
-use Rattle.meaning.specs.Plants.{plantJudged, rootOf}
+use Rattle.meaning.specs.Plants.{Plant, plantJudged, rootOf}
 use Rattle.meaning.specs.Rules.{Rules, rule, holds}
 use Rattle.meaning.specs.Tables as T
 use Rattle.meaning.specs.Tables.{rulesOf, onPlant, controlled, startsIn}

@@ -16,14 +16,13 @@ use lib.Seq.{sets}
 use Rattle.laws.specs.Guards.{guard}
 use Rattle.laws.specs.Tests.{never}
 use Rattle.meaning.specs.declared.Refusal.{Refusal}
-use Rattle.meaning.specs.declared.Plant.{Plant}
 use Rattle.meaning.specs.declared.Verdict.{Verdict}
 use Rattle.meaning.specs.declared.Written.{Written}
 use Rattle.meaning.specs.Refusals.{noTable, short}
 use Rattle.meaning.specs.Buffers.{Left, refusedWith, left}
 use Rattle.meaning.specs.Defined.{definedTree}
 use Rattle.meaning.specs.Files.{Judged, good, bad}
-use Rattle.meaning.specs.Plants.{plantJudged}
+use Rattle.meaning.specs.Plants.{Plant, plantJudged}
 use Rattle.meaning.specs.Rules.{Rules}
 use Rattle.meaning.specs.Tables as T
 use Rattle.meaning.specs.Tables.{rulesOf, onPlant, checked, tableBytes, definedTable, made, makerLeft}
@@ -193,6 +192,6 @@ module _ (plant buf : List ℕ) where
   unfolding T.makerLeft
   maker-length = length-answered buf (made plant)
 
-  -- a buffer of 30,039 bytes is long enough for any
-  pub maker-fits : 30_039 ≤ length buf → makerLeft plant buf .answer ≡ Written.Refused short → ⊥
+  -- a buffer of 54,615 bytes is long enough for any
+  pub maker-fits : 54_615 ≤ length buf → makerLeft plant buf .answer ≡ Written.Refused short → ⊥
   maker-fits l a = let w = maker-ten .0 a in omega (arith, w .2, L.at-most plant (w .0) (made-accepted plant (w .0) (w .1)))

@@ -16,13 +16,12 @@ use Rattle.laws.specs.Lists as L
 use Rattle.laws.specs.Lists.{at, tab, all}
 use Rattle.laws.specs.Tabs.{length-tab, getD-tab, map-tab}
 use Rattle.laws.specs.Tests.{never, first, second, both, orders}
-use Rattle.meaning.specs.declared.Plant.{Plant}
 use Rattle.meaning.specs.Boxes as B
 use Rattle.meaning.specs.Boxes.{Side, side, sideAt, has, fits, covers, lies, within, children}
 use Rattle.meaning.specs.Files.{good}
 use Rattle.meaning.specs.Images as I
 use Rattle.meaning.specs.Images.{Row, Step, reached, reachedAll, imageSide}
-use Rattle.meaning.specs.Plants.{plantJudged, rootOf, rowOf, stepOf}
+use Rattle.meaning.specs.Plants.{Plant, plantJudged, rootOf, rowOf, stepOf}
 use Rattle.meaning.specs.Rules.{holds}
 use Rattle.meaning.specs.Tables.{rulesOf}
 use Rattle.meaning.specs.Trees as Y

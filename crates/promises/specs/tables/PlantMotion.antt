@@ -13,11 +13,10 @@ use lib.IntN.{ℤ, pos}
 use Rattle.laws.specs.Every.{Every, every-tab}
 use Rattle.laws.specs.Lists.{at}
 use Rattle.laws.specs.Tabs.{length-tab, getD-tab}
-use Rattle.meaning.specs.declared.Plant.{Plant}
 use Rattle.meaning.specs.declared.Tried.the-variants.{Works}
 use Rattle.meaning.specs.Boxes.{Side, within}
 use Rattle.meaning.specs.Images.{Step}
-use Rattle.meaning.specs.Plants.{rootOf, safeOf, rowOf, stepOf}
+use Rattle.meaning.specs.Plants.{Plant, rootOf, safeOf, rowOf, stepOf}
 use Rattle.meaning.specs.Rules.{Rules, rule, holds}
 use Rattle.meaning.specs.Tables.{readingOf, rulesFrom, rulesOf}
 use Rattle.promises.specs.tables.Boxes.{within-fits}

@@ -9,7 +9,7 @@ use lib.ListN.{length, length-append}
 use lib.IntN.{ℤ}
 use Rattle.laws.specs.Tests.{never}
 use Rattle.meaning.specs.declared.Answer.{Answer}
-use Rattle.meaning.specs.declared.Plant.{Plant}
+use Rattle.meaning.specs.declared.Outline.{Outline}
 use Rattle.meaning.specs.declared.PlantRead.{PlantRead}
 use Rattle.meaning.specs.declared.Refusal.{Refusal}
 use Rattle.meaning.specs.declared.State.{State}
@@ -19,7 +19,7 @@ use Rattle.meaning.specs.Control.{call}
 use Rattle.meaning.specs.Defined.{definedTree}
 use Rattle.meaning.specs.Files.{Judged, good, bad}
 use Rattle.meaning.specs.Numbers.{bytesOf}
-use Rattle.meaning.specs.Plants.{rootOf, plantJudged, readOf}
+use Rattle.meaning.specs.Plants.{Plant, rootOf, plantJudged, outlineOf, readOf}
 use Rattle.meaning.specs.Tables as T
 use Rattle.meaning.specs.Tables.{tableRules, rulesOf, checked, definedTable, made, controlled}
 use Rattle.meaning.specs.Trees.{Tree, layout, tableOf}
@@ -31,7 +31,7 @@ use Rattle.promises.specs.tables.Layouts.{headed}
 use Rattle.promises.specs.files.Sound.{Sound}
 
 module _ (p : Plant) (s : Sound p) where
-  -- n is at most 4, K at most 6, N at most 16: numbers of five bytes hold them, whatever is tiled and wherever patterns end
+  -- n is at most 4, K at most 6, N at most 256: numbers of five bytes hold them, whatever is tiled and wherever patterns end
   pub sizes-over : (root goal : List Side) → Sizes (tableRules p root goal)
   sizes-over root goal = record { dimensions = omega (arith, s .ranges .n-high); nodes = omega (arith, s .ranges .k-high); modes = omega (arith, s .ranges .m-high) }
 
@@ -58,13 +58,19 @@ module _ (p : Plant) (s : Sound p) where
         length-append (bytesOf 1) (bytesOf (p .n)),
       )
 
+-- a plant that was judged good, and its outline
+pub record Taken (j : Judged Plant) (o : Outline) : Type 0 where
+  pub plant : Plant
+  pub was : j ≡ good plant
+  pub outline : o ≡ outlineOf plant
+
 -- the reader's answer x says how the plant was judged
 module _ (j : Judged Plant) (x : PlantRead) (q : x ≡ readOf j) where
-  pub read-good : x .verdict ≡ Verdict.Accepted → j ≡ good (x .plant)
+  pub read-good : x .verdict ≡ Verdict.Accepted → Taken j (x .outline)
   read-good h = go j q
     where
-      go : (j : Judged Plant) → x ≡ readOf j → j ≡ good (x .plant)
-      go (good p) e = rw e refl
+      go : (j : Judged Plant) → x ≡ readOf j → Taken j (x .outline)
+      go (good p) e = record { plant = p; was = refl; outline = rw e refl }
       go (bad r) e = never cc
 
   pub read-bad : (e : Refusal) → x .verdict ≡ Verdict.Refused e → j ≡ bad e

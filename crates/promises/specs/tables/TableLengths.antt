@@ -1,12 +1,15 @@
--- How long a table may be (document 01, "Table file": at most 30,039 bytes). A tree of depth d whose splits have at most c children and whose tiles have
--- at most m bytes has at most c^d tiles, and one byte for each split above them; a plant has c = 2^n, m = 7 and n·D ≤ 12, and the header two bytes.
--- Relies on pages Accept and Children. That the bound is reached is page LongestTable.
+-- How long a table may be (document 01, "Table file": at most 30,039 bytes, which holds while N ≤ 128; request 2026-08: at most 54,615). A tree of depth d
+-- whose splits have at most c children and whose tiles have at most m bytes has at most c^d tiles, and one byte for each split above them; a plant has c = 2^n,
+-- m = 7, or 13 where modes may take two bytes, and n·D ≤ 12, and the header two bytes. Relies on pages Accept and Children. That 30,039 is reached is page
+-- LongestTable; that 54,615 is, is tested.
 use Prim.Native.Nat.{ℕ, zero, suc, _+_, _-_, _*_, _^_, _≤_}
 use mathlib.Core.Path.{_≡_, refl, sym, ap, _∙_}
 use mathlib.Core.Bool.{Bool, true, false, cond}
 use mathlib.Core.List.{List, [], _∷_, _++_, map}
 use native.Mathlib.Omega.{arith}
-use native.Mathlib.Nat.{mul-le-mul, le-refl, one-le-pow}
+use native.Mathlib.Nat.{mul-le-mul, le-refl, lt-of-lt-of-le, one-le-pow}
+use borrow.Author.Tests.{le-leb, leb-true}
+use lib.Dec.{leb}
 use lib.ListN.{length, length-append, length-map}
 use lib.IntN.{pos, _+ℤ_}
 use Rattle.laws.specs.Every as E
@@ -15,19 +18,20 @@ use Rattle.laws.specs.Lists as L
 use Rattle.laws.specs.Lists.{all}
 use Rattle.laws.specs.Tabs.{length-tab}
 use Rattle.laws.specs.Tests.{never, second}
-use Rattle.meaning.specs.declared.Plant.{Plant}
 use Rattle.meaning.specs.declared.Verdict.{Verdict}
 use Rattle.meaning.specs.Boxes as B
 use Rattle.meaning.specs.Boxes.{Side, side, sideAt, covers, lies, within, long, middle, halves, inFront, pieces, anyLong, children}
 use Rattle.meaning.specs.Images.{Step}
 use Rattle.meaning.specs.Numbers.{bytesOf}
-use Rattle.meaning.specs.Plants.{rootOf, safeOf, stepOf}
+use Rattle.meaning.specs.Files.{good}
+use Rattle.meaning.specs.Plants.{Plant, plantJudged, rootOf, safeOf, stepOf}
 use Rattle.meaning.specs.Rules.{Rules, rule}
 use Rattle.meaning.specs.Trees as T
 use Rattle.meaning.specs.Trees.{Tree, Forest, split, tile, leaf, more, modesBytes, layout, layouts, below, tableOf, Over, Overs}
-use Rattle.meaning.specs.Tables.{rulesFrom, tableRules, checked}
+use Rattle.meaning.specs.Tables.{rulesFrom, tableRules, rulesOf, checked}
 use Rattle.meaning.specs.Verdicts.{verdict}
 use Rattle.promises.specs.files.Bytes.{one-byte}
+use Rattle.promises.specs.files.Lengths.{short}
 use Rattle.promises.specs.tables.Accept.{accepted-exactly}
 use Rattle.promises.specs.tables.Checked.{accepted-judged}
 use Rattle.promises.specs.tables.Children.{Child, children-are}
@@ -128,33 +132,47 @@ within-size (s ∷ a) (t ∷ b) e = ap suc (within-size a b (second (covers t s)
 
 -- ---- document 01's rules, whatever is tiled and wherever patterns end
 
--- modes below 128 take a byte each
-modes-length : (N : ℕ) (us : List ℕ) → N ≤ 128 → below N us → length (modesBytes us) ≡ length us
+-- modes below 2^(7·(c + 1)) take c + 1 bytes each at the most
+modes-length : (c N : ℕ) (us : List ℕ) → N ≤ 2 ^ (7 * suc c) → below N us → length (modesBytes us) ≤ length us * suc c
 unfolding T.below T.modesBytes
-modes-length N [] l h = refl
-modes-length N (u ∷ us) l h = rw (one-byte u (omega (arith, h .0))) (ap suc (modes-length N us l (h .1)))
+modes-length c N [] l h = omega arith
+modes-length c N (u ∷ us) l h =
+    let more = modes-length c N us l (h .1) in
+    let e : suc (length us) * suc c ≡ suc c + length us * suc c = omega arith in
+    rw e (omega (arith, length-append (bytesOf u) (modesBytes us), short c 9 u (lt-of-lt-of-le (h .0) l), more))
 
-module _ (n N K D : ℕ) (root goal safe : List Side) (step : ℕ → Step) (rooms : n ≤ 4) (modes : N ≤ 128) (longest : K ≤ 6) (sides : length root ≡ n) where
+-- the bytes of a tile of six modes: one each while N ≤ 128, else two
+abbrev pub tileBytes : ℕ → ℕ
+tileBytes N = cond (leb N 128) 7 13
+
+module _ (n N K D : ℕ) (root goal safe : List Side) (step : ℕ → Step) (rooms : n ≤ 4) (modes : N ≤ 256) (longest : K ≤ 6) (sides : length root ≡ n) where
   abbrev rules : Rules
   rules = rulesFrom n N K D root goal safe step
 
   abbrev Sided : List Side → Type 0
   Sided b = length b ≡ n
 
-  brief : (b : List Side) (us : List ℕ) → Good rules (rule rules) b us → length (bytesOf (length us) ++ modesBytes us) ≤ 7
-  brief b us g =
-      let few : length us ≤ 6 = omega (arith, g .shape .few) in
-      let number = ap length (one-byte (length us) (omega arith)) in
-      omega (arith, number, length-append (bytesOf (length us)) (modesBytes us), modes-length N us modes (g .shape .modes))
+  brief : (b : List Side) (us : List ℕ) → Good rules (rule rules) b us → length (bytesOf (length us) ++ modesBytes us) ≤ tileBytes N
+  brief b us g = go (leb N 128) refl
+    where
+      few : length us ≤ 6
+      few = omega (arith, g .shape .few)
+
+      tile-length : length (bytesOf (length us) ++ modesBytes us) ≡ 1 + length (modesBytes us)
+      tile-length = omega (arith, ap length (one-byte (length us) (omega (arith, few))), length-append (bytesOf (length us)) (modesBytes us))
+
+      go : (t : Bool) → leb N 128 ≡ t → length (bytesOf (length us) ++ modesBytes us) ≤ cond t 7 13
+      go true e = omega (arith, few, tile-length, modes-length 0 N us (leb-true N 128 e) (g .shape .modes))
+      go false e = omega (arith, few, tile-length, modes-length 1 N us (omega (arith, modes)) (g .shape .modes))
 
   -- the header has two bytes
-  pub table-length : (t : Tree) → Working rules t → length (tableOf rules t) ≤ 2 + most (2 ^ n) 7 D
+  pub table-length : (t : Tree) → Working rules t → length (tableOf rules t) ≤ 2 + most (2 ^ n) (tileBytes N) D
   table-length t o =
-      let short = over-map rules (Good rules (rule rules)) (λ b us. length (bytesOf (length us) ++ modesBytes us) ≤ 7) brief t D root o in
-      let tree = tree-length rules (2 ^ n) 7 (one-le-pow n 2 (omega arith)) Sided
+      let brief-all = over-map rules (Good rules (rule rules)) (λ b us. length (bytesOf (length us) ++ modesBytes us) ≤ tileBytes N) brief t D root o in
+      let tree = tree-length rules (2 ^ n) (tileBytes N) (one-le-pow n 2 (omega arith)) Sided
       (λ b z. let q : length b ≡ n = z in rw (← q) (children-few b))
       (λ b z. every-map (Child b) Sided (λ a k. within-size a b (k .inside) ∙ z) (children b) (children-are b))
-      t D root sides short in
+      t D root sides brief-all in
       omega (
         arith,
         tree,
@@ -165,39 +183,61 @@ module _ (n N K D : ℕ) (root goal safe : List Side) (step : ℕ → Step) (roo
       )
 
 -- n·D ≤ 12, D ≤ 6: two dimensions of depth 6 have the longest
-pub cap : (n d : ℕ) → 1 ≤ n → n ≤ 4 → d ≤ 6 → n * d ≤ 12 → most (2 ^ n) 7 d ≤ 30_037
+pub cap : (m n d : ℕ) → 1 ≤ n → n ≤ 4 → d ≤ 6 → n * d ≤ 12 → most (2 ^ n) m d ≤ 4096 * m + 1365
 unfolding most
-cap zero d l h k e = absurd (omega arith)
-cap (suc zero) d l h k e = omega (arith, most-grows 2 7 (omega arith) d 6 k)
-cap (suc (suc zero)) d l h k e = omega (arith, most-grows 4 7 (omega arith) d 6 k)
-cap (suc (suc (suc zero))) d l h k e = omega (arith, most-grows 8 7 (omega arith) d 4 (omega arith))
-cap (suc (suc (suc (suc zero)))) d l h k e = omega (arith, most-grows 16 7 (omega arith) d 3 (omega arith))
-cap (suc (suc (suc (suc (suc n))))) d l h k e = absurd (omega arith)
+cap m zero d l h k e = absurd (omega arith)
+cap m (suc zero) d l h k e = omega (arith, most-grows 2 m (omega arith) d 6 k)
+cap m (suc (suc zero)) d l h k e = omega (arith, most-grows 4 m (omega arith) d 6 k)
+cap m (suc (suc (suc zero))) d l h k e = omega (arith, most-grows 8 m (omega arith) d 4 (omega arith))
+cap m (suc (suc (suc (suc zero)))) d l h k e = omega (arith, most-grows 16 m (omega arith) d 3 (omega arith))
+cap m (suc (suc (suc (suc (suc n))))) d l h k e = absurd (omega arith)
 
 -- at most sixteen tiles, n·D ≤ 4: one dimension of depth 4 has the longest
-pub cap-few : (n d : ℕ) → 1 ≤ n → n ≤ 4 → n * d ≤ 4 → most (2 ^ n) 7 d ≤ 127
+pub cap-few : (m n d : ℕ) → 1 ≤ n → n ≤ 4 → n * d ≤ 4 → most (2 ^ n) m d ≤ 16 * m + 15
 unfolding most
-cap-few zero d l h e = absurd (omega arith)
-cap-few (suc zero) d l h e = omega (arith, most-grows 2 7 (omega arith) d 4 (omega arith))
-cap-few (suc (suc zero)) d l h e = omega (arith, most-grows 4 7 (omega arith) d 2 (omega arith))
-cap-few (suc (suc (suc zero))) d l h e = omega (arith, most-grows 8 7 (omega arith) d 1 (omega arith))
-cap-few (suc (suc (suc (suc zero)))) d l h e = omega (arith, most-grows 16 7 (omega arith) d 1 (omega arith))
-cap-few (suc (suc (suc (suc (suc n))))) d l h e = absurd (omega arith)
+cap-few m zero d l h e = absurd (omega arith)
+cap-few m (suc zero) d l h e = omega (arith, most-grows 2 m (omega arith) d 4 (omega arith))
+cap-few m (suc (suc zero)) d l h e = omega (arith, most-grows 4 m (omega arith) d 2 (omega arith))
+cap-few m (suc (suc (suc zero))) d l h e = omega (arith, most-grows 8 m (omega arith) d 1 (omega arith))
+cap-few m (suc (suc (suc (suc zero)))) d l h e = omega (arith, most-grows 16 m (omega arith) d 1 (omega arith))
+cap-few m (suc (suc (suc (suc (suc n))))) d l h e = absurd (omega arith)
 
--- ---- the bound of a plant: an accepted table has at most 30,039 bytes
+-- ---- the bound of a plant: an accepted table has at most 54,615 bytes, and at most 30,039 while N ≤ 128
+
+-- a tile has at most 13 bytes
+pub tile-most : (N : ℕ) → tileBytes N ≤ 13
+tile-most N = go (leb N 128)
+  where
+    go : (t : Bool) → cond t 7 13 ≤ 13
+    go true = omega arith
+    go false = omega arith
 
 -- of a plant's table over any box of n sides, into any goal
 module _ (p : Plant) (s : Sound p) (root goal : List Side) (sides : length root ≡ p .n) (table : List ℕ) (a : verdict (tableRules p root goal) table ≡ Verdict.Accepted) where
-  pub over-most : length table ≤ 2 + most (2 ^ p .n) 7 (p .d)
+  pub over-most : length table ≤ 2 + most (2 ^ p .n) (tileBytes (p .modes)) (p .d)
   over-most =
       let t = accepted-exactly (tableRules p root goal) (sizes-over p s root goal) table .0 a in
-      rw (t .2) (table-length (p .n) (p .modes) (p .k) (p .d) root goal (safeOf p) (stepOf p) (s .ranges .n-high) (omega (arith, s .ranges .m-high)) (s .ranges .k-high) sides (t .0) (t .1))
+      rw (t .2) (table-length (p .n) (p .modes) (p .k) (p .d) root goal (safeOf p) (stepOf p) (s .ranges .n-high) (s .ranges .m-high) (s .ranges .k-high) sides (t .0) (t .1))
 
-  pub over-box : length table ≤ 30_039
-  over-box = omega (arith, over-most, cap (p .n) (p .d) (s .ranges .n-low) (s .ranges .n-high) (s .ranges .d-high) (s .ranges .nd-high))
+  capped : most (2 ^ p .n) (tileBytes (p .modes)) (p .d) ≤ 4096 * tileBytes (p .modes) + 1365
+  capped = cap (tileBytes (p .modes)) (p .n) (p .d) (s .ranges .n-low) (s .ranges .n-high) (s .ranges .d-high) (s .ranges .nd-high)
 
-pub at-most : (plant table : List ℕ) → checked plant table ≡ Verdict.Accepted → length table ≤ 30_039
-at-most plant table a =
-    let w = accepted-judged plant table a in
-    let p = w .0 in
-    over-box p (judged-sound plant p (w .1)) (rootOf p) (rootOf p) (length-tab (sideAt (p .rlo) (p .rhi)) (p .n) 0) table (sym (checked-as plant p (w .1) table) ∙ a)
+  pub over-box : length table ≤ 54_615
+  over-box = omega (arith, over-most, capped, tile-most (p .modes))
+
+  pub over-box-few : p .modes ≤ 128 → length table ≤ 30_039
+  over-box-few l = let e : tileBytes (p .modes) ≡ 7 = simp (le-leb (p .modes) 128 l) in omega (arith, over-most, capped, e)
+
+module _ (plant table : List ℕ) (a : checked plant table ≡ Verdict.Accepted) where
+  w : (p : Plant) × (plantJudged plant ≡ good p) × (verdict (rulesOf p) table ≡ Verdict.Accepted)
+  w = let v = accepted-judged plant table a in (v .0, v .1, sym (checked-as plant (v .0) (v .1) table) ∙ a)
+
+  sided : (p : Plant) → length (rootOf p) ≡ p .n
+  sided p = length-tab (sideAt (p .rlo) (p .rhi)) (p .n) 0
+
+  pub at-most : length table ≤ 54_615
+  at-most = over-box (w .0) (judged-sound plant (w .0) (w .1)) (rootOf (w .0)) (rootOf (w .0)) (sided (w .0)) table (w .2)
+
+  -- document 01's bound, with as many modes as a byte holds
+  pub at-most-few : (p : Plant) → plantJudged plant ≡ good p → p .modes ≤ 128 → length table ≤ 30_039
+  at-most-few p e l = over-box-few p (judged-sound plant p e) (rootOf p) (rootOf p) (sided p) table (sym (checked-as plant p e table) ∙ a) l

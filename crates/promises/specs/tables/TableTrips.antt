@@ -7,9 +7,9 @@ use mathlib.Core.Bool.{true}
 use mathlib.Core.List.{List, [], _∷_, _++_, append-nil}
 use native.Mathlib.Omega.{arith}
 use lib.ListN.{length, length-append}
-use borrow.Author.Tests.{lt-ltb, le-leb}
+use borrow.Author.Tests.{le-leb}
 use Rattle.laws.specs.Every as E
-use Rattle.laws.specs.Standing.{Stands, stand-back, stand-within}
+use Rattle.laws.specs.Standing.{Stands, stand-back}
 use Rattle.meaning.specs.declared.State.{State}
 use Rattle.meaning.specs.declared.Answer.{Answer}
 use Rattle.meaning.specs.Numbers.{bytesOf}
@@ -21,7 +21,7 @@ use Rattle.meaning.specs.Control.{idle, stateWith, call}
 use Rattle.promises.specs.files.Bytes.{bytes-some}
 use Rattle.promises.specs.tables.Finds.{nextPlace, firstPlace, the, finds, call-finds}
 use Rattle.promises.specs.tables.Laws.{Sizes, Splits, Motion}
-use Rattle.promises.specs.tables.Layouts.{first-read, headed, table-header}
+use Rattle.promises.specs.tables.Layouts.{first-read, modes-read, headed, table-header}
 use Rattle.promises.specs.tables.Patterns as Q
 use Rattle.promises.specs.tables.Patterns.{Lands, works-exactly}
 use Rattle.promises.specs.tables.Shapes.{Good, Working, over-short}
@@ -47,12 +47,6 @@ module _ (r : Rules) where
     pub only : having r x (tilesOf r t root (headed n)) ≡ the ∷ []
     pub short : length (the .modes) ≤ longest t
     pub trip : TripOn (tableOf r t) (length (the .modes)) x
-
--- each mode takes a byte at least
-modes-some : (us : List ℕ) → length us ≤ length (modesBytes us)
-unfolding Y.modesBytes
-modes-some [] = omega arith
-modes-some (u ∷ us) = omega (arith, modes-some us, bytes-some u, length-append (bytesOf u) (modesBytes us))
 
 -- The modes us stand at that place, the reading is where what was kept says, and from there they land.
 record Ready (r : Rules) (motion : Motion r) (s us : List ℕ) (place : ℕ) (x : r .Reading) : Type 0 where
@@ -109,18 +103,14 @@ module _ (r : Rules) (sizes : Sizes r) (splits : Splits r) (motion : Motion r) (
     running-told : holds r safe x ≡ true → call r table (stateWith (u ∷ us) place) x ≡ Answer.Mode u (stateWith us (nextPlace place u))
     unfolding C.call Y.below
     running-told w =
-        let l = modes-some (u ∷ us) in
-        let f : place + suc (length us) ≤ length table =
-        omega (arith, l, h .stand .end, stand-within table (modesBytes (u ∷ us)) place (h .end) (h .stand) (omega arith)) in
         let mode = first-read N (sizes .modes) u us table place (h .end) (h .modes) (h .stand) in
         simp (
           table-header r sizes table [] t is,
           le-leb (suc (length us)) K (h .few),
           le-leb 2 place (h .far),
-          le-leb (place + suc (length us)) (length table) f,
-          mode,
-          lt-ltb u N (h .modes .0),
+          modes-read N (sizes .modes) (u ∷ us) table place (h .end) (h .modes) (h .stand),
           w,
+          mode,
         )
 
   to-go : (us : List ℕ) (place : ℕ) (x : Reading) → Ready r motion table us place x → holds r safe x ≡ true → ToGoOn r table (length us) (stateWith us place) x

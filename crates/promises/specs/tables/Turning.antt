@@ -13,13 +13,12 @@ use lib.Signed.{leZ, _≤ℤ_}
 use Rattle.laws.specs.Division.{floorZ, ceilZ}
 use Rattle.laws.specs.Integers.{P, N, zarith, add, mul, neg, apart, to-eq}
 use Rattle.laws.specs.Tests.{first, both, orders, ordered}
-use Rattle.meaning.specs.declared.Plant.{Plant}
 use Rattle.meaning.specs.declared.Tried.the-variants.{Works}
 use Rattle.meaning.specs.Boxes.{Side, side, within}
 use Rattle.meaning.specs.Computing.{computing}
 use Rattle.meaning.specs.Files.{good, fileOf}
 use Rattle.meaning.specs.Images.{image}
-use Rattle.meaning.specs.Plants.{plantForm, plantOf, plantJudged, rootOf, safeOf, stepOf}
+use Rattle.meaning.specs.Plants.{Plant, plantForm, plantOf, plantJudged, rootOf, safeOf, stepOf}
 use Rattle.meaning.specs.Rules as R
 use Rattle.meaning.specs.Rules.{Rules, ruleFrom, rule}
 use Rattle.meaning.specs.Tables.{rulesOf}

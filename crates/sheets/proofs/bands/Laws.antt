@@ -1,10 +1,10 @@
--- The widening, and the ends of a band: sizes, and what the code's tests say; the ends of mode 0, and of all modes. Assumes nothing.
-use Prim.Native.Nat.{ℕ, zero, suc, _+_, _-_, _*_, _/_, _%_, _≤_, _<_, max}
+-- The widening, and the ends of a band: sizes, and what the code's tests say; the ends of all bands. Assumes nothing.
+use Prim.Native.Nat.{ℕ, zero, suc, _+_, _*_, _/_, _%_, _≤_, _<_, max}
 use mathlib.Core.Path.{_≡_, refl, sym, ap, _∙_}
 use mathlib.Core.List.{List, [], _∷_, _++_, append-assoc}
 use native.Mathlib.Omega.{arith}
 use native.Mathlib.Numerals.{add-one}
-use native.Mathlib.Nat.{le-refl, mul-le-mul, zero-add, mod-eq-of-lt, mod-eq-sub-mod}
+use native.Mathlib.Nat.{mul-le-mul, zero-add}
 use borrow.Author.Tests.{le-leb, lt-leb}
 use lib.Dec.{T}
 use lib.ListN.{length, set, replicate, length-append}
@@ -20,13 +20,13 @@ use Rattle.laws.specs.Lists.{at, tabs, firstFalse}
 use Rattle.laws.specs.Tabs.{tabs-snoc, length-tabs}
 use Rattle.meaning.specs.declared.Sheet.{Sheet}
 use Rattle.meaning.specs.declared.Whole.{Whole}
-use Rattle.meaning.specs.Plants.{edgeLimit, bandLimit, mostModes, mostBands}
+use Rattle.meaning.specs.Plants.{edgeLimit, bandLimit}
 use Rattle.meaning.specs.Sheets.{limitedTo, largestEdge, widening, madeBand, nearValue}
 use Rattle.sheets.specs.declared.bands.Bands.{Bands}
 use Rattle.sheets.specs.Sizes.{Sized}
 use Rattle.sheets.specs.Wholes.{firstOut, joined, near, held}
-use Rattle.sheets.specs.Bands.{lowEnd, highEnd, endAt, bandsOf}
-use Rattle.sheets.proofs.wholes.Counts.{joined-one, Holding, holding-none, holding-more, holding-at, holding-all}
+use Rattle.sheets.specs.Bands.{lowEnd, highEnd, endAt, mostEnds, bandsOf}
+use Rattle.sheets.proofs.wholes.Counts.{joined-one, Holding, holding-none, holding-more, holding-all}
 
 -- ---- the size of a number below 0
 
@@ -90,38 +90,31 @@ end-in v h l = simp (le-leb (natAbs v) bandLimit (within bandLimit h l))
 
 -- ---- the ends in plant order
 
-module _ (h : Sheet) (i : ℕ) (inside : i < h .n) where
+module _ (h : Sheet) (i : ℕ) where
   pub low-at : endAt h (2 * i) ≡ lowEnd h i
   unfolding endAt
   low-at =
-      let e : 2 * i % (2 * h .n) ≡ 2 * i = mod-eq-of-lt (omega arith) in
       let r : 2 * i % 2 ≡ 0 = omega arith in
       let d : 2 * i / 2 ≡ i = omega arith in
-      rw (e, r, d) refl
+      rw (r, d) refl
 
   pub high-at : endAt h (2 * i + 1) ≡ highEnd h i
   unfolding endAt
   high-at =
-      let e : (2 * i + 1) % (2 * h .n) ≡ 2 * i + 1 = mod-eq-of-lt (omega arith) in
       let r : (2 * i + 1) % 2 ≡ 1 = omega arith in
       let d : (2 * i + 1) / 2 ≡ i = omega arith in
-      rw (e, r, d) refl
+      rw (r, d) refl
 
--- a mode further on they are the same
-again : (h : Sheet) (p : ℕ) → 2 * h .n ≤ p → endAt h (p - 2 * h .n) ≡ endAt h p
-unfolding endAt
-again h p l = let m : p % (2 * h .n) ≡ (p - 2 * h .n) % (2 * h .n) = mod-eq-sub-mod l in rw m refl
-
--- ---- mode 0: the bands of i dimensions
+-- ---- the bands of i dimensions
 
 pub record BandsUpTo (h : Sheet) (i : ℕ) (ends : List ℤ) (first : ℕ) : Type 0 where
   pub few : i ≤ h .n
-  pub values : Holding mostBands (endAt h) (2 * i) ends
+  pub values : Holding mostEnds (endAt h) (2 * i) ends
   pub out : first ≡ firstOut (tabs (madeBand h) i 0)
 
-pub bands-none : (h : Sheet) → BandsUpTo h 0 (replicate mostBands (pos 0)) 0
+pub bands-none : (h : Sheet) → BandsUpTo h 0 (replicate mostEnds (pos 0)) 0
 unfolding tabs firstFalse
-bands-none h = record { few = omega arith; values = holding-none mostBands (endAt h); out = refl }
+bands-none h = record { few = omega arith; values = holding-none mostEnds (endAt h); out = refl }
 
 -- the numbers of i dimensions, and those of one more
 module _ (h : Sheet) (i : ℕ) where
@@ -150,42 +143,15 @@ bands-more {h} {i} {ends} {first} b l few = record {
   few = omega arith;
   values =
       let e : 2 * i + 1 + 1 ≡ 2 * (i + 1) = omega arith in
-      let one = rw (low-at h i l) at (holding-more mostBands (endAt h) (2 * i) ends (omega arith) (b .values)) in
-      rw (e, high-at h i l) at (holding-more mostBands (endAt h) (2 * i + 1) (set ends (2 * i) (nearValue (lowEnd h i))) (omega arith) one);
+      let one = rw (low-at h i) at (holding-more mostEnds (endAt h) (2 * i) ends (omega arith) (b .values)) in
+      rw (e, high-at h i) at (holding-more mostEnds (endAt h) (2 * i + 1) (set ends (2 * i) (nearValue (lowEnd h i))) (omega arith) one);
   out = out-more h i first (b .out);
 }
 
--- ---- the further modes: the first p ends
-
-pub record EndsUpTo (h : Sheet) (modes p : ℕ) (ends : List ℤ) : Type 0 where
-  pub some : 2 * h .n ≤ p
-  pub few : p ≤ 2 * h .n * modes
-  pub values : Holding mostBands (endAt h) p ends
-
-module _ (h : Sheet) (s : Sized h) (modes : ℕ) (many : modes ≤ mostModes) where
-  pub ends-small : 2 * h .n * modes ≤ mostBands
-  ends-small = omega (arith, mul-le-mul (s .few) many)
-
-  pub ends-first : {i : ℕ} {ends : List ℤ} {first : ℕ} → 1 ≤ modes → BandsUpTo h i ends first → h .n ≤ i → EndsUpTo h modes (2 * h .n) ends
-  ends-first {i} {ends} {first} some b l =
-      let e : i ≡ h .n = omega (arith, b .few) in
-      record { some = omega arith; few = omega (arith, mul-le-mul (le-refl (2 * h .n)) some); values = rw e at (b .values) }
-
-  pub ends-more : {p : ℕ} {ends : List ℤ} → EndsUpTo h modes p ends → p < 2 * h .n * modes → EndsUpTo h modes (p + 1) (set ends p (at ends (p - 2 * h .n)))
-  ends-more {p} {ends} w l = record {
-    some = omega (arith, w .some);
-    few = omega arith;
-    values = rw (← same) at (holding-more mostBands (endAt h) p ends (omega (arith, ends-small)) (w .values));
-  }
-    where
-      same : at ends (p - 2 * h .n) ≡ nearValue (endAt h p)
-      same = holding-at mostBands (endAt h) p ends (w .values) (p - 2 * h .n) (omega (arith, w .some, s .some)) ∙ ap nearValue (again h p (w .some))
-
-  pub ends-all : {i p : ℕ} {ends₀ ends : List ℤ} {first : ℕ} → BandsUpTo h i ends₀ first → h .n ≤ i → EndsUpTo h modes p ends → 2 * h .n * modes ≤ p
-      → _≡_ {A = Bands} (record { first = first; ends = ends }) (bandsOf h modes)
-  ends-all {i} {p} {ends₀} {ends} {first} b l w g =
-      let e : i ≡ h .n = omega (arith, b .few) in
-      let q : p ≡ 2 * h .n * modes = omega (arith, w .few) in
-      let values : ends ≡ held mostBands (endAt h) (2 * h .n * modes) = holding-all mostBands (endAt h) (2 * h .n * modes) ends ends-small (rw q at (w .values)) in
-      let out : first ≡ firstOut (tabs (madeBand h) (h .n) 0) = b .out ∙ ap (λ (k : ℕ). firstOut (tabs (madeBand h) k 0)) e in
-      rw (out, values) refl
+-- of all dimensions
+pub bands-all : {h : Sheet} {i : ℕ} {ends : List ℤ} {first : ℕ} → BandsUpTo h i ends first → h .n ≤ i → h .n ≤ 4 → _≡_ {A = Bands} (record { first = first; ends = ends }) (bandsOf h)
+bands-all {h} {i} {ends} {first} b l few =
+    let e : i ≡ h .n = omega (arith, b .few) in
+    let values : ends ≡ held mostEnds (endAt h) (2 * h .n) = holding-all mostEnds (endAt h) (2 * h .n) ends (omega arith) (rw e at (b .values)) in
+    let out : first ≡ firstOut (tabs (madeBand h) (h .n) 0) = b .out ∙ ap (λ (k : ℕ). firstOut (tabs (madeBand h) k 0)) e in
+    rw (out, values) refl

@@ -1,5 +1,5 @@
 -- The coefficients of a plant one by one: each is that of its column, row and mode, so that they are the definition's rows; and how many there are. Relies on
--- promises' pages SheetPlants, for how many emitters there are, and PlantShapes.
+-- promises' pages SheetPlants, for how many emitters there are.
 use Prim.Native.Nat.{ℕ, zero, suc, _+_, _*_, _/_, _%_, _≤_, _<_}
 use mathlib.Core.Path.{_≡_, refl, sym, ap, _∙_, subst}
 use mathlib.Core.Bool.{cond}
@@ -8,7 +8,7 @@ use native.Mathlib.Omega.{arith}
 use native.Mathlib.Nat.{le-trans, lt-of-lt-of-le, mod-lt, zero-add, add-zero, mul-comm, mul-assoc, mul-add, mul-le-mul, one-le-mul, mod-eq-of-lt, div-eq-of-lt, mul-add-div, mul-add-mod-self-left}
 use borrow.Author.Tests.{lt-ltb, le-ltb}
 use lib.Dec.{ltb}
-use lib.Pow.{pow-pos, pow-mono}
+use lib.Pow.{pow-mono}
 use lib.ListN.{set, replicate}
 use lib.IntN.{ℤ, pos}
 use lib.Ieee.{Float}
@@ -17,14 +17,13 @@ use Rattle.laws.specs.Tabs.{length-tab, tab-snoc}
 use Rattle.laws.specs.Columns.{tabs-tab}
 use Rattle.meaning.specs.declared.Sheet.{Sheet}
 use Rattle.meaning.specs.declared.Whole.{Whole}
-use Rattle.meaning.specs.Plants.{entryLimit, offsetLimit, mostModes, mostCoefs, coefCount}
+use Rattle.meaning.specs.Plants.{entryLimit, offsetLimit, coefCount}
 use Rattle.meaning.specs.Sheets.{wholeOf, coefficient, offset, emitters, madeRow, madeModes, nearValue}
-use Rattle.promises.specs.files.PlantShapes.{numbers-few}
 use Rattle.promises.specs.sheets.SheetPlants.{emitters-few}
 use Rattle.sheets.specs.declared.made.Entries.{Entries}
 use Rattle.sheets.specs.Sizes.{Sized}
 use Rattle.sheets.specs.Wholes.{firstOut, joined, near, held}
-use Rattle.sheets.specs.Made.{entryAt, entriesOf}
+use Rattle.sheets.specs.Made.{mostEntries, entryAt, entriesOf}
 use Rattle.sheets.proofs.wholes.Counts.{joined-one, Holding, holding-none, holding-more, holding-all}
 
 -- ---- what the code reads of a place: an entry of A, or b
@@ -114,18 +113,15 @@ module _ (h : Sheet) (some : 1 ≤ h .n) where
 
 -- ---- how many there are
 
-pub modes-some : (h : Sheet) → 1 ≤ madeModes h
-modes-some h = pow-pos (emitters h (h .n))
-
 module _ (h : Sheet) (s : Sized h) where
-  pub modes-few : madeModes h ≤ mostModes
+  pub modes-few : madeModes h ≤ 16
   modes-few = pow-mono {j = 4} (le-trans (emitters-few h (h .n)) (s .few))
 
   pub rows-few : madeModes h * h .n ≤ 64
   rows-few = mul-le-mul modes-few (s .few)
 
-  pub count-few : coefCount (madeModes h) (h .n) ≤ mostCoefs
-  count-few = numbers-few (madeModes h) (h .n) (s .few) modes-few
+  pub count-few : coefCount (madeModes h) (h .n) ≤ mostEntries
+  count-few = let wide : h .n + 1 ≤ 5 = omega (arith, s .few) in mul-le-mul rows-few wide
 
   pub scaled : (1 ≤ h .q * h .r) × (h .q * h .r ≤ 10000000)
   scaled = (one-le-mul (s .counts .0) (s .degrees .0), mul-le-mul (s .counts .1) (s .degrees .1))
@@ -134,28 +130,28 @@ module _ (h : Sheet) (s : Sized h) where
 
 pub record EntriesUpTo (h : Sheet) (count p : ℕ) (coef : List ℤ) (first : ℕ) : Type 0 where
   pub few : p ≤ count
-  pub values : Holding mostCoefs (entryAt h) p coef
+  pub values : Holding mostEntries (entryAt h) p coef
   pub out : first ≡ firstOut (tab (entryAt h) p 0)
 
-pub entries-none : (h : Sheet) (count : ℕ) → EntriesUpTo h count 0 (replicate mostCoefs (pos 0)) 0
+pub entries-none : (h : Sheet) (count : ℕ) → EntriesUpTo h count 0 (replicate mostEntries (pos 0)) 0
 unfolding tab firstFalse
-entries-none h count = record { few = omega arith; values = holding-none mostCoefs (entryAt h); out = refl }
+entries-none h count = record { few = omega arith; values = holding-none mostEntries (entryAt h); out = refl }
 
-pub entries-more : {h : Sheet} {count p : ℕ} {coef : List ℤ} {first : ℕ} → EntriesUpTo h count p coef first → p < count → count ≤ mostCoefs
+pub entries-more : {h : Sheet} {count p : ℕ} {coef : List ℤ} {first : ℕ} → EntriesUpTo h count p coef first → p < count → count ≤ mostEntries
     → EntriesUpTo h count (p + 1) (set coef p (nearValue (entryAt h p))) (joined first p (near (entryAt h p)))
 entries-more {h} {count} {p} {coef} {first} e l few = record {
   few = omega arith;
-  values = holding-more mostCoefs (entryAt h) p coef (omega arith) (e .values);
+  values = holding-more mostEntries (entryAt h) p coef (omega arith) (e .values);
   out = joined-one (tab (entryAt h) p 0) (entryAt h p) first p (e .out) (sym (length-tab (entryAt h) p 0)) ∙ ap firstOut (sym behind);
 }
   where
     behind : tab (entryAt h) (p + 1) 0 ≡ tab (entryAt h) p 0 ++ entryAt h p ∷ []
     behind = tab-snoc (entryAt h) p 0 ∙ rw zero-add refl
 
-pub entries-all : {h : Sheet} {count p : ℕ} {coef : List ℤ} {first : ℕ} → EntriesUpTo h count p coef first → count ≤ p → count ≤ mostCoefs
+pub entries-all : {h : Sheet} {count p : ℕ} {coef : List ℤ} {first : ℕ} → EntriesUpTo h count p coef first → count ≤ p → count ≤ mostEntries
     → _≡_ {A = Entries} (record { first = first; coef = coef }) (entriesOf h count)
 entries-all {h} {count} {p} {coef} {first} e l few =
     let q : p ≡ count = omega (arith, e .few) in
-    let values : coef ≡ held mostCoefs (entryAt h) count = holding-all mostCoefs (entryAt h) count coef few (subst (λ (k : ℕ). Holding mostCoefs (entryAt h) k coef) q (e .values)) in
+    let values : coef ≡ held mostEntries (entryAt h) count = holding-all mostEntries (entryAt h) count coef few (subst (λ (k : ℕ). Holding mostEntries (entryAt h) k coef) q (e .values)) in
     let out : first ≡ firstOut (tab (entryAt h) count 0) = e .out ∙ ap (λ (k : ℕ). firstOut (tab (entryAt h) k 0)) q in
     rw (out, values) refl

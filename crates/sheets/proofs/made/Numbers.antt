@@ -4,7 +4,7 @@ use mathlib.Core.Path.{_≡_, refl, sym, ap, _∙_}
 use mathlib.Core.Bool.{Bool}
 use mathlib.Core.List.{List, [], _∷_, _++_, map, map-append}
 use native.Mathlib.Omega.{arith}
-use native.Mathlib.Nat.{zero-add, mul-le-mul, le-refl}
+use native.Mathlib.Nat.{zero-add}
 use native.Mathlib.Decide.{decLt}
 use lib.Dec.{eqb}
 use borrow.Author.Tests.{eq-eqb, ne-eqb}
@@ -16,17 +16,17 @@ use Rattle.laws.specs.Tabs.{length-tab, length-tabs, map-tab, map-tabs, tab-sam
 use Rattle.laws.specs.Tests.{first-within, first-behind}
 use Rattle.meaning.specs.declared.Sheet.{Sheet}
 use Rattle.meaning.specs.declared.Whole.{Whole}
-use Rattle.meaning.specs.Plants.{mostBands, mostCoefs, coefCount, edgesOf, bandNumbers, rowNumbers, numbersOf}
+use Rattle.meaning.specs.Plants.{coefCount, edgesOf, bandNumbers, rowNumbers, numbersOf}
 use Rattle.meaning.specs.Sheets.{sheetEdges, madeBand, madeModes, madeNumbers, isNear, nearValue}
 use Rattle.promises.specs.sheets.SheetNumbers.{map-values}
 use Rattle.sheets.specs.Sizes.{Sized}
 use Rattle.sheets.specs.Wholes.{firstOut, joined, held}
-use Rattle.sheets.specs.Bands.{endAt}
+use Rattle.sheets.specs.Bands.{endAt, mostEnds}
 use Rattle.sheets.specs.declared.made.Made.{Made}
-use Rattle.sheets.specs.Made.{entryAt, heldPlant, madeOf}
+use Rattle.sheets.specs.Made.{mostEntries, entryAt, heldOutline, heldEnds, heldCoef, heldPlant, madeOf}
 use Rattle.sheets.proofs.wholes.Counts.{first-few, out-all, joined-is}
 use Rattle.sheets.proofs.bands.Laws.{low-at, high-at}
-use Rattle.sheets.proofs.made.Laws.{rows-are, modes-some, count-few}
+use Rattle.sheets.proofs.made.Laws.{rows-are, count-few}
 
 -- numbers that are taken over as they are are all near
 near-all : (l : List ℤ) → firstOut (map Whole.Near l) ≡ length (map Whole.Near l)
@@ -57,7 +57,7 @@ module _ (h : Sheet) (s : Sized h) where
   -- ---- the values
 
   abbrev ends : List ℤ
-  ends = held mostBands (endAt h) (2 * h .n * madeModes h)
+  ends = held mostEnds (endAt h) (2 * h .n)
 
   bands-held : map nearValue bands ≡ bandNumbers (h .n) ends 0
   unfolding tab
@@ -67,23 +67,22 @@ module _ (h : Sheet) (s : Sized h) where
       ∙ tabs-tab (at ends) (λ i. map nearValue (madeBand h i)) 2 0 (h .n) band
       ∙ ap (tab (at ends) (2 * h .n)) (sym z)
     where
-      -- an end of mode 0
       end-at : (p : ℕ) → p < 2 * h .n → at ends p ≡ nearValue (endAt h p)
-      end-at p l = padded-at (λ k. nearValue (endAt h k)) mostBands (2 * h .n * madeModes h) p (omega (arith, mul-le-mul (le-refl (2 * h .n)) (modes-some h)))
+      end-at p l = padded-at (λ k. nearValue (endAt h k)) mostEnds (2 * h .n) p l
 
       band : (i : ℕ) → i < h .n → map nearValue (madeBand h i) ≡ tab (at ends) 2 (0 + 2 * i)
       band i l =
           let z : 0 + 2 * i ≡ 2 * i = omega arith in
-          rw (z, end-at (2 * i) (omega arith), end-at (2 * i + 1) (omega arith), low-at h i l, high-at h i l) refl
+          rw (z, end-at (2 * i) (omega arith), end-at (2 * i + 1) (omega arith), low-at h i, high-at h i) refl
 
   abbrev coef : List ℤ
-  coef = held mostCoefs (entryAt h) count
+  coef = held mostEntries (entryAt h) count
 
   entries-held : map nearValue entries ≡ tabs (rowNumbers (h .n) coef) (madeModes h) 0
   entries-held =
       let size : coefCount (madeModes h) (h .n) ≡ h .n * (h .n + 1) * madeModes h = omega arith in
       map-tab nearValue (entryAt h) count 0
-      ∙ tab-same (λ k. nearValue (entryAt h k)) (at coef) count 0 (λ k a b. sym (padded-at (λ i. nearValue (entryAt h i)) mostCoefs count k (omega arith)))
+      ∙ tab-same (λ k. nearValue (entryAt h k)) (at coef) count 0 (λ k a b. sym (padded-at (λ i. nearValue (entryAt h i)) mostEntries count k (omega arith)))
       ∙ ap (λ (c : ℕ). tab (at coef) c 0) size
       ∙ sym (tabs-tab (at coef) (rowNumbers (h .n) coef) (h .n * (h .n + 1)) 0 (madeModes h)
       (λ u _. let z : 0 + h .n * (h .n + 1) * u ≡ h .n * (h .n + 1) * u = zero-add _ in rw z refl))
@@ -125,7 +124,7 @@ module _ (h : Sheet) (s : Sized h) where
   pub behind-few : behind ≤ 2 * h .n + count
   behind-few = omega (arith, made-place, fits-long, first-few (map isNear (madeNumbers h)))
 
-  pub entries-few : firstOut entries ≤ mostCoefs
+  pub entries-few : firstOut entries ≤ mostEntries
   entries-few = omega (arith, count-few h s, first-few (map isNear entries), length-map entries isNear, length-tab (entryAt h) count 0)
 
   made-fits : eqb behind (2 * h .n + count) ≡ all (map isNear (madeNumbers h))
@@ -140,5 +139,5 @@ module _ (h : Sheet) (s : Sized h) where
 
   -- ---- what the code puts together
 
-  pub made-is : _≡_ {A = Made} (record { fits = eqb behind (2 * h .n + count); place = 6 + 4 * h .n + behind; plant = heldPlant h }) (madeOf h)
+  pub made-is : _≡_ {A = Made} (record { fits = eqb behind (2 * h .n + count); place = 6 + 4 * h .n + behind; outline = heldOutline h; ends = heldEnds h; coef = heldCoef h }) (madeOf h)
   made-is = rw (made-fits, made-place) refl

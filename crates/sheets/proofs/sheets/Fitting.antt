@@ -13,7 +13,7 @@ use Rattle.meaning.specs.declared.Verdict.{Verdict}
 use Rattle.meaning.specs.Refusals.{badResult}
 use Rattle.meaning.specs.Buffers.{refusedWith}
 use Rattle.meaning.specs.Files.{Judged, good, bad, valuesOf}
-use Rattle.meaning.specs.Plants.{plantLeft}
+use Rattle.meaning.specs.Plants.{plantFrom, plantLeft}
 use Rattle.meaning.specs.Sheets.{sheetForm, madeNumbers, isNear, sheetJudged, sheetReadOf, madeLeft}
 use Rattle.promises.specs.sheets.SheetPlants.{made-refused}
 use Rattle.sheets.specs.declared.made.Made.{Made}
@@ -61,7 +61,7 @@ module _ (s : List ℕ) (r : SheetRead) (e : r ≡ unfitted s) where
       pub unfit-left : m .fits ≡ false → madeLeft s buf ≡ refusedWith (badResult (m .place)) buf
       unfit-left f = made-refused s (badResult (m .place)) (values-taken ∙ not-fitting (r .sheet) m w f) buf
 
-      pub fit-left : m .fits ≡ true → madeLeft s buf ≡ plantLeft (m .plant) buf
+      pub fit-left : m .fits ≡ true → madeLeft s buf ≡ plantLeft (plantFrom (m .outline) (m .ends) (m .coef)) buf
       fit-left f =
-          sym (ap (λ (x : Made). plantLeft (x .plant) buf) w
+          sym (ap (λ (x : Made). plantLeft (plantFrom (x .outline) (x .ends) (x .coef)) buf) w
           ∙ held-left s (r .sheet) buf (values-taken ∙ all-fitting (r .sheet) m w f))

@@ -11,7 +11,7 @@ use lib.Dec.{eqb}
 use lib.ListN.{length, set, replicate, length-map}
 use lib.IntN.{ℤ, pos}
 use Rattle.laws.specs.Lists.{at, tab, firstFalse}
-use Rattle.laws.specs.Tabs.{tab-snoc, getD-tab, Filled, filled-none, filled-more, tab-stored, filled-padded}
+use Rattle.laws.specs.Tabs.{tab-snoc, Filled, filled-none, filled-more, tab-stored, filled-padded}
 use Rattle.meaning.specs.declared.Whole.{Whole}
 use Rattle.meaning.specs.Sheets.{isNear, nearValue}
 use Rattle.sheets.specs.Wholes.{firstOut, joined, near, held}
@@ -84,11 +84,6 @@ module _ (m : ℕ) (f : ℕ → Whole) where
         ∙ ap (λ (t : List ℤ). t ++ nearValue (f i) ∷ []) (w .front)
         ∙ sym (tab-snoc (λ k. nearValue (f k)) i 0 ∙ rw zero-add refl);
   }
-
-  pub holding-at : (i : ℕ) (l : List ℤ) → Holding m f i l → (k : ℕ) → k < i → at l k ≡ nearValue (f k)
-  holding-at i l w k h =
-      ap (at l) (sym (zero-add k)) ∙ sym (getD-tab (at l) (pos 0) i 0 k h) ∙ ap (λ (t : List ℤ). at t k) (w .front)
-      ∙ getD-tab (λ k. nearValue (f k)) (pos 0) i 0 k h ∙ ap (λ (k : ℕ). nearValue (f k)) (zero-add k)
 
   pub holding-all : (n : ℕ) (l : List ℤ) → n ≤ m → Holding m f n l → l ≡ held m f n
   holding-all n l h w = sym (filled-padded (w .filled) h) ∙ rw (w .front) refl

@@ -18,12 +18,11 @@ use Rattle.laws.specs.Integers.{zarith}
 use Rattle.laws.specs.Lists.{at, tab, padded, all, firstFalse}
 use Rattle.laws.specs.Tabs.{padded-at, tab-same, Filled, filled-none, filled-more, filled-padded, at-below, at-stored}
 use Rattle.laws.specs.Tests.{never, second, orders, all-tab}
-use Rattle.meaning.specs.declared.Plant.{Plant}
 use Rattle.meaning.specs.declared.Refusal.{Refusal}
 use Rattle.meaning.specs.declared.Verdict.{Verdict}
 use Rattle.meaning.specs.Boxes.{Side, side, sideAt, within}
 use Rattle.meaning.specs.Files.{Form, end, Read, read, refused, valuesAt}
-use Rattle.meaning.specs.Plants.{edgeLimit, span, column, rootOf, safeOf}
+use Rattle.meaning.specs.Plants.{Plant, edgeLimit, span, column, rootOf, safeOf}
 use Rattle.meaning.specs.Refusals.{notHeld}
 use Rattle.meaning.specs.Starts as S
 use Rattle.meaning.specs.Starts.{chainForm, above, chainSide, boxAt, boxBelow, held, onChain, boxRules}
@@ -37,9 +36,9 @@ use Rattle.tables.specs.declared.chains.ChainRead.{ChainRead}
 use Rattle.tables.specs.declared.frames.Frame.{Frame}
 use Rattle.tables.specs.Boxes.{boxOf, Small}
 use Rattle.tables.specs.Chains.{mostAbove, mostEdges, edgesAbove, valuesIn, noChain, chainWith, chainValues, chainRead, boxOn, bxAt, bxBelow, frameAt, keeps, FramesSound}
-use Rattle.tables.specs.Frames.{frameOf, rulesIn, FrameSound}
+use Rattle.tables.specs.Frames.{ownFrame, rulesIn, FrameSound}
 use Rattle.tables.proofs.boxes.Laws.{small-tab}
-use Rattle.tables.proofs.frames.Laws.{own-sound}
+use Rattle.tables.proofs.frames.Laws.{framed-sound}
 
 -- ---- edges and values: the e-th edge is the value e + 2
 
@@ -233,7 +232,7 @@ module _ (whole : Bool) (f : Frame) (s : List ℕ) (r : ChainRead) (q : r ≡ ch
 
     -- ---- its frames
 
-    module _ (bands coef : List ℤ) (g : FrameSound f bands coef) (in-safe : within root safe ≡ true) where
+    module _ (g : FrameSound f) (in-safe : within root safe ≡ true) where
       box-small : (i : ℕ) → i ≤ r .m → Small edgeLimit (boxAt n root (t .vs) i)
       box-small zero h = g .root
       box-small (suc i) h = small-tab (chainSide n (t .vs) i) n 0 (λ j a b. chain-range .sides i j (omega (arith, t .count)) (omega arith))
@@ -253,7 +252,7 @@ module _ (whole : Bool) (f : Frame) (s : List ℕ) (r : ChainRead) (q : r ≡ ch
       below-safe zero h = in-safe
       below-safe (suc i) h = box-safe i (omega arith)
 
-      pub frame-sound : (i : ℕ) → i ≤ r .m → FrameSound (frameAt f (r .edges) i) bands coef
+      pub frame-sound : (i : ℕ) → i ≤ r .m → FrameSound (frameAt f (r .edges) i)
       frame-sound i h =
           let box = box-same n (g .rooms) (r .edges) (t .vs) chain-edged (f .root) i in
           let below = below-same n (g .rooms) (r .edges) (t .vs) chain-edged (f .root) i in
@@ -269,48 +268,45 @@ module _ (whole : Bool) (f : Frame) (s : List ℕ) (r : ChainRead) (q : r ≡ ch
             root = subst (Small edgeLimit) (sym box) (box-small i h);
             goal = subst (Small edgeLimit) (sym below) (below-small i h);
             safe = g .safe;
-            band = g .band;
             in-safe = ap (λ (b : List Side). within b safe) below ∙ below-safe i h;
-            wide = g .wide;
-            rows = g .rows;
           }
 
 -- ---- for a plant: its frame's rules over a box of the chain are meaning's rules of that box
 
 module _ (p : Plant) (rooms : p .n ≤ 4) (edges vs : List ℤ) (q : Edged edges vs) where
-  pub rules-at : (i : ℕ) → rulesIn (frameAt (frameOf p) edges i) (p .bands) (p .coef) ≡ boxRules p vs i
-  rules-at i = boxes-same (p .n) rooms edges vs q (frameOf p .root) (λ root goal. tableRules p root goal) i
+  pub rules-at : (i : ℕ) → rulesIn (frameAt (ownFrame p) edges i) (p .bands) (p .coef) ≡ boxRules p vs i
+  rules-at i = boxes-same (p .n) rooms edges vs q (ownFrame p .root) (λ root goal. tableRules p root goal) i
 
   -- and what is answered by them
   pub answers-at : {A : Type 0} (answer : List Side → List Side → A) (i : ℕ)
-      → answer (boxOf (p .n) (frameAt (frameOf p) edges i .root)) (boxOf (p .n) (frameAt (frameOf p) edges i .goal))
+      → answer (boxOf (p .n) (frameAt (ownFrame p) edges i .root)) (boxOf (p .n) (frameAt (ownFrame p) edges i .goal))
       ≡ answer (boxAt (p .n) (rootOf p) vs i) (boxBelow (p .n) (rootOf p) vs i)
-  answers-at answer i = boxes-same (p .n) rooms edges vs q (frameOf p .root) answer i
+  answers-at answer i = boxes-same (p .n) rooms edges vs q (ownFrame p .root) answer i
 
 -- ---- for a plant that was judged good, whose frame the code has: what the definitions go on with behind the chain, and its frames
 
-module _ (whole : Bool) (p : Plant) (g : Sound p) (f : Frame) (e : f ≡ frameOf p) (s : List ℕ) (r : ChainRead) (q : r ≡ chainRead whole f s) where
-  own : r ≡ chainRead whole (frameOf p) s
+module _ (whole : Bool) (p : Plant) (g : Sound p) (f : Frame) (e : f ≡ ownFrame p) (s : List ℕ) (r : ChainRead) (q : r ≡ chainRead whole f s) where
+  own : r ≡ chainRead whole (ownFrame p) s
   own = q ∙ ap (λ (f : Frame). chainRead whole f s) e
 
-  pub plant-chain : r .verdict ≡ Verdict.Accepted → Chained whole (frameOf p) s r
-  plant-chain = chain-taken whole (frameOf p) s r own
+  pub plant-chain : r .verdict ≡ Verdict.Accepted → Chained whole (ownFrame p) s r
+  plant-chain = chain-taken whole (ownFrame p) s r own
 
   pub plant-refused : {A : Type 0} (x : Refusal) → r .verdict ≡ Verdict.Refused x → (refuse : Refusal → A) (rest : List ℤ → ℕ → A)
       → refuse x ≡ onChain (p .n) (rootOf p) (safeOf p) (chainValues whole (p .n) s) refuse rest
-  plant-refused = chain-refused whole (frameOf p) s r own
+  plant-refused = chain-refused whole (ownFrame p) s r own
 
-  module _ (t : Chained whole (frameOf p) s r) where
+  module _ (t : Chained whole (ownFrame p) s r) where
     pub plant-goes : {A : Type 0} (refuse : Refusal → A) (rest : List ℤ → ℕ → A)
         → rest (t .vs) (r .next) ≡ onChain (p .n) (rootOf p) (safeOf p) (chainValues whole (p .n) s) refuse rest
-    plant-goes = chain-goes whole (frameOf p) s r own t
+    plant-goes = chain-goes whole (ownFrame p) s r own t
 
     pub plant-edged : Edged (r .edges) (t .vs)
-    plant-edged = chain-edged whole (frameOf p) s r own t
+    plant-edged = chain-edged whole (ownFrame p) s r own t
 
-    pub plant-frames : FramesSound f (p .bands) (p .coef) (r .edges) (r .m)
+    pub plant-frames : FramesSound f (r .edges) (r .m)
     plant-frames = rw e (record {
       rooms = g .ranges .n-high;
-      few = chain-few whole (frameOf p) s r own t;
-      each = λ i h. frame-sound whole (frameOf p) s r own t (p .bands) (p .coef) (own-sound p g) (g .root-safe) i h;
+      few = chain-few whole (ownFrame p) s r own t;
+      each = λ i h. frame-sound whole (ownFrame p) s r own t (framed-sound p g (ownFrame p) refl) (g .root-safe) i h;
     })

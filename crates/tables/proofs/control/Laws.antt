@@ -1,4 +1,5 @@
--- Laws of the controller's call for the proofs of module control: each answer of each part, in the terms of the code. At any rules. Assumes nothing.
+-- Laws of the controller's call for the proofs of modules control and start_control: each answer of each part, in the terms of the code, at any rules; and
+-- that a call hangs on no band and no coefficient. Assumes nothing.
 use Prim.Native.Nat.{ℕ, zero, suc, _≤_, _<_}
 use mathlib.Core.Path.{_≡_, refl, sym, ap, _∙_}
 use mathlib.Core.Bool.{Bool, true, false}
@@ -20,7 +21,11 @@ use Rattle.meaning.specs.Refusals.{outside, badState}
 use Rattle.meaning.specs.Rules.{Rules}
 use Rattle.meaning.specs.Tables.{readingOf}
 use Rattle.meaning.specs.Verdicts.{onWalk, header}
+use Rattle.promises.specs.tables.Steps.{call-same}
+use Rattle.tables.specs.declared.frames.Frame.{Frame}
+use Rattle.tables.specs.Boxes.{boxOf}
 use Rattle.tables.specs.Control.{admission}
+use Rattle.tables.specs.Frames.{stepIn, rulesIn}
 use Rattle.tables.proofs.finds.Laws.{held, not-held}
 
 -- ---- whether a call may go on
@@ -108,3 +113,9 @@ module _ (r : Rules) (s : List ℕ) (x : Rules.Reading r) where
 
       pub call-running : (st .left ≡ 0 → ⊥) → runningCall r s (st .place) (st .left) x ≡ call r s st x
       call-running h = state-running at (st .place) (st .left) h ∙ headed (Walk.Next at) g
+
+-- ---- at the rules of a frame: a call is the same by any bands and coefficients
+
+pub call-by : (f : Frame) (bands coef bands′ coef′ : List ℤ) (s : List ℕ) (st : State) (x : List ℤ) → call (rulesIn f bands coef) s st x ≡ call (rulesIn f bands′ coef′) s st x
+call-by f bands coef bands′ coef′ s st x =
+    call-same (f .n) (f .modes) (f .k) (f .d) (boxOf (f .n) (f .root)) (boxOf (f .n) (f .goal)) (boxOf (f .n) (f .safe)) (stepIn f bands coef) (stepIn f bands′ coef′) s st x

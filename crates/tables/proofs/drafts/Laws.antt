@@ -1,10 +1,11 @@
 -- The defined table, written: a tile's modes one after another; a box by its first pattern; the children of a split one after another; the whole
 -- by its parts. Assumes nothing.
-use Prim.Native.Nat.{ℕ, zero, suc, _+_, _-_, _^_, _≤_, _<_}
+use Prim.Native.Nat.{ℕ, zero, suc, _+_, _*_, _-_, _^_, _≤_, _<_}
 use mathlib.Core.Path.{_≡_, refl, sym, ap, _∙_}
 use mathlib.Core.List.{List, [], _∷_, _++_}
 use mathlib.Core.Option.{Option, none, some}
 use native.Mathlib.Omega.{arith}
+use borrow.Author.Tests.{le-leb}
 use native.Mathlib.Numerals.{add-one}
 use lib.IntN.{ℤ}
 use lib.ListN.{length, getD, drop, take, drop-of-length-le}
@@ -22,7 +23,7 @@ use Rattle.meaning.specs.Trees.{Tree, Forest, split, tile, more, modesBytes, la
 use Rattle.meaning.specs.Defined.{mapSome, andAlso, allOf, splitOf, firstPattern, treeOf, definedTree}
 use Rattle.meaning.specs.Tables.{tableBytes, definedTable}
 use Rattle.promises.specs.tables.Exists.{defined-works}
-use Rattle.promises.specs.tables.TableLengths.{most, table-length}
+use Rattle.promises.specs.tables.TableLengths.{most, tileBytes, tile-most, table-length, cap, cap-few}
 use Rattle.files.specs.DraftLaws.{InDraft, in-buffer}
 use Rattle.tables.specs.declared.frames.Frame.{Frame}
 use Rattle.tables.specs.declared.drafts.Grown.{Grown}
@@ -252,13 +253,31 @@ module _ (r : Rules) where
       go (some t) e = let q : tableOf r t ≡ bytes = cc in ap good q
 
 -- the bytes of a frame's defined table, at most
-defined-length : (f : Frame) (bands coef : List ℤ) → FrameSound f bands coef → (t : Tree) → definedTree (rulesIn f bands coef) ≡ some t → length (tableOf (rulesIn f bands coef) t) ≤ 2 + most (2 ^ f .n) 7 (f .d)
+defined-length : (f : Frame) (bands coef : List ℤ) → FrameSound f → (t : Tree) → definedTree (rulesIn f bands coef) ≡ some t → length (tableOf (rulesIn f bands coef) t) ≤ 2 + most (2 ^ f .n) (tileBytes (f .modes)) (f .d)
 defined-length f bands coef g t e =
     table-length (f .n) (f .modes) (f .k) (f .d) (boxOf (f .n) (f .root)) (boxOf (f .n) (f .goal)) (boxOf (f .n) (f .safe)) (stepIn f bands coef)
     (g .rooms) (omega (arith, g .modes)) (g .longest) (length-tab (sideAt (f .root .lo) (f .root .hi)) (f .n) 0) t (defined-works (rulesIn f bands coef) t e)
 
+-- so a draft of one of three lengths has room for it: for any, for at most 128 modes, and for such in at most sixteen tiles
+module _ (f : Frame) (g : FrameSound f) where
+  capped : most (2 ^ f .n) (tileBytes (f .modes)) (f .d) ≤ 4096 * tileBytes (f .modes) + 1365
+  capped = cap (tileBytes (f .modes)) (f .n) (f .d) (g .some) (g .rooms) (g .depth) (g .tiles)
+
+  pub room-most : 2 + most (2 ^ f .n) (tileBytes (f .modes)) (f .d) ≤ 54_615
+  room-most = omega (arith, capped, tile-most (f .modes))
+
+  module _ (brief : f .modes ≤ 128) where
+    one-each : tileBytes (f .modes) ≡ 7
+    one-each = simp (le-leb (f .modes) 128 brief)
+
+    pub room-long : 2 + most (2 ^ f .n) (tileBytes (f .modes)) (f .d) ≤ 30_039
+    room-long = omega (arith, capped, one-each)
+
+    pub room-few : f .n * f .d ≤ 4 → 2 + most (2 ^ f .n) (tileBytes (f .modes)) (f .d) ≤ 129
+    room-few l = omega (arith, cap-few (tileBytes (f .modes)) (f .n) (f .d) (g .some) (g .rooms) l, one-each)
+
 -- a draft that has room for a frame's table
-module _ (f : Frame) (bands coef : List ℤ) (g : FrameSound f bands coef) (draft : List ℕ) (l : 2 + most (2 ^ f .n) 7 (f .d) ≤ length draft)
+module _ (f : Frame) (bands coef : List ℤ) (g : FrameSound f) (draft : List ℕ) (l : 2 + most (2 ^ f .n) (tileBytes (f .modes)) (f .d) ≤ length draft)
     (a : Grown) (out : List ℕ) (w : Wrote (definedBytes (rulesIn f bands coef)) draft 0 a out) (size : ℕ) (z : a ≡ Grown.Next size) where
   room : (t : Tree) → definedTree (rulesIn f bands coef) ≡ some t → length (tableOf (rulesIn f bands coef) t) ≤ length draft
   room t e = omega (arith, defined-length f bands coef g t e, l)

@@ -1,5 +1,5 @@
 -- Laws of the tile that holds a reading, for the proofs of module finds: a node, and a loop over a split's children, at the rules of a frame in the terms
--- of the code; and when a box holds a reading, for its callers too. Assumes nothing.
+-- of the code, the walk being lent anything for bands and coefficients; and when a box holds a reading, for its callers too. Assumes nothing.
 use Prim.Native.Nat.{ℕ, suc, _+_, _-_, _≤_, _<_}
 use mathlib.Core.Path.{_≡_, refl, sym, ap, _∙_}
 use mathlib.Core.Bool.{true, false}
@@ -13,6 +13,7 @@ use Rattle.laws.specs.Tests.{first-within, first-behind}
 use Rattle.meaning.specs.declared.Found.{Found}
 use Rattle.meaning.specs.declared.Number.{Number}
 use Rattle.meaning.specs.declared.Refusal.{Refusal}
+use Rattle.meaning.specs.declared.Tried.the-variants.{Works}
 use Rattle.meaning.specs.declared.Walk.{Walk}
 use Rattle.meaning.specs.Boxes.{Side, sideAt, sidesOf, fits, children}
 use Rattle.meaning.specs.Control.{tileFound, among, find}
@@ -22,9 +23,11 @@ use Rattle.meaning.specs.Refusals.{broken, badTable}
 use Rattle.meaning.specs.Rules.{Rules, holds}
 use Rattle.meaning.specs.Tables.{readingOf}
 use Rattle.meaning.specs.Verdicts.{modesAt}
+use Rattle.promises.specs.tables.Steps.{walk-same}
 use Rattle.promises.specs.tables.Walking.{lookAmong, among-none, among-here, among-more, among-refused, find-broken, find-deep, find-stuck, find-split, find-over, find-tile}
 use Rattle.tables.specs.declared.frames.Frame.{Frame}
-use Rattle.tables.specs.Frames.{rulesIn}
+use Rattle.tables.specs.Boxes.{boxOf}
+use Rattle.tables.specs.Frames.{stepIn, rulesIn}
 use Rattle.tables.specs.Modes.{told}
 use Rattle.tables.specs.Walks.{walkBy}
 use Rattle.tables.proofs.boxes.Laws.{holdsAt, fits-tab}
@@ -51,9 +54,9 @@ tile-found us m from k w next q g = ap (λ (v : Walk). tileFound (told v us) fro
 
 -- ---- a node
 
-module _ (f : Frame) (bands coef : List ℤ) (x : List ℤ) where
+module _ (f : Frame) (x : List ℤ) where
   abbrev rules : Rules
-  rules = rulesIn f bands coef
+  rules = rulesIn f [] []
 
   -- the look among the children of the box b of a split at `node`, c of them passed, w the place behind them
   abbrev pub lookFrom : ℕ → List ℕ → ℕ → List Side → ℕ → ℕ → Found
@@ -99,9 +102,12 @@ module _ (f : Frame) (bands coef : List ℤ) (x : List ℤ) where
           ap (λ (k : List Side). find rules d s w k x) q
           ∙ sym (among-here (λ k. holds rules k x) (λ q k. find rules d s q k x) (walkBy false rules d s) node (children b) c w [] h (rw q at e))
 
-      module _ (e : all (fits kid (readingOf (f .n) x)) ≡ false) (v : Walk) (g : v ≡ walkBy false rules d s w kid) where
+      module _ (e : all (fits kid (readingOf (f .n) x)) ≡ false) (bands coef : List ℤ) (v : Walk) (g : v ≡ walkBy false (rulesIn f bands coef) d s w kid) where
         came : walkBy false rules d s w (getD (children b) c []) ≡ v
-        came = ap (λ (k : List Side). walkBy false rules d s w k) (sym q) ∙ sym g
+        came =
+            ap (λ (k : List Side). walkBy false rules d s w k) (sym q)
+            ∙ walk-same (f .n) (f .modes) (f .k) (f .d) (boxOf (f .n) (f .root)) (boxOf (f .n) (f .goal)) (boxOf (f .n) (f .safe)) (stepIn f [] []) (stepIn f bands coef) (λ _ _. Works) d s w kid
+            ∙ sym g
 
         pub look-more : (m : ℕ) → v ≡ Walk.Next m → lookFrom d s node b (c + 1) m ≡ lookFrom d s node b c w
         look-more m u =

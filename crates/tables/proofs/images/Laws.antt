@@ -17,12 +17,12 @@ use Rattle.laws.specs.Tabs.{length-tab, tab-snoc, map-tab}
 use Rattle.laws.specs.Tests.{orders, all-tab}
 use Rattle.meaning.specs.Boxes.{Side, side, sideAt, covers, within}
 use Rattle.meaning.specs.Images.{Row, leastOf, greatestOf, extreme, imageSide, image}
-use Rattle.meaning.specs.Plants.{edgeLimit, bandLimit, entryLimit, mostCoefs, bandStart, bandSide}
+use Rattle.meaning.specs.Plants.{edgeLimit, bandLimit, entryLimit, bandStart, bandSide}
 use Rattle.tables.specs.declared.frames.Frame.{Frame}
 use Rattle.tables.specs.Boxes.{boxOf, Small}
 use Rattle.promises.specs.files.Sound.{Bounded}
 use Rattle.tables.specs.Images.{positivePart, negativePart, termLimit, rowLimit, entryAt, entriesOf, rowFrom, stepFrom, RowSound, BandSound, Extremes}
-use Rattle.tables.specs.Frames.{FrameSound}
+use Rattle.tables.specs.Frames.{PlantSound}
 use Rattle.tables.proofs.boxes.Laws.{small-at, small-tab, small-side, between, sides-stored, lies-tab}
 
 -- ---- one term: by the sign of a; and the greatest is the least of the turned side
@@ -151,7 +151,7 @@ module _ (n : ℕ) (coef : List ℤ) (start : ℕ) (ss : ℕ → Side) where
       summed-more greatestOf (entryAt coef start) ss j y hi (w .1) (greatest-small (entryAt coef start j) (ss j) (r .entries j h) bounded) (e .1),
     )
 
-    pub sums-place : (j < 4) × (start + j < mostCoefs)
+    pub sums-place : (j < 4) × (start + j < length coef)
     sums-place = (omega (arith, r .rooms), omega (arith, r .inside))
 
     pub sums-asked : (lo hi : ℤ) → Sums j lo hi → ((natAbs (entryAt coef start j) ≤ entryLimit) × Bounded edgeLimit (ss j)) × ((natAbs lo ≤ rowLimit) × (natAbs hi ≤ rowLimit))
@@ -166,8 +166,12 @@ module _ (n : ℕ) (bands : List ℤ) (u i place : ℕ) (e : place ≡ bandStart
   pub band-here : bandHere ≡ bandSide n bands u i
   band-here = rw e refl
 
-  pub band-small : BandSound n bands u i → Bounded bandLimit bandHere
-  band-small g = rw e (g .ends)
+  module _ (g : BandSound n bands u i) where
+    pub band-small : Bounded bandLimit bandHere
+    band-small = rw e (g .ends)
+
+    pub band-inside : place + 1 < length bands
+    band-inside = rw e (g .inside)
 
 -- ---- the image, side by side
 
@@ -235,7 +239,7 @@ inside-small a s b e o =
       order = o;
     }
 
-module _ (f : Frame) (bands coef : List ℤ) (g : FrameSound f bands coef) (u : ℕ) (m : u < f .modes) (b : List Side) (s : Small edgeLimit b) where
+module _ (f : Frame) (bands coef : List ℤ) (g : PlantSound f bands coef) (u : ℕ) (m : u < f .modes) (b : List Side) (s : Small edgeLimit b) where
   abbrev next : List Side
   next = image (stepFrom (f .n) (f .q) bands coef u) b
 
@@ -253,6 +257,6 @@ module _ (f : Frame) (bands coef : List ℤ) (g : FrameSound f bands coef) (u : 
 
       at-side : (j : ℕ) → j < f .n → Bounded edgeLimit (sides j)
       at-side j h =
-          inside-small (sides j) (safe j) (small-side (f .safe .lo) (f .safe .hi) (f .n) j (g .safe) h)
+          inside-small (sides j) (safe j) (small-side (f .safe .lo) (f .safe .hi) (f .n) j (g .0 .safe) h)
           (rw zero-add at (all-tab (λ j. covers (safe j) (sides j)) (f .n) 0 j h inside))
-          (side-order edgeLimit (f .q) b (rowFrom (f .n) bands coef u j) s (g .least) (g .wide u j m h))
+          (side-order edgeLimit (f .q) b (rowFrom (f .n) bands coef u j) s (g .0 .least) (g .1 .wide u j m h))

@@ -1,4 +1,4 @@
--- Laws for the proof of module limits: limits fit the machine's words; the array is laid mode by mode, and marked.
+-- Laws for the proof of module limits: limits fit the machine's words; a slice is laid mode by mode, and another is marked.
 -- Assumes nothing.
 use Prim.Native.Nat.{ℕ, _+_, _-_, _≤_, _<_}
 use mathlib.Core.Path.{_≡_, refl, ap, _∙_}
@@ -17,7 +17,7 @@ use Rattle.meaning.specs.Boxes.{Side, side}
 use Rattle.meaning.specs.Plants.{edgeLimit, bandLimit, bandSide}
 use Rattle.promises.specs.files.Sound.{Bounded}
 use Rattle.tables.specs.Levels.{wide, sideIn, Beside}
-use Rattle.tables.specs.Limits.{limitSide, mostModes, safeAt, goalAt, markAt, offsetAt, lastEntries, lastOffset, LaidAt, Laid, MarkedAt, Marked}
+use Rattle.tables.specs.Limits.{limitSide, safeAt, goalAt, markAt, offsetAt, lastEntries, lastOffset, LaidAt, Laid, MarkedAt, Marked}
 use Rattle.tables.proofs.levels.Laws.{at-other}
 
 -- ---- what the machine holds of a side: itself, of a small one and of its limits
@@ -44,7 +44,7 @@ module _ (q : ℕ) (w s : Side) (h : q ≤ 10_000) (g : Bounded bandLimit w) (e 
       ap held {x = t} {y = limitSide q w s} (k ∙ ap (λ (v : Side). limitSide q v (held s)) (band-held w g) ∙ ap (λ (v : Side). limitSide q w v) (edge-held s e))
       ∙ rw (exact (var (limitSide q w s .lo) (bound from) (size from)) tt, exact (var (limitSide q w s .hi) (bound to) (size to)) tt) refl
 
--- ---- the array, mode by mode
+-- ---- the limits, mode by mode
 
 module _ (n q : ℕ) (rooms : n ≤ 4) (goal safe : ℕ → Side) (bands : List ℤ) where
   -- mode u behind u of them: x is the array with its limits of S, y with those of the goal too
@@ -64,22 +64,12 @@ module _ (n q : ℕ) (rooms : n ≤ 4) (goal safe : ℕ → Side) (bands : List 
             in-goal = λ i k. before (goalAt v) i (omega arith) (omega arith) ∙ old v h .in-goal i k;
           }
 
-  -- what stands behind the boxes is of none
-  pub laid-beside : (modes : ℕ) (l : List ℤ) (p : ℕ) (z : ℤ) → modes ≤ mostModes → markAt 0 ≤ p → Laid n modes q goal safe bands l → Laid n modes q goal safe bands (set l p z)
-  laid-beside modes l p z few f g u h = record {
-    in-safe = λ i k. same (safeAt u) i (λ e. absurd (omega arith)) (λ e. absurd (omega arith)) ∙ g u h .in-safe i k;
-    in-goal = λ i k. same (goalAt u) i (λ e. absurd (omega arith)) (λ e. absurd (omega arith)) ∙ g u h .in-goal i k;
-  }
-    where
-      same : (base i : ℕ) → (base + i ≡ p → ⊥) → (base + 4 + i ≡ p → ⊥) → sideIn (set l p z) base i ≡ sideIn l base i
-      same base i a b = rw (at-other l p z (base + i) a, at-other l p z (base + 4 + i) b) refl
-
 -- ---- the last rows
 
 -- mode m behind m of them: its mark z, and its offset o
-pub marked-more : (n : ℕ) (coef l : List ℤ) (m : ℕ) (z o : ℤ) → m < mostModes → offsetAt m < length l → ((z ≡ pos 0 → ⊥) → (1 ≤ m) × (lastEntries n coef (m - 1) ≡ lastEntries n coef m)) → o ≡ lastOffset n coef m
+pub marked-more : (n : ℕ) (coef l : List ℤ) (m : ℕ) (z o : ℤ) → offsetAt m < length l → ((z ≡ pos 0 → ⊥) → (1 ≤ m) × (lastEntries n coef (m - 1) ≡ lastEntries n coef m)) → o ≡ lastOffset n coef m
     → Marked n m coef l → Marked n (m + 1) coef (set (set l (markAt m) z) (offsetAt m) o)
-marked-more n coef l m z o few h new e old u k = go (ℕ-discrete u m)
+marked-more n coef l m z o h new e old u k = go (ℕ-discrete u m)
   where
     x : List ℤ
     x = set l (markAt m) z

@@ -4,15 +4,14 @@ use mathlib.Core.Path.{_≡_, refl, sym, ap}
 use mathlib.Core.List.{List}
 use mathlib.Core.Option.{none, some}
 use Rattle.meaning.specs.declared.Refusal.{Refusal}
-use Rattle.meaning.specs.declared.Plant.{Plant}
 use Rattle.meaning.specs.Refusals.{noTable}
 use Rattle.meaning.specs.Files.{Judged, good, bad}
 use Rattle.meaning.specs.Buffers.{refusedWith, left}
-use Rattle.meaning.specs.Plants.{plantJudged}
+use Rattle.meaning.specs.Plants.{Plant, plantJudged}
 use Rattle.meaning.specs.Rules.{Rules}
 use Rattle.meaning.specs.Tables.{made, makerLeft}
 use Rattle.tables.specs.declared.frames.Frame.{Frame}
-use Rattle.tables.specs.Frames.{frameOf, rulesIn}
+use Rattle.tables.specs.Frames.{ownFrame, rulesIn}
 use Rattle.tables.specs.Drafts.{definedBytes}
 use Rattle.tables.specs.Makes.{definedLeft}
 use Rattle.tables.proofs.drafts.Laws.{table-none, table-some}
@@ -31,6 +30,6 @@ module _ (plant buf : List ℕ) where
   unfolding makerLeft made
   left-bad e h = rw h refl
 
-  pub left-own : (p : Plant) → plantJudged plant ≡ good p → (f : Frame) → f ≡ frameOf p → definedLeft (rulesIn f (p .bands) (p .coef)) buf ≡ makerLeft plant buf
+  pub left-own : (p : Plant) → plantJudged plant ≡ good p → (f : Frame) → f ≡ ownFrame p → definedLeft (rulesIn f (p .bands) (p .coef)) buf ≡ makerLeft plant buf
   unfolding makerLeft made
   left-own p h f e = rw (h, e) refl

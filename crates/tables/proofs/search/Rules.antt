@@ -33,7 +33,7 @@ use Rattle.tables.proofs.search.Laws.{first-same}
 divided-image : (f : Frame) (bands coef : List ℤ) (u : ℕ) (b : List Side) → imageLent (f .n) (f .q) bands coef u b ≡ image (stepIn f bands coef u) b
 divided-image f bands coef u b = sym (image-tab (f .n) (f .q) bands coef u b)
 
-module _ (f : Frame) (bands coef limits : List ℤ) (g : LimitsLaid f bands coef limits) (u : ℕ) (m : u < f .modes) (b : List Side) where
+module _ (f : Frame) (bands coef limits marks : List ℤ) (g : LimitsLaid f bands coef limits marks) (u : ℕ) (m : u < f .modes) (b : List Side) where
   abbrev sides : ℕ → Side
   sides = imageSideAt (f .n) (f .q) bands coef u b
 
@@ -60,18 +60,17 @@ module _ (f : Frame) (bands coef limits : List ℤ) (g : LimitsLaid f bands coef
 abbrev ending : Bool → Option (List ℕ)
 ending t = guard t none λ _. some []
 
-module _ (f : Frame) (bands coef limits : List ℤ) (g : LimitsLaid f bands coef limits) where
+module _ (f : Frame) (bands coef limits marks : List ℤ) (g : LimitsLaid f bands coef limits marks) where
   pub lent : Lent (f .n) (f .modes) (f .q) bands coef limits
   lent = record {
     some = g .sound .some;
     rooms = g .sound .rooms;
-    few = g .sound .modes;
+    room = g .room;
     least = g .sound .least;
     most = g .sound .most;
-    rows = λ u h. λ i k. g .sound .rows u i h k;
-    band = λ u h. λ i k. g .sound .band u i h k;
-    marked = g .marked;
-    small = λ u b h s e. rw (divided-image f bands coef u b) (small-image f bands coef (g .sound) u h b s (sym (covered-safe f bands coef limits g u h b) ∙ e));
+    rows = λ u h. λ i k. g .modes .rows u i h k;
+    band = λ u h. λ i k. g .modes .band u i h k;
+    small = λ u b h s e. rw (divided-image f bands coef u b) (small-image f bands coef (g .sound, g .modes) u h b s (sym (covered-safe f bands coef limits marks g u h b) ∙ e));
   }
 
   -- mode u, and behind it the first j that work from the image: none where the image leaves S
@@ -84,7 +83,7 @@ module _ (f : Frame) (bands coef limits : List ℤ) (g : LimitsLaid f bands coef
   -- an image in the goal lies in S, so that the last step asks for the goal alone
   last-is : (b : List Side) (u : ℕ) → u < f .modes → ending (landsLent (f .n) coef limits u b) ≡ defined 0 b u
   unfolding exactly
-  last-is b u h = ap ending (covered-goal f bands coef limits g u h b) ∙ go (within c (boxOf (f .n) (f .safe))) (within c (boxOf (f .n) (f .goal))) refl refl
+  last-is b u h = ap ending (covered-goal f bands coef limits marks g u h b) ∙ go (within c (boxOf (f .n) (f .safe))) (within c (boxOf (f .n) (f .goal))) refl refl
     where
       c : List Side
       c = image (stepIn f bands coef u) b
@@ -99,7 +98,7 @@ module _ (f : Frame) (bands coef limits : List ℤ) (g : LimitsLaid f bands coef
   behind-is zero b u h = last-is b u h
   behind-is (suc j) b u h =
       let c = image (stepIn f bands coef u) b in
-      rw (covered-safe f bands coef limits g u h b, divided-image f bands coef u b, first-same (lentBehind j c) (defined j c) (f .modes) 0 (λ v k. behind-is j c v (omega arith))) refl
+      rw (covered-safe f bands coef limits marks g u h b, divided-image f bands coef u b, first-same (lentBehind j c) (defined j c) (f .modes) 0 (λ v k. behind-is j c v (omega arith))) refl
 
   sought-is : (j : ℕ) (b : List Side) → sought (movesLent (f .n) (f .modes) (f .q) bands coef limits) j b ≡ exactly (rulesIn f bands coef) (suc j) b
   unfolding exactly

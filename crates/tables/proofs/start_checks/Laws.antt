@@ -10,13 +10,12 @@ use lib.ListN.{length, drop, length-take}
 use borrow.Author.Tests.{eq-eqb, ne-eqb}
 use Rattle.laws.specs.Guards.{guard}
 use Rattle.meaning.specs.declared.Number.{Number}
-use Rattle.meaning.specs.declared.Plant.{Plant}
 use Rattle.meaning.specs.declared.Refusal.{Refusal}
 use Rattle.meaning.specs.declared.Verdict.{Verdict}
 use Rattle.meaning.specs.declared.Walk.{Walk}
 use Rattle.meaning.specs.Files.{good, bad}
 use Rattle.meaning.specs.Numbers.{numberAt}
-use Rattle.meaning.specs.Plants.{plantJudged}
+use Rattle.meaning.specs.Plants.{Plant, plantJudged}
 use Rattle.meaning.specs.Refusals.{broken, unfit, moved}
 use Rattle.meaning.specs.Rules.{Rules}
 use Rattle.meaning.specs.Starts as S

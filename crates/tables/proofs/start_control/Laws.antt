@@ -1,9 +1,9 @@
 -- A call on a start file in the terms that the code has: the table that is called, by the boxes that hold the reading; the call on it; the whole. Assumes
 -- nothing.
 use Prim.Native.Nat.{ℕ, zero, suc, _+_, _≤_, _<_}
-use mathlib.Core.Path.{_≡_, refl, sym, ap, _∙_}
+use mathlib.Core.Path.{_≡_, refl, sym, ap, _∙_, fun-ext}
 use mathlib.Core.Bool.{Bool, true, false, _&&_, _||_, not, cond}
-use mathlib.Core.List.{List}
+use mathlib.Core.List.{List, []}
 use native.Mathlib.Omega.{arith}
 use native.Mathlib.Nat.{zero-add}
 use lib.Dec.{leb, eqb}
@@ -15,7 +15,6 @@ use Rattle.laws.specs.Lists.{tab, all, firstFalse}
 use Rattle.laws.specs.Tabs.{tab-same}
 use Rattle.laws.specs.Tests.{never, first, second}
 use Rattle.meaning.specs.declared.Answer.{Answer}
-use Rattle.meaning.specs.declared.Plant.{Plant}
 use Rattle.meaning.specs.declared.Refusal.{Refusal}
 use Rattle.meaning.specs.declared.StartAnswer.{StartAnswer}
 use Rattle.meaning.specs.declared.StartState.{StartState}
@@ -24,7 +23,7 @@ use Rattle.meaning.specs.declared.Verdict.{Verdict}
 use Rattle.meaning.specs.Boxes.{Side, fits}
 use Rattle.meaning.specs.Control.{idle, call}
 use Rattle.meaning.specs.Files.{good, bad}
-use Rattle.meaning.specs.Plants.{plantJudged, rootOf}
+use Rattle.meaning.specs.Plants.{Plant, plantJudged, rootOf}
 use Rattle.meaning.specs.Refusals.{outside, badState}
 use Rattle.meaning.specs.Starts as S
 use Rattle.meaning.specs.Starts.{above, boxAt, chosen, part, isIdle, stateIn, answerIn, onPart, onStart, callIn, startCall, startControlled}
@@ -36,10 +35,11 @@ use Rattle.tables.specs.declared.start_control.Choice.{Choice}
 use Rattle.tables.specs.Boxes.{boxOf}
 use Rattle.tables.specs.Chains.{valuesIn, bxAt, frameAt}
 use Rattle.tables.specs.Control.{admission}
-use Rattle.tables.specs.Frames.{frameOf, rulesIn}
+use Rattle.tables.specs.Frames.{ownFrame, rulesIn}
 use Rattle.tables.specs.Parts.{partBehind}
 use Rattle.tables.specs.StartControl.{fitsAt, missesAt, idleChoice, choiceOf, onChoice, callBehind, startAnswer}
 use Rattle.tables.proofs.chains.Laws.{Edged, in-edged, box-same, answers-at}
+use Rattle.tables.proofs.control.Laws.{call-by}
 use Rattle.tables.proofs.finds.Laws.{held, not-held}
 use Rattle.tables.proofs.parts.Laws.{by-part}
 
@@ -155,14 +155,14 @@ module _ (n : ℕ) (root : List Side) (vs : List ℤ) (x : List ℤ) where
 
 -- ---- the call on it
 
-module _ (f : Frame) (bands coef : List ℤ) (s : List ℕ) (at i : ℕ) (st : State) (x : List ℤ) (p : Part) (q : p ≡ partBehind i s at) where
+module _ (f : Frame) (s : List ℕ) (at i : ℕ) (st : State) (x : List ℤ) (p : Part) (q : p ≡ partBehind i s at) where
   abbrev behind : ℕ → ℕ → StartAnswer
-  behind first size = answerIn i first (call (rulesIn f bands coef) (part s first size) st x)
+  behind first size = answerIn i first (call (rulesIn f [] []) (part s first size) st x)
 
-  pub behind-refused : (e : Refusal) → p ≡ Part.Refused e → StartAnswer.Refused e ≡ callBehind f bands coef s at i st x
+  pub behind-refused : (e : Refusal) → p ≡ Part.Refused e → StartAnswer.Refused e ≡ callBehind f s at i st x
   behind-refused e h = sym (by-part s i at StartAnswer.Refused behind ∙ rw (← q, h) refl)
 
-  pub behind-answered : (first size : ℕ) → p ≡ Part.At first size → (a : Answer) → a ≡ call (rulesIn f bands coef) (part s first size) st x → answerIn i first a ≡ callBehind f bands coef s at i st x
+  pub behind-answered : (first size : ℕ) → p ≡ Part.At first size → (a : Answer) → a ≡ call (rulesIn f [] []) (part s first size) st x → answerIn i first a ≡ callBehind f s at i st x
   behind-answered first size h a t = ap (answerIn i first) t ∙ sym (by-part s i at StartAnswer.Refused behind ∙ rw (← q, h) refl)
 
 -- ---- the whole, for a plant
@@ -209,15 +209,19 @@ onChoice-same (Choice.Refused e) f g h = refl
 onChoice-same (Choice.Table i) f g h = h i
 
 module _ (p : Plant) (rooms : p .n ≤ 4) (edges vs : List ℤ) (q : Edged edges vs) (m : ℕ) (c : m ≡ above vs) where
-  pub answer-as : (f : Frame) → f ≡ frameOf p → (s : List ℕ) (at : ℕ) (st : StartState) (x : List ℤ) → startAnswer f edges (p .bands) (p .coef) s m at st x ≡ startCall p vs s at st x
+  pub answer-as : (f : Frame) → f ≡ ownFrame p → (s : List ℕ) (at : ℕ) (st : StartState) (x : List ℤ) → startAnswer f edges s m at st x ≡ startCall p vs s at st x
   answer-as f e s at st x =
       let box : (i : ℕ) → boxAt (p .n) (rootOf p) (valuesIn m edges) i ≡ boxAt (p .n) (rootOf p) vs i =
-      λ i. sym (box-same (p .n) rooms edges (valuesIn m edges) (in-edged m edges) (frameOf p .root) i) ∙ box-same (p .n) rooms edges vs q (frameOf p .root) i in
-      ap (λ (g : Frame). startAnswer g edges (p .bands) (p .coef) s m at st x) e
-      ∙ ap (λ (o : Choice). onChoice o StartAnswer.Refused (λ i. callBehind (frameAt (frameOf p) edges i) (p .bands) (p .coef) s at i (st .state) x)) (choice-same (p .n) (rootOf p) (valuesIn m edges) vs st x c box)
-      ∙ onChoice-same (choiceOf (p .n) (rootOf p) vs st x) (λ i. callBehind (frameAt (frameOf p) edges i) (p .bands) (p .coef) s at i (st .state) x) (λ i. callIn p vs s at i (st .state) x)
-      (λ i. answers-at p rooms edges vs q (λ root goal. onPart i s at StartAnswer.Refused λ first size. answerIn i first (call (tableRules p root goal) (part s first size) (st .state) x)) i)
+      λ i. sym (box-same (p .n) rooms edges (valuesIn m edges) (in-edged m edges) (ownFrame p .root) i) ∙ box-same (p .n) rooms edges vs q (ownFrame p .root) i in
+      ap (λ (g : Frame). startAnswer g edges s m at st x) e
+      ∙ ap (λ (o : Choice). onChoice o StartAnswer.Refused (λ i. callBehind (frameAt (ownFrame p) edges i) s at i (st .state) x)) (choice-same (p .n) (rootOf p) (valuesIn m edges) vs st x c box)
+      ∙ onChoice-same (choiceOf (p .n) (rootOf p) vs st x) (λ i. callBehind (frameAt (ownFrame p) edges i) s at i (st .state) x) (λ i. callIn p vs s at i (st .state) x)
+      (λ i. by-rules i (frameAt (ownFrame p) edges i) ∙ answers-at p rooms edges vs q (λ root goal. onPart i s at StartAnswer.Refused λ first size. answerIn i first (call (tableRules p root goal) (part s first size) (st .state) x)) i)
       ∙ called-as p vs s at st x
+    where
+      -- a call hangs on no band and no coefficient
+      by-rules : (i : ℕ) (f : Frame) → callBehind f s at i (st .state) x ≡ onPart i s at StartAnswer.Refused λ first size. answerIn i first (call (rulesIn f (p .bands) (p .coef)) (part s first size) (st .state) x)
+      by-rules i f = ap (λ (answer : List ℕ → Answer). onPart i s at StartAnswer.Refused λ first size. answerIn i first (answer (part s first size))) (fun-ext (λ t. call-by f [] [] (p .bands) (p .coef) t (st .state) x))
 
 module _ (plant start : List ℕ) (st : StartState) (x : List ℤ) where
   pub plant-bad : (e : Refusal) → plantJudged plant ≡ bad e → StartAnswer.Refused e ≡ startControlled plant start st x

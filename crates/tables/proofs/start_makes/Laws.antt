@@ -11,18 +11,18 @@ use lib.ListN.{length}
 use borrow.Author.Tests.{le-leb}
 use Rattle.laws.specs.Writing.{Put, put-append, put-length, put-none}
 use Rattle.meaning.specs.declared.Refusal.{Refusal}
-use Rattle.meaning.specs.declared.Plant.{Plant}
 use Rattle.meaning.specs.declared.Verdict.{Verdict}
 use Rattle.meaning.specs.declared.Walk.{Walk}
 use Rattle.meaning.specs.declared.Written.{Written}
 use Rattle.meaning.specs.Refusals.{noTable, short}
-use Rattle.meaning.specs.Buffers.{refusedWith, left}
+use Rattle.meaning.specs.Buffers.{Left, refusedWith, left}
 use Rattle.meaning.specs.Defined.{mapSome}
-use Rattle.meaning.specs.Files.{Judged, good, bad}
+use Rattle.meaning.specs.Files.{Judged, good, bad, valuesOf}
+use Rattle.meaning.specs.Images.{Step}
 use Rattle.meaning.specs.Numbers.{bytesOf}
 use Rattle.meaning.specs.Rules.{Rules}
-use Rattle.meaning.specs.Plants.{plantJudged}
-use Rattle.meaning.specs.Starts.{chainForm, above, partsOf, tableWith, tableBefore, tablesFrom, startBytes, startMade, startLeft}
+use Rattle.meaning.specs.Plants.{Plant, plantJudged}
+use Rattle.meaning.specs.Starts.{chainForm, above, boxAt, boxBelow, onChain, partsOf, tableWith, tableBefore, tablesFrom, startBytes, startMade, startLeft}
 use Rattle.meaning.specs.Tables.{rulesFrom, definedTable}
 use Rattle.promises.specs.files.Buffers.{left-short}
 use Rattle.promises.specs.files.Files.{file-writes}
@@ -32,7 +32,7 @@ use Rattle.tables.specs.declared.frames.Frame.{Frame}
 use Rattle.tables.specs.Boxes.{boxOf}
 use Rattle.tables.specs.Chains.{chainRead}
 use Rattle.tables.specs.Drafts.{Wrote, definedBytes}
-use Rattle.tables.specs.Frames.{frameOf, stepIn}
+use Rattle.tables.specs.Frames.{ownFrame, stepIn}
 use Rattle.tables.specs.StartMakes.{withLength, partBytes, WroteParts, framesRules, framesTables, behindChain, valuesRules, chainLeft}
 use Rattle.tables.proofs.chains.Laws.{boxes-same, Chained, chain-refused, chain-edged, chain-goes}
 use Rattle.tables.proofs.drafts.Laws.{table-none, table-some}
@@ -183,6 +183,20 @@ module _ (f : Frame) (bands coef : List ℤ) (chain buf : List ℕ) (r : ChainRe
         ap (λ (j : Judged (List ℕ)). left j buf)
         (ap (behindChain chain) tables ∙ written (tablesFrom (valuesRules f bands coef (t .vs)) (above (t .vs) + 1) 0) ∙ chain-goes true f chain r q t bad rest)
 
+-- bands and coefficients count by what the modes do with them alone
+pub chain-steps : (f : Frame) (bands coef bands′ coef′ : List ℤ) → stepIn f bands coef ≡ stepIn f bands′ coef′ → (chain buf : List ℕ) → chainLeft f bands coef chain buf ≡ chainLeft f bands′ coef′ chain buf
+chain-steps f bands coef bands′ coef′ e chain buf = ap made e
+  where
+    rules : (ℕ → Step) → List ℤ → ℕ → Rules
+    rules step vs i =
+        let root = boxOf (f .n) (f .root) in
+        rulesFrom (f .n) (f .modes) (f .k) (f .d) (boxAt (f .n) root vs i) (boxBelow (f .n) root vs i) (boxOf (f .n) (f .safe)) step
+
+    made : (ℕ → Step) → Left
+    made step =
+        left (onChain (f .n) (boxOf (f .n) (f .root)) (boxOf (f .n) (f .safe)) (valuesOf (chainForm (f .n)) chain) bad λ vs _.
+        startBytes (f .n) vs (tablesFrom (rules step vs) (above vs + 1) 0)) buf
+
 -- ---- for a plant: its own frame's
 
 module _ (plant chain buf : List ℕ) where
@@ -190,6 +204,6 @@ module _ (plant chain buf : List ℕ) where
   unfolding startLeft startMade
   start-bad e h = rw h refl
 
-  pub start-own : (p : Plant) → plantJudged plant ≡ good p → (f : Frame) → f ≡ frameOf p → chainLeft f (p .bands) (p .coef) chain buf ≡ startLeft plant chain buf
+  pub start-own : (p : Plant) → plantJudged plant ≡ good p → (f : Frame) → f ≡ ownFrame p → chainLeft f (p .bands) (p .coef) chain buf ≡ startLeft plant chain buf
   unfolding startLeft startMade
   start-own p h f e = rw (h, e) refl

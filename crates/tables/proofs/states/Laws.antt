@@ -1,18 +1,21 @@
 -- Laws of a state for the proofs of module states: each test that fails alone, and all of them together; the mode at a place with none left, one, and
 -- more. Assumes nothing.
-use Prim.Native.Nat.{ℕ, zero, suc, _+_, _-_, _≤_, _<_}
-use mathlib.Core.Path.{_≡_, refl}
+use Prim.Native.Nat.{ℕ, zero, suc, _-_, _≤_, _<_}
+use mathlib.Core.Path.{_≡_, refl, sym, ap, _∙_}
 use mathlib.Core.Bool.{Bool, true, false, _&&_}
 use mathlib.Core.List.{List}
 use native.Mathlib.Omega.{arith}
-use lib.Dec.{ltb, leb}
-use lib.ListN.{length}
+use lib.Dec.{leb}
 use borrow.Author.Tests.{le-leb, lt-leb}
 use Rattle.meaning.specs.declared.Answer.{Answer}
 use Rattle.meaning.specs.declared.Number.{Number}
-use Rattle.meaning.specs.Control.{idle, isMode, canRun, modeAt}
+use Rattle.meaning.specs.declared.Refusal.{Refusal}
+use Rattle.meaning.specs.declared.Walk.{Walk}
+use Rattle.meaning.specs.Control.{idle, areRead, canRun, modeAt}
 use Rattle.meaning.specs.Numbers.{numberAt}
 use Rattle.meaning.specs.Refusals.{badState}
+use Rattle.meaning.specs.Verdicts.{modesAt}
+use Rattle.tables.specs.Modes.{told}
 
 and-false : (t : Bool) → (t && false) ≡ false
 and-false true = refl
@@ -25,19 +28,16 @@ module _ (K N : ℕ) (s : List ℕ) (place left : ℕ) where
   pub too-low : place < 2 → false ≡ canRun K N s place left
   too-low h = simp (lt-leb 2 place h, and-false (leb left K))
 
-  pub too-far : length s < place + left → false ≡ canRun K N s place left
-  too-far h = simp (lt-leb (place + left) (length s) h, and-false (leb left K && leb 2 place))
+  -- the modes there decide: w is the answer for them, us what was read
+  module _ (a : left ≤ K) (b : 2 ≤ place) (w : Walk) (us : List ℕ) (q : told w us ≡ modesAt N left s place) where
+    by-modes : areRead (told w us) ≡ canRun K N s place left
+    by-modes = ap areRead q ∙ simp (le-leb left K a, le-leb 2 place b)
 
-  -- the number there decides
-  module _ (a : left ≤ K) (b : 2 ≤ place) (c : place + left ≤ length s) where
-    by-number : (v : Number) → numberAt s place ≡ v → isMode N v ≡ canRun K N s place left
-    by-number v e = simp (le-leb left K a, le-leb 2 place b, le-leb (place + left) (length s) c, e)
+    pub not-read : (e : Refusal) → w ≡ Walk.Refused e → false ≡ canRun K N s place left
+    not-read e h = sym (ap (λ (v : Walk). areRead (told v us)) h) ∙ by-modes
 
-    pub runs-broken : numberAt s place ≡ Number.Broken → false ≡ canRun K N s place left
-    runs-broken e = by-number Number.Broken e
-
-    pub runs-by-mode : (u next : ℕ) → numberAt s place ≡ Number.Value u next → ltb u N ≡ canRun K N s place left
-    runs-by-mode u next e = by-number (Number.Value u next) e
+    pub all-read : (next : ℕ) → w ≡ Walk.Next next → true ≡ canRun K N s place left
+    all-read next h = sym (ap (λ (v : Walk). areRead (told v us)) h) ∙ by-modes
 
 module _ (s : List ℕ) (place : ℕ) where
   pub none-left : (left : ℕ) → left ≡ 0 → Answer.Refused badState ≡ modeAt s place left

@@ -13,7 +13,7 @@ use Rattle.meaning.specs.Plants.{edgeLimit}
 use Rattle.meaning.specs.Rules.{Rules, ruleFrom}
 use Rattle.tables.specs.declared.frames.Frame.{Frame}
 use Rattle.tables.specs.Boxes.{boxOf, Small}
-use Rattle.tables.specs.Frames.{rulesIn, FrameSound}
+use Rattle.tables.specs.Frames.{rulesIn, PlantSound}
 use Rattle.tables.proofs.images.Laws.{small-image}
 
 -- ---- at any rules: i of k modes are done, and c is what is kept
@@ -47,5 +47,5 @@ module _ (f : Frame) (bands coef : List ℤ) (us : ℕ → ℕ) (k i : ℕ) (c d
     pub tile-more : ruleFrom (rulesIn f bands coef) i c (tab us (k - i) i) ≡ ruleFrom (rulesIn f bands coef) (i + 1) d (tab us (k - (i + 1)) (i + 1))
     tile-more = rule-more (rulesIn f bands coef) us k i c h (rw q at e) ∙ ap (λ (b : List Side). ruleFrom (rulesIn f bands coef) (i + 1) b (tab us (k - (i + 1)) (i + 1))) (sym q)
 
-    pub tile-small : FrameSound f bands coef → us i < f .modes → Small edgeLimit c → Small edgeLimit d
+    pub tile-small : PlantSound f bands coef → us i < f .modes → Small edgeLimit c → Small edgeLimit d
     tile-small g m s = subst (λ (b : List Side). Small edgeLimit b) (sym q) (small-image f bands coef g (us i) m c s (rw q at e))

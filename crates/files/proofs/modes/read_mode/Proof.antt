@@ -23,23 +23,23 @@ lay-requires c κs = search needs
 
 first-narrow-requires : tie.Need-first-narrow-requires
 first-narrow-requires c κs =
-    let z = c .before .before .before .before .before .before .before .before .before in
-    let r = c .before .before .before .before .before .before .before .read-bands in
-    let y = c .before .before .before .before .before .past2 .given in
+    let z = c .before .before .before .before .before .before .before .before .before .before in
+    let r = c .before .before .before .before .before .before .before .before .read-bands in
+    let y = c .before .before .before .before .before .before .past2 .given in
     let t = subst (BandsAs (now (z .args .s)) (z .args .at) (z .args .n) (r .result)) (y .1) (r .ensures) in
-    (z .pre .0 .0, (z .pre .0 .1, t .sizes))
+    (z .pre .0, (z .pre .1, t .sizes))
 
 add-read-rows : tie.Need-add-read-rows
 add-read-rows c = search needs
 
 mul-read-rows : tie.Need-mul-read-rows
-mul-read-rows c = let z = c .before .before .before .before .before .before .before .before .before .before in omega (arith, size-few (z .args .n) (z .pre .0 .0))
+mul-read-rows c = let z = c .before .before .before .before .before .before .before .before .before .before .before in omega (arith, size-few (z .args .n) (z .pre .0))
 
 mul-read-rows-2 : tie.Need-mul-read-rows-2
-mul-read-rows-2 c = let z = c .before .before .before .before .before .before .before .before .before .before in omega (arith, rows-few (z .args .n) (z .args .u) (z .pre .0 .0) (z .pre .0 .2))
+mul-read-rows-2 c = let z = c .before .before .before .before .before .before .before .before .before .before .before in omega (arith, rows-few (z .args .n) (z .args .u) (z .pre .0) (z .pre .2))
 
 read-rows-requires : tie.Need-read-rows-requires
-read-rows-requires c κs = let z = c .before .before .before .before .before .before .before .before .before .before .before in (z .pre .0 .0, omega (arith, rows-few (z .args .n) (z .args .u) (z .pre .0 .0) (z .pre .0 .2)), z .pre .1 .1)
+read-rows-requires c κs = let z = c .before .before .before .before .before .before .before .before .before .before .before .before in (z .pre .0, omega (arith, rows-few (z .args .n) (z .args .u) (z .pre .0) (z .pre .2)))
 
 returns : tie.Need-returns
 returns c =
@@ -48,14 +48,22 @@ returns c =
     let g = c .before .past .given in
     mode-bands-refused (now (z .s)) (z .at) (z .n) (z .q) (z .u) (g .0 .0) (subst (BandsAs (now (z .s)) (z .at) (z .n) (r .result)) (g .1) (r .ensures))
 
+same-length : tie.Need-same-length
+same-length c = search needs
+
+same-length-2 : tie.Need-same-length-2
+same-length-2 c = search needs
+
 returns-2 : tie.Need-returns-2
 returns-2 c =
-    let z = c .before .before .before .before .before .before .before .before .before .before .before .before .args in
-    let r = c .before .before .before .before .before .before .before .before .before .before .read-bands in
-    let y = c .before .before .before .before .before .before .before .before .past2 .given in
+    let z = c .before .before .before .before .before .before .before .before .before .before .before .before .before .before .args in
+    let r = c .before .before .before .before .before .before .before .before .before .before .before .before .read-bands in
+    let y = c .before .before .before .before .before .before .before .before .before .before .past2 .given in
     let t = subst (BandsAs (now (z .s)) (z .at) (z .n) (r .result)) (y .1) (r .ensures) in
-    let thin = c .before .before .first-narrow in
-    mode-told (now (z .s)) (z .at) (z .n) (z .q) (z .u) (r .result) (y .0 .0) t (now (z .coef)) (c .read-rows .last .1 .1 .1 .1 .1 .0) (thin .result) (c .read-rows .result) (c .before .before .before .lay .ensures) (c .read-rows .ensures) (thin .ensures)
+    let l = c .before .before .before .before .before .lay in
+    let thin = c .before .before .before .first-narrow in
+    let w = c .before .read-rows in
+    mode-told (now (z .s)) (z .at) (z .n) (z .q) (z .u) (r .result) (y .0 .0) t (now (z .bands)) (l .last .1 .1 .1 .1 .0) (now (z .coef)) (w .last .1 .1 .1 .1 .1 .0) (thin .result) (w .result) (l .ensures) (w .ensures) (thin .ensures)
 
 pub read-mode-spec : {M : Type 1} → statement M
 read-mode-spec =
@@ -71,4 +79,6 @@ read-mode-spec =
     mul-read-rows-2
     read-rows-requires
     returns
+    same-length
+    same-length-2
     returns-2)

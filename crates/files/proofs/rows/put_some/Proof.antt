@@ -26,14 +26,11 @@ loop-holds c =
     let z : a .from + 0 ≡ a .from = omega arith in
     (omega arith, rw (q, z) (under-none (now (a .buf)) (a .at) (signedBytes (tab (Lists.at (now (a .values))) (a .count) (a .from))) (c .before .pre .1)))
 
-add-v : tie.Need-add-v Inv-loop μ-loop
-add-v c = let p = c .before .before .before .pre in omega (arith, p)
+add-number : tie.Need-add-number Inv-loop μ-loop
+add-number c = let p = c .before .before .before .pre in omega (arith, p)
 
-mul-v : tie.Need-mul-v Inv-loop μ-loop
-mul-v c = let p = c .before .before .before .pre in omega (arith, p)
-
-shared-slice-copy-out-v : tie.Need-shared-slice-copy-out-v Inv-loop μ-loop
-shared-slice-copy-out-v c = let p = c .before .before .before .pre in omega (arith, p)
+number-requires : tie.Need-number-requires Inv-loop μ-loop
+number-requires c κs = tt
 
 put-signed-requires : tie.Need-put-signed-requires Inv-loop μ-loop
 put-signed-requires c κs = tt
@@ -49,9 +46,8 @@ loop-again c =
     let l = c .before .before .before .before .before .before in
     let a = l .before .before .args in
     let i = l .loop .c in
-    let f1 = ok64 (Lists.at (now (a .values)) (a .from + i)) (c .before .before .before .before .v .given) in
-    let t1 = simp (toZ-ofZ f1) at (c .before .before .put-signed .ensures) in
-    (omega arith, under-more (rw (some-step (now (a .values)) (a .from) (a .count) i (omega arith)) at (l .loop .inv .1)) t1)
+    let v = c .before .before .before .before .number in
+    (omega arith, under-more (rw (some-step (now (a .values)) (a .from) (a .count) i (omega arith)) at (l .loop .inv .1)) (rw (toZ-ofZ (ok64 (v .result) (v .ok)), v .ensures) at (c .before .before .put-signed .ensures)))
 
 same-length : tie.Need-same-length Inv-loop μ-loop
 same-length c = c .before .loop .inv .1 .long
@@ -69,9 +65,8 @@ put-some-spec =
     Inv-loop
     μ-loop
     loop-holds
-    add-v
-    mul-v
-    shared-slice-copy-out-v
+    add-number
+    number-requires
     put-signed-requires
     add-c
     loop-less

@@ -13,13 +13,13 @@ use Rattle.sheets.specs.Sizes.{Sized}
 use Rattle.sheets.specs.Wholes.{joined}
 use Rattle.sheets.specs.Bands.{bandsOf}
 use Rattle.sheets.specs.Made.{entriesOf, madeOf}
-use Rattle.sheets.proofs.made.Laws.{modes-some, modes-few, rows-few, count-few}
+use Rattle.sheets.proofs.made.Laws.{rows-few, count-few}
 use Rattle.sheets.proofs.made.Numbers.{behind-few, entries-few, made-is}
 use Rattle.sheets.proofs.made.make.Statement.{statement}
 use Rattle.sheets.proofs.made.make.Tie as tie
 
 -- what the callees told, in the order of the calls
-module _ (h : Sheet) (s : Sized h) (modes : ℕ) (b : Bands) (e : Entries) (m : modes ≡ madeModes h) (w : b ≡ bandsOf h modes) (v : e ≡ entriesOf h (modes * h .n * (h .n + 1))) where
+module _ (h : Sheet) (s : Sized h) (modes : ℕ) (b : Bands) (e : Entries) (m : modes ≡ madeModes h) (w : b ≡ bandsOf h) (v : e ≡ entriesOf h (modes * h .n * (h .n + 1))) where
   entries-fit : e .first ≤ 1000
   entries-fit = rw (v, m) (omega (arith, entries-few h s))
 
@@ -31,7 +31,7 @@ module _ (h : Sheet) (s : Sized h) (modes : ℕ) (b : Bands) (e : Entries) (m : 
         (record {
           fits = eqb first (2 * h .n + modes * h .n * (h .n + 1));
           place = 6 + 4 * h .n + first;
-          plant = record {
+          outline = record {
             form = 1;
             n = h .n;
             modes = modes;
@@ -42,9 +42,9 @@ module _ (h : Sheet) (s : Sized h) (modes : ℕ) (b : Bands) (e : Entries) (m : 
             rhi = h .rhi;
             slo = h .slo;
             shi = h .shi;
-            bands = b .ends;
-            coef = e .coef;
           };
+          ends = b .ends;
+          coef = e .coef;
         })
         (madeOf h)
     together = rw (j, v, w, m) (made-is h s)
@@ -62,7 +62,7 @@ mul-count-2 : tie.Need-mul-count-2
 mul-count-2 c = let s = c .before in rw (c .modes .ensures) (record { fits = omega (arith, count-few (s .args .h) (s .pre)) })
 
 widened-requires : tie.Need-widened-requires
-widened-requires c κs = let s = c .before in (s .pre, (rw (c .modes .ensures) (modes-some (s .args .h)), rw (c .modes .ensures) (modes-few (s .args .h) (s .pre))))
+widened-requires c κs = c .before .pre
 
 coefficients-requires : tie.Need-coefficients-requires
 coefficients-requires c κs = let s = c .before .before in (s .pre, rw (c .before .modes .ensures) (count-few (s .args .h) (s .pre)))

@@ -35,11 +35,11 @@ same-length c = search needs
 
 returns : tie.Need-returns
 returns c =
-    let z = c .before .before .before .before .before .before .before .before .before .before .before .before .args in
-    let r = c .before .before .before .before .before .before .before .before .before .read-values in
-    let m = c .before .before .before .before .before .before .make in
+    let z = c .before .before .before .before .before .before .before .before .before .before .before .before .before .before .before .before .before .args in
+    let r = c .before .before .before .before .before .before .before .before .before .before .before .before .before .before .read-values in
+    let m = c .before .before .before .before .before .before .before .before .before .before .before .make in
     let w = c .before .before .write-plant in
-    let e = fit-left (now (z .sheet)) (r .result) (r .ensures .0) (c .before .before .before .before .before .before .before .enum-told .given .1) (m .result) (m .ensures) (now (z .buf)) (c .before .before .before .before .before .if1 .taken) in
+    let e = fit-left (now (z .sheet)) (r .result) (r .ensures .0) (c .before .before .before .before .before .before .before .before .before .before .before .before .enum-told .given .1) (m .result) (m .ensures) (now (z .buf)) (c .before .before .before .before .before .before .before .before .before .before .if1 .taken) in
     (w .ensures .0 ∙ ap (λ (x : Left). x .answer) (sym e), w .ensures .1 ∙ ap (λ (x : Left). x .buffer) (sym e))
 
 bad-result-requires : tie.Need-bad-result-requires

@@ -9,7 +9,7 @@ use Rattle.meaning.specs.Rules.{Rules}
 use Rattle.tables.specs.Boxes.{boxOf}
 use Rattle.tables.specs.Frames.{frameFrom, rulesIn}
 use Rattle.tables.specs.Walks.{walkBy}
-use Rattle.tables.proofs.frames.Laws.{lent-sound, lent-same}
+use Rattle.tables.proofs.frames.Laws.{lent-sound, lent-modes, lent-same}
 use Rattle.tables.proofs.checks.Laws.{header-stopped, tree-walked}
 use Rattle.tables.proofs.checks.table_end.Statement.{statement}
 use Rattle.tables.proofs.checks.table_end.Tie as tie
@@ -41,7 +41,8 @@ walk-requires c κs =
     let s = c .before .before .before .before .before .before .before .before .before in
     let x = c .before .counts-of in
     let e = c .before .before .edges-of in
-    lent-sound (s .args .f) (x .result) (e .result) (x .ensures) (e .ensures) (now (s .args .bands)) (now (s .args .coef)) (s .pre)
+    let g = lent-sound (s .args .f) (x .result) (e .result) (x .ensures) (e .ensures) (s .pre .0) in
+    (g .0, g .1, λ j. lent-modes (s .args .f) (x .result) (e .result) (x .ensures) (e .ensures) (now (s .args .bands)) (now (s .args .coef)) (s .pre .1))
 
 returns : tie.Need-returns
 returns c =

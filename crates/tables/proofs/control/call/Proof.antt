@@ -1,7 +1,7 @@
 -- `control::call`: the header, then the state. Assumes nothing.
 use Prim.Native.Nat.{ℕ}
 use mathlib.Core.Path.{_∙_}
-use mathlib.Core.List.{List}
+use mathlib.Core.List.{List, []}
 use denote.Ref.{now}
 use Rattle.meaning.specs.Rules.{Rules}
 use Rattle.tables.specs.Frames.{rulesIn}
@@ -12,7 +12,7 @@ use Rattle.tables.proofs.control.call.Tie as tie
 
 module _ (s : tie.Start) where
   abbrev rules : Rules
-  rules = rulesIn (s .args .f) (now (s .args .bands)) (now (s .args .coef))
+  rules = rulesIn (s .args .f) [] []
 
   abbrev bytes : List ℕ
   bytes = now (s .args .table)

@@ -1,7 +1,7 @@
 -- `control::idle_call`: each answer cites its law. Assumes nothing.
 use Prim.Native.Nat.{ℕ}
 use mathlib.Core.Path.{_≡_, sym, ap, _∙_}
-use mathlib.Core.List.{List}
+use mathlib.Core.List.{List, []}
 use denote.Ref.{now}
 use borrow.Author.Needs.{needs}
 use Rattle.meaning.specs.declared.Found.{Found}
@@ -16,7 +16,7 @@ use Rattle.tables.proofs.control.idle_call.Tie as tie
 
 module _ (s : tie.Start) where
   abbrev rules : Rules
-  rules = rulesIn (s .args .f) (now (s .args .bands)) (now (s .args .coef))
+  rules = rulesIn (s .args .f) [] []
 
   abbrev bytes : List ℕ
   bytes = now (s .args .table)
@@ -33,7 +33,7 @@ module _ (c : tie.After-find) where
       let e = c .before .before .before .edges-of in
       c .find .ensures
       ∙ lent-same (start .args .f) (k .result) (e .result) (k .ensures) (e .ensures)
-      (λ k e. find (rulesIn (frameFrom k e) (now (start .args .bands)) (now (start .args .coef))) (start .args .f .d) (bytes start) (start .args .at) (boxOf (k .n) (start .args .f .root)) (start .args .x))
+      (λ k e. find (rulesIn (frameFrom k e) [] []) (start .args .f .d) (bytes start) (start .args .at) (boxOf (k .n) (start .args .f .root)) (start .args .x))
 
   found : (o : Found) → c .find .result ≡ o → onFound (bytes start) o ≡ idleCall (rules start) (bytes start) (start .args .at) (start .args .place) (start .args .x)
   found o e =
@@ -61,7 +61,7 @@ find-requires c κs =
     let s = c .before .before .before .before .before .before .before in
     let k = c .before .counts-of in
     let e = c .before .before .edges-of in
-    lent-sound (s .args .f) (k .result) (e .result) (k .ensures) (e .ensures) (now (s .args .bands)) (now (s .args .coef)) (s .pre)
+    lent-sound (s .args .f) (k .result) (e .result) (k .ensures) (e .ensures) (s .pre)
 
 enum-known-e-2 : tie.Need-enum-known-e-2
 enum-known-e-2 c = search needs

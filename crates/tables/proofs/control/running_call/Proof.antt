@@ -1,7 +1,7 @@
 -- `control::running_call`: each answer cites its law. Assumes nothing.
 use Prim.Native.Nat.{ℕ}
 use mathlib.Core.Path.{_∙_}
-use mathlib.Core.List.{List}
+use mathlib.Core.List.{List, []}
 use denote.Ref.{now}
 use borrow.Author.Needs.{needs}
 use Rattle.meaning.specs.Rules.{Rules}
@@ -12,16 +12,16 @@ use Rattle.tables.proofs.control.running_call.Tie as tie
 
 module _ (s : tie.Start) where
   abbrev rules : Rules
-  rules = rulesIn (s .args .f) (now (s .args .bands)) (now (s .args .coef))
+  rules = rulesIn (s .args .f) [] []
 
   abbrev bytes : List ℕ
   bytes = now (s .args .table)
 
 can-run-requires : tie.Need-can-run-requires
-can-run-requires c κs = search needs
+can-run-requires c κs = c .before .pre .longest
 
 admit-requires : tie.Need-admit-requires
-admit-requires c κs = c .before .before .pre
+admit-requires c κs = c .before .before .pre .rooms
 
 enum-known-e : tie.Need-enum-known-e
 enum-known-e c = search needs

@@ -36,25 +36,25 @@ use Rattle.tables.proofs.search.first.Reads as first-reads
 use Rattle.tables.proofs.drafts.+tree.{statement}
 use Rattle.tables.proofs.drafts.+tree.Tie.{close}
 
-abbrev μ-tree : Measures 5 tree-kinds.ps ℕ
-μ-tree κs a = a .1 .1 .1 .1 .1 .0
+abbrev μ-tree : Measures 6 tree-kinds.ps ℕ
+μ-tree κs a = a .1 .1 .1 .1 .1 .1 .0
 
-abbrev tree-at : ℕ → In 5 tree-kinds.ps
-tree-at t = and 5 tree-kinds.ps (is 5 tree-kinds.ps μ-tree t) tree.Pre
+abbrev tree-at : ℕ → In 6 tree-kinds.ps
+tree-at t = and 6 tree-kinds.ps (is 6 tree-kinds.ps μ-tree t) tree.Pre
 
-abbrev tree-below : ℕ → In 5 tree-kinds.ps
-tree-below t = and 5 tree-kinds.ps (falls 5 tree-kinds.ps _<_ μ-tree t) tree.Pre
+abbrev tree-below : ℕ → In 6 tree-kinds.ps
+tree-below t = and 6 tree-kinds.ps (falls 6 tree-kinds.ps _<_ μ-tree t) tree.Pre
 
 abbrev claims : ℕ → tree-lts.Claims
 claims t = (first-reads.Asked, first-reads.Learnt, put-tile-reads.Asked, put-tile-reads.Learnt, count-reads.Asked, count-reads.Learnt, put-number-reads.Asked, put-number-reads.Learnt, child-reads.Asked, child-reads.Learnt, tree-below t, tree.Post)
 
 abbrev tree-Inv-loop : tree-lts.InvT-loop
-tree-Inv-loop f edges bands coef limits d b buf₀ at n size count place₀ c₀ buf place c =
+tree-Inv-loop f edges bands coef limits marks d b buf₀ at n size count place₀ c₀ buf place c =
     let r = rulesIn (frameFrom f edges) bands coef in
     (c ≤ count) × Growing buf₀ place₀ (treesBytes r (d - 1) (children (boxOf (f .n) b))) (treesBytes r (d - 1) (drop c (children (boxOf (f .n) b)))) place buf
 
 abbrev tree-μ-loop : tree-lts.MeasureT-loop
-tree-μ-loop f edges bands coef limits d b buf₀ at n size count place₀ c₀ buf place c = count - c
+tree-μ-loop f edges bands coef limits marks d b buf₀ at n size count place₀ c₀ buf place c = count - c
 
 -- a call with that much depth: at its start, with a pattern sought, with a split's number written, with a child's tree written
 abbrev Call : ℕ → Type 0
@@ -88,10 +88,10 @@ module _ (t : ℕ) (s : Call t) where
 -- what was sought is the first pattern of the box
 module _ (t : ℕ) (x : Sought t) where
   abbrev modes : List ℕ
-  modes = x .first .last .1 .1 .1 .1 .1 .1 .1 .1 .0
+  modes = x .first .last .1 .1 .1 .1 .1 .1 .1 .1 .1 .0
 
   pattern : let s = x .before .before .before in patternBy (x .first .result) modes ≡ firstPattern (rules t s) (box t s)
-  pattern = let s = x .before .before .before in x .first .ensures .0 ∙ shortest-is (frame t s) (bands t s) (coef t s) (now (s .args .limits)) (s .pre .1 .0) (s .args .f .k) 0 (box t s)
+  pattern = let s = x .before .before .before in x .first .ensures .0 ∙ shortest-is (frame t s) (bands t s) (coef t s) (now (s .args .limits)) (now (s .args .marks)) (s .pre .1 .0) (s .args .f .k) 0 (box t s)
 
 -- whoever writes the children of a split has written its tree
 module _ (t : ℕ) (k : Split t) where
@@ -123,7 +123,7 @@ module _ (t : ℕ) (w : Child t) where
   done = w .before .before .before .before .loop .c
 
   abbrev left : List ℕ
-  left = w .tree .last .1 .1 .1 .1 .1 .1 .1 .0
+  left = w .tree .last .1 .1 .1 .1 .1 .1 .1 .1 .0
 
   in-count : done < length (children (box t (from t parent)))
   in-count = in-box t parent (w .before .before .before .loop-test .taken)
@@ -147,7 +147,7 @@ module _ (t : ℕ) (w : Child t) where
 tree-first-requires : (t : ℕ) → tree-lts.Need-first-requires (claims t) (tree-at t) tree.Post tree-Inv-loop tree-μ-loop
 tree-first-requires t c κs =
     let s = c .before .before in
-    (lent (frame t s) (bands t s) (coef t s) (now (s .args .limits)) (s .pre .1 .0), s .pre .1 .0 .sound .longest, s .pre .1 .1)
+    (lent (frame t s) (bands t s) (coef t s) (now (s .args .limits)) (now (s .args .marks)) (s .pre .1 .0), s .pre .1 .0 .sound .longest, s .pre .1 .1, s .pre .1 .0 .marked)
 
 tree-put-tile-requires : (t : ℕ) → tree-lts.Need-put-tile-requires (claims t) (tree-at t) tree.Post tree-Inv-loop tree-μ-loop
 tree-put-tile-requires t c κs = c .before .before .before .first .ensures .1 .0

@@ -2,13 +2,14 @@
 use Prim.Native.Nat.{ℕ, _-_, _≤_, _<_}
 use mathlib.Core.Path.{_≡_, sym, ap, _∙_}
 use mathlib.Core.Bool.{true, false}
-use mathlib.Core.List.{List}
+use mathlib.Core.List.{List, []}
 use native.Mathlib.Omega.{arith}
 use denote.Ref.{now}
-use lib.IntN.{ℤ}
-use lib.ListN.{length}
+use lib.IntN.{ℤ, pos}
+use lib.ListN.{length, replicate}
 use borrow.Author.Needs.{needs}
 use Rattle.laws.specs.Lists.{all}
+use Rattle.laws.specs.Tests.{never}
 use Rattle.meaning.specs.declared.Found.{Found}
 use Rattle.meaning.specs.declared.Number.{Number}
 use Rattle.meaning.specs.Boxes.{Side, fits, children}
@@ -38,27 +39,31 @@ use Rattle.tables.proofs.walks.walk.Reads as walk-reads
 use Rattle.tables.proofs.finds.+find.{statement}
 use Rattle.tables.proofs.finds.+find.Tie.{close}
 
-abbrev μ-find : Measures 4 find-kinds.ps ℕ
-μ-find κs a = a .1 .1 .1 .1 .1 .0
+abbrev μ-find : Measures 2 find-kinds.ps ℕ
+μ-find κs a = a .1 .1 .1 .0
 
-abbrev find-at : ℕ → In 4 find-kinds.ps
-find-at t = and 4 find-kinds.ps (is 4 find-kinds.ps μ-find t) reads.Pre
+abbrev find-at : ℕ → In 2 find-kinds.ps
+find-at t = and 2 find-kinds.ps (is 2 find-kinds.ps μ-find t) reads.Pre
 
-abbrev find-below : ℕ → In 4 find-kinds.ps
-find-below t = and 4 find-kinds.ps (falls 4 find-kinds.ps _<_ μ-find t) reads.Pre
+abbrev find-below : ℕ → In 2 find-kinds.ps
+find-below t = and 2 find-kinds.ps (falls 2 find-kinds.ps _<_ μ-find t) reads.Pre
 
 abbrev claims : ℕ → find-lts.Claims
 claims t = (number-reads.Asked, number-reads.Learnt, broken-reads.Asked, broken-reads.Learnt, bad-table-reads.Asked, bad-table-reads.Learnt, tile-reads.Asked, tile-reads.Learnt, count-reads.Asked, count-reads.Learnt, child-reads.Asked, child-reads.Learnt, missed-reads.Asked, missed-reads.Learnt, find-below t, reads.Post, walk-reads.Asked, walk-reads.Learnt)
 
 abbrev find-Inv-loop : find-lts.InvT-loop
-find-Inv-loop f edges bands coef table d at b x k next n count place₀ c₀ place c =
-    (c ≤ count) × (lookFrom (frameFrom f edges) bands coef x (d - 1) table at (boxOf (f .n) b) c place ≡ find (rulesIn (frameFrom f edges) bands coef) d table at (boxOf (f .n) b) x)
+find-Inv-loop f edges table d at b x k next n none count place₀ c₀ place c =
+    (c ≤ count) × (lookFrom (frameFrom f edges) x (d - 1) table at (boxOf (f .n) b) c place ≡ find (rulesIn (frameFrom f edges) [] []) d table at (boxOf (f .n) b) x)
 
 abbrev find-μ-loop : find-lts.MeasureT-loop
-find-μ-loop f edges bands coef table d at b x k next n count place₀ c₀ place c = count - c
+find-μ-loop f edges table d at b x k next n none count place₀ c₀ place c = count - c
 
 abbrev Begin : ℕ → Type 0
 Begin t = find-lts.Start (claims t) (find-at t) reads.Post find-Inv-loop find-μ-loop
+
+-- what the walk is lent for bands and coefficients
+abbrev zero : List ℤ
+zero = replicate 1 (pos 0)
 
 -- a number was read at the node
 abbrev Node : ℕ → Type 0
@@ -71,12 +76,6 @@ Looked t = find-lts.After-missed (claims t) (find-at t) reads.Post find-Inv-loop
 module _ {t : ℕ} (s : Begin t) where
   abbrev frame : Frame
   frame = frameFrom (s .args .f) (now (s .args .edges))
-
-  abbrev bands : List ℤ
-  bands = now (s .args .bands)
-
-  abbrev coef : List ℤ
-  coef = now (s .args .coef)
 
   abbrev bytes : List ℕ
   bytes = now (s .args .table)
@@ -134,7 +133,7 @@ find-broken-requires t c κs = search needs
 find-returns : (t : ℕ) → find-lts.Need-returns (claims t) (find-at t) reads.Post find-Inv-loop find-μ-loop
 find-returns t c =
     let s = c .before .before .before .before .before in
-    ap Found.Refused (c .broken .ensures) ∙ node-broken (frame s) (bands s) (coef s) (s .args .x) (s .args .d) (bytes s) (s .args .at) (box s (s .args .b)) (sym (c .before .before .before .number .ensures) ∙ c .before .enum-told .given .1)
+    ap Found.Refused (c .broken .ensures) ∙ node-broken (frame s) (s .args .x) (s .args .d) (bytes s) (s .args .at) (box s (s .args .b)) (sym (c .before .before .before .number .ensures) ∙ c .before .enum-told .given .1)
 
 find-bad-table-requires : (t : ℕ) → find-lts.Need-bad-table-requires (claims t) (find-at t) reads.Post find-Inv-loop find-μ-loop
 find-bad-table-requires t c κs = search needs
@@ -143,7 +142,7 @@ find-returns-2 : (t : ℕ) → find-lts.Need-returns-2 (claims t) (find-at t) re
 find-returns-2 t c =
     let z = c .before .before .before in
     let s = start z in
-    ap Found.Refused (c .bad-table .ensures) ∙ node-over (frame s) (bands s) (coef s) (s .args .x) (s .args .d) (bytes s) (s .args .at) (box s (s .args .b)) (size z) (behind z) (number z) (c .before .if1 .taken)
+    ap Found.Refused (c .bad-table .ensures) ∙ node-over (frame s) (s .args .x) (s .args .d) (bytes s) (s .args .at) (box s (s .args .b)) (size z) (behind z) (number z) (c .before .if1 .taken)
 
 find-tile-requires : (t : ℕ) → find-lts.Need-tile-requires (claims t) (find-at t) reads.Post find-Inv-loop find-μ-loop
 find-tile-requires t c κs =
@@ -154,7 +153,7 @@ find-returns-3 : (t : ℕ) → find-lts.Need-returns-3 (claims t) (find-at t) re
 find-returns-3 t c =
     let z = c .before .before .before .before in
     let s = start z in
-    c .tile .ensures ∙ node-tile (frame s) (bands s) (coef s) (s .args .x) (s .args .d) (bytes s) (s .args .at) (box s (s .args .b)) (size z) (behind z) (number z) (c .before .if2 .taken) (c .before .before .if1 .left)
+    c .tile .ensures ∙ node-tile (frame s) (s .args .x) (s .args .d) (bytes s) (s .args .at) (box s (s .args .b)) (size z) (behind z) (number z) (c .before .if2 .taken) (c .before .before .if1 .left)
 
 find-bad-table-requires-2 : (t : ℕ) → find-lts.Need-bad-table-requires-2 (claims t) (find-at t) reads.Post find-Inv-loop find-μ-loop
 find-bad-table-requires-2 t c κs = search needs
@@ -163,7 +162,7 @@ find-returns-4 : (t : ℕ) → find-lts.Need-returns-4 (claims t) (find-at t) re
 find-returns-4 t c =
     let z = c .before .before .before .before .before in
     let s = start z in
-    ap Found.Refused (c .bad-table2 .ensures) ∙ node-deep (frame s) (bands s) (coef s) (s .args .x) (s .args .d) (bytes s) (s .args .at) (box s (s .args .b)) (size z) (behind z) (number z) (c .before .before .if2 .left) (c .before .if3 .taken)
+    ap Found.Refused (c .bad-table2 .ensures) ∙ node-deep (frame s) (s .args .x) (s .args .d) (bytes s) (s .args .at) (box s (s .args .b)) (size z) (behind z) (number z) (c .before .before .if2 .left) (c .before .if3 .taken)
 
 find-count-requires : (t : ℕ) → find-lts.Need-count-requires (claims t) (find-at t) reads.Post find-Inv-loop find-μ-loop
 find-count-requires t c κs = c .before .before .before .before .before .before .before .before .before .pre .1 .0 .rooms
@@ -172,7 +171,7 @@ find-loop-holds : (t : ℕ) → find-lts.Need-loop-holds (claims t) (find-at t) 
 find-loop-holds t c =
     let z = c .before .before .before .before .before in
     let s = start z in
-    (omega arith, node-split (frame s) (bands s) (coef s) (s .args .x) (s .args .d) (bytes s) (s .args .at) (box s (s .args .b)) (size z) (behind z) (number z) (c .before .before .if2 .left) (c .before .if3 .left))
+    (omega arith, node-split (frame s) (s .args .x) (s .args .d) (bytes s) (s .args .at) (box s (s .args .b)) (size z) (behind z) (number z) (c .before .before .if2 .left) (c .before .if3 .left))
 
 find-child-requires : (t : ℕ) → find-lts.Need-child-requires (claims t) (find-at t) reads.Post find-Inv-loop find-μ-loop
 find-child-requires t c κs =
@@ -195,25 +194,31 @@ find-returns-5 t c =
     let y = c .before .before in
     let s = outset y in
     let l = y .before .before .before .loop in
-    c .find .ensures ∙ look-here (frame s) (bands s) (coef s) (s .args .x) (s .args .d - 1) (bytes s) (s .args .at) (box s (s .args .b)) (l .c) (l .place) (below y) (box s (kid y)) (y .before .child .ensures) (holds-it y (c .before .if4 .taken)) ∙ l .inv .1
+    c .find .ensures ∙ look-here (frame s) (s .args .x) (s .args .d - 1) (bytes s) (s .args .at) (box s (s .args .b)) (l .c) (l .place) (below y) (box s (kid y)) (y .before .child .ensures) (holds-it y (c .before .if4 .taken)) ∙ l .inv .1
+
+find-slice-aggregate-walk : (t : ℕ) → find-lts.Need-slice-aggregate-walk (claims t) (find-at t) reads.Post find-Inv-loop find-μ-loop
+find-slice-aggregate-walk t c = search needs
+
+find-slice-aggregate-walk-2 : (t : ℕ) → find-lts.Need-slice-aggregate-walk-2 (claims t) (find-at t) reads.Post find-Inv-loop find-μ-loop
+find-slice-aggregate-walk-2 t c = search needs
 
 find-sub-walk : (t : ℕ) → find-lts.Need-sub-walk (claims t) (find-at t) reads.Post find-Inv-loop find-μ-loop
 find-sub-walk t c = omega arith
 
 find-walk-requires : (t : ℕ) → find-lts.Need-walk-requires (claims t) (find-at t) reads.Post find-Inv-loop find-μ-loop
-find-walk-requires t c κs = (outset (c .before) .pre .1 .0, small (c .before))
+find-walk-requires t c κs = let y = c .before .before .before in (outset y .pre .1 .0, small y, λ e. never e)
 
 find-enum-known-e : (t : ℕ) → find-lts.Need-enum-known-e (claims t) (find-at t) reads.Post find-Inv-loop find-μ-loop
 find-enum-known-e t c = search needs
 
 find-returns-6 : (t : ℕ) → find-lts.Need-returns-6 (claims t) (find-at t) reads.Post find-Inv-loop find-μ-loop
 find-returns-6 t c =
-    let y = c .before .before .before .before .before in
+    let y = c .before .before .before .before .before .before .before in
     let s = outset y in
     let l = y .before .before .before .loop in
     let r = c .before .before .before .walk in
     let e = c .before .e .given in
-    look-refused (frame s) (bands s) (coef s) (s .args .x) (s .args .d - 1) (bytes s) (s .args .at) (box s (s .args .b)) (l .c) (l .place) (below y) (box s (kid y)) (y .before .child .ensures) (misses-it y (c .before .before .before .before .if4 .left)) (r .result) (r .ensures) (e .0 .0) (e .1) ∙ l .inv .1
+    look-refused (frame s) (s .args .x) (s .args .d - 1) (bytes s) (s .args .at) (box s (s .args .b)) (l .c) (l .place) (below y) (box s (kid y)) (y .before .child .ensures) (misses-it y (c .before .before .before .before .before .before .if4 .left)) zero zero (r .result) (r .ensures) (e .0 .0) (e .1) ∙ l .inv .1
 
 find-enum-known-m : (t : ℕ) → find-lts.Need-enum-known-m (claims t) (find-at t) reads.Post find-Inv-loop find-μ-loop
 find-enum-known-m t c = search needs
@@ -226,12 +231,12 @@ find-loop-less t c = omega arith
 
 find-loop-again : (t : ℕ) → find-lts.Need-loop-again (claims t) (find-at t) reads.Post find-Inv-loop find-μ-loop
 find-loop-again t c =
-    let y = c .before .before .before .before .before in
+    let y = c .before .before .before .before .before .before .before in
     let s = outset y in
     let l = y .before .before .before .loop in
     let r = c .before .before .before .walk in
     let m = c .before .m .given in
-    (omega (arith, y .before .before .loop-test .taken), look-more (frame s) (bands s) (coef s) (s .args .x) (s .args .d - 1) (bytes s) (s .args .at) (box s (s .args .b)) (l .c) (l .place) (below y) (box s (kid y)) (y .before .child .ensures) (misses-it y (c .before .before .before .before .if4 .left)) (r .result) (r .ensures) (m .0 .0) (m .1) ∙ l .inv .1)
+    (omega (arith, y .before .before .loop-test .taken), look-more (frame s) (s .args .x) (s .args .d - 1) (bytes s) (s .args .at) (box s (s .args .b)) (l .c) (l .place) (below y) (box s (kid y)) (y .before .child .ensures) (misses-it y (c .before .before .before .before .before .before .if4 .left)) zero zero (r .result) (r .ensures) (m .0 .0) (m .1) ∙ l .inv .1)
 
 find-bad-table-requires-3 : (t : ℕ) → find-lts.Need-bad-table-requires-3 (claims t) (find-at t) reads.Post find-Inv-loop find-μ-loop
 find-bad-table-requires-3 t c κs = search needs
@@ -240,7 +245,7 @@ find-returns-7 : (t : ℕ) → find-lts.Need-returns-7 (claims t) (find-at t) re
 find-returns-7 t c =
     let s = c .before .before .before .before .before .before .before .before .before .before .before .before .before in
     let l = c .before .before .loop in
-    ap Found.Refused (c .bad-table3 .ensures) ∙ look-none (frame s) (bands s) (coef s) (s .args .x) (s .args .d - 1) (bytes s) (s .args .at) (box s (s .args .b)) (l .c) (l .place) (omega (arith, c .before .loop-test .left, c .before .before .before .count .ensures)) ∙ l .inv .1
+    ap Found.Refused (c .bad-table3 .ensures) ∙ look-none (frame s) (s .args .x) (s .args .d - 1) (bytes s) (s .args .at) (box s (s .args .b)) (l .c) (l .place) (omega (arith, c .before .loop-test .left, c .before .before .before .count .ensures)) ∙ l .inv .1
 
 pub +find-spec : {M : Type 1} → statement M
 +find-spec = close μ-find λ t. find-lts.spec (claims t)
@@ -266,6 +271,8 @@ pub +find-spec : {M : Type 1} → statement M
     (find-sub-find t)
     (find-find-requires t)
     (find-returns-5 t)
+    (find-slice-aggregate-walk t)
+    (find-slice-aggregate-walk-2 t)
     (find-sub-walk t)
     (find-walk-requires t)
     (find-enum-known-e t)

@@ -1,5 +1,4 @@
--- `images::band`: the place is inside the array. Assumes nothing.
-use Prim.Native.Nat.{_+_, _*_}
+-- `images::band`: the place is a usize. Assumes nothing.
 use native.Mathlib.Omega.{arith}
 use borrow.Author.Needs.{needs}
 use Rattle.tables.proofs.images.band.Statement.{statement}
@@ -15,7 +14,7 @@ mul-result-2 : tie.Need-mul-result-2
 mul-result-2 c = search needs
 
 returns : tie.Need-returns
-returns c = (omega arith, omega (arith, c .pre))
+returns c = omega arith
 
 pub band-spec : {M : Type 1} → statement M
 band-spec = tie.close (tie.spec mul-result add-result mul-result-2 returns)

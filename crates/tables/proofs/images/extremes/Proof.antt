@@ -4,10 +4,11 @@ use mathlib.Core.Path.{_≡_}
 use native.Mathlib.Omega.{arith}
 use lib.IntN.{ℤ, pos, natAbs, _+ℤ_}
 use denote.Ref.{now}
+use lib.ListN.{length}
 use Rattle.laws.specs.Lists.{tab}
 use Rattle.meaning.specs.Boxes.{Side, sideAt}
 use Rattle.meaning.specs.Images.{leastOf, greatestOf}
-use Rattle.meaning.specs.Plants.{edgeLimit, entryLimit, mostCoefs}
+use Rattle.meaning.specs.Plants.{edgeLimit, entryLimit}
 use Rattle.promises.specs.files.Sound.{Bounded}
 use Rattle.tables.specs.Images.{rowLimit, entryAt, Extremes}
 use Rattle.tables.proofs.images.Laws.{Sums, sums-none, sums-more, sums-done, sums-place, sums-asked}
@@ -35,7 +36,7 @@ module _ (s : tie.Start) where
 
   -- one room more can be asked for
   asks : (j : ℕ) → j < s .args .n → (lo hi : ℤ) → Summed j lo hi
-      → ((j < 4) × (s .args .start + j < mostCoefs))
+      → ((j < 4) × (s .args .start + j < length (now (s .args .coef))))
       × (((natAbs (entries j) ≤ entryLimit) × Bounded edgeLimit (sides j)) × ((natAbs lo ≤ rowLimit) × (natAbs hi ≤ rowLimit)))
   asks j h lo hi w =
       let p = sums-place (s .args .n) (now (s .args .coef)) (s .args .start) sides (s .pre .0) (s .pre .1) j h in

@@ -11,7 +11,7 @@ use Rattle.laws.specs.Expressions.{Ex, var, exact, under}
 use Rattle.meaning.specs.Boxes.{Side, sideAt, sidesOf}
 use Rattle.meaning.specs.Plants.{bandLimit, rowStart, bandStart}
 use Rattle.tables.specs.Images.{RowSound, BandSound}
-use Rattle.tables.proofs.images.Laws.{band-small, imageSideAt, image-tab, image-more, image-done}
+use Rattle.tables.proofs.images.Laws.{band-small, band-inside, imageSideAt, image-tab, image-more, image-done}
 use Rattle.tables.proofs.images.image.Statement.{statement}
 use Rattle.tables.proofs.images.image.Tie as tie
 
@@ -43,7 +43,14 @@ module _ (s : tie.Start Inv-loop μ-loop) (i : ℕ) (h : i < s .args .n) where
 
 -- the band that is read is that of the mode
 placed : (c : tie.After-band Inv-loop μ-loop) → c .band .result ≡ bandStart (c .before .before .before .args .n) (c .before .before .before .args .u) (c .before .before .loop .i)
-placed c = c .band .ensures .0
+placed c = c .band .ensures
+
+-- and it stands in the slice
+within : (c : tie.After-band Inv-loop μ-loop) → c .band .result + 1 < length (now (c .before .before .before .args .bands))
+within c =
+    let s = c .before .before .before in
+    let i = c .before .before .loop .i in
+    band-inside (s .args .n) (now (s .args .bands)) (s .args .u) i (c .band .result) (placed c) (band s i (c .before .loop-test .taken))
 
 loop-holds : tie.Need-loop-holds Inv-loop μ-loop
 unfolding tab
@@ -62,22 +69,22 @@ mul-start-2 : tie.Need-mul-start-2 Inv-loop μ-loop
 mul-start-2 c = omega (arith, row (c .before .before) (c .before .loop .i) (c .loop-test .taken) .inside)
 
 band-requires : tie.Need-band-requires Inv-loop μ-loop
-band-requires c κs = band (c .before .before) (c .before .loop .i) (c .loop-test .taken) .inside
+band-requires c κs = omega (arith, band (c .before .before) (c .before .loop .i) (c .loop-test .taken) .inside)
 
 mul-wl : tie.Need-mul-wl Inv-loop μ-loop
-mul-wl c = omega (arith, c .band .ensures .1)
+mul-wl c = omega (arith, within c)
 
-element-copy-out-wl : tie.Need-element-copy-out-wl Inv-loop μ-loop
-element-copy-out-wl c = omega (arith, c .band .ensures .1)
+shared-slice-copy-out-wl : tie.Need-shared-slice-copy-out-wl Inv-loop μ-loop
+shared-slice-copy-out-wl c = omega (arith, within c)
 
 add-wh : tie.Need-add-wh Inv-loop μ-loop
-add-wh c = omega (arith, c .before .band .ensures .1)
+add-wh c = omega (arith, within (c .before))
 
 mul-wh : tie.Need-mul-wh Inv-loop μ-loop
-mul-wh c = omega (arith, c .before .band .ensures .1)
+mul-wh c = omega (arith, within (c .before))
 
-element-copy-out-wh : tie.Need-element-copy-out-wh Inv-loop μ-loop
-element-copy-out-wh c = c .before .band .ensures .1
+shared-slice-copy-out-wh : tie.Need-shared-slice-copy-out-wh Inv-loop μ-loop
+shared-slice-copy-out-wh c = within (c .before)
 
 image-side-requires : tie.Need-image-side-requires Inv-loop μ-loop
 image-side-requires c κs =
@@ -140,10 +147,10 @@ image-spec =
     mul-start-2
     band-requires
     mul-wl
-    element-copy-out-wl
+    shared-slice-copy-out-wl
     add-wh
     mul-wh
-    element-copy-out-wh
+    shared-slice-copy-out-wh
     image-side-requires
     mul-least
     array-set-from-least

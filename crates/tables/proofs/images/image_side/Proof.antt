@@ -39,8 +39,8 @@ add-offset c = search needs
 mul-offset : tie.Need-mul-offset
 mul-offset c = search needs
 
-element-copy-out-offset : tie.Need-element-copy-out-offset
-element-copy-out-offset c = search needs
+shared-slice-copy-out-offset : tie.Need-shared-slice-copy-out-offset
+shared-slice-copy-out-offset c = search needs
 
 add-ceiling : tie.Need-add-ceiling
 add-ceiling c = need (least (c .before .before .before)) tt
@@ -77,7 +77,7 @@ image-side-spec =
     extremes-requires
     add-offset
     mul-offset
-    element-copy-out-offset
+    shared-slice-copy-out-offset
     add-ceiling
     add-ceiling-2
     ceiling-requires

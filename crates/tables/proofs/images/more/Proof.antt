@@ -64,8 +64,8 @@ add-a c = search needs
 mul-a : tie.Need-mul-a
 mul-a c = search needs
 
-element-copy-out-a : tie.Need-element-copy-out-a
-element-copy-out-a c = search needs
+shared-slice-copy-out-a : tie.Need-shared-slice-copy-out-a
+shared-slice-copy-out-a c = search needs
 
 mul-l : tie.Need-mul-l
 mul-l c = search needs
@@ -121,7 +121,7 @@ more-spec =
     (tie.spec
     add-a
     mul-a
-    element-copy-out-a
+    shared-slice-copy-out-a
     mul-l
     element-copy-out-l
     mul-h

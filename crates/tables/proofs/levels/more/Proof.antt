@@ -55,8 +55,8 @@ add-a c = search needs
 mul-a : tie.Need-mul-a
 mul-a c = search needs
 
-element-copy-out-a : tie.Need-element-copy-out-a
-element-copy-out-a c = search needs
+shared-slice-copy-out-a : tie.Need-shared-slice-copy-out-a
+shared-slice-copy-out-a c = search needs
 
 add-l : tie.Need-add-l
 add-l c = search needs
@@ -100,7 +100,7 @@ more-spec =
     (tie.spec
     add-a
     mul-a
-    element-copy-out-a
+    shared-slice-copy-out-a
     add-l
     mul-l
     element-copy-out-l

@@ -17,7 +17,7 @@ sub-row : tie.Need-sub-row
 sub-row c = search needs
 
 row-requires : tie.Need-row-requires
-row-requires c κs = last-row c .inside
+row-requires c κs = omega (arith, last-row c .inside)
 
 add-result : tie.Need-add-result
 add-result c = omega (arith, c .row .ensures, last-row (c .before) .inside)
@@ -25,8 +25,8 @@ add-result c = omega (arith, c .row .ensures, last-row (c .before) .inside)
 mul-result : tie.Need-mul-result
 mul-result c = omega (arith, c .row .ensures, last-row (c .before) .inside)
 
-element-copy-out-result : tie.Need-element-copy-out-result
-element-copy-out-result c = omega (arith, c .row .ensures, last-row (c .before) .inside)
+shared-slice-copy-out-result : tie.Need-shared-slice-copy-out-result
+shared-slice-copy-out-result c = omega (arith, c .row .ensures, last-row (c .before) .inside)
 
 returns : tie.Need-returns
 returns c =
@@ -36,4 +36,4 @@ returns c =
 
 pub last-offset-spec : {M : Type 1} → statement M
 last-offset-spec =
-    tie.close (tie.spec sub-row row-requires add-result mul-result element-copy-out-result returns)
+    tie.close (tie.spec sub-row row-requires add-result mul-result shared-slice-copy-out-result returns)

@@ -12,10 +12,10 @@ use Rattle.tables.proofs.limits.mark.Tie as tie
 -- the two rows
 module _ (c : tie.Else1) where
   row-before : RowSound (c .before .args .n) (now (c .before .args .coef)) (rowStart (c .before .args .n) (c .before .args .u - 1) (c .before .args .n - 1))
-  row-before = let z = c .if1 .left in let k = c .before .pre .0 in c .before .pre .3 (omega arith) (c .before .args .n - 1) (omega arith)
+  row-before = let z = c .if1 .left in let k = c .before .pre .0 in c .before .pre .2 (omega arith) (c .before .args .n - 1) (omega arith)
 
   row-here : RowSound (c .before .args .n) (now (c .before .args .coef)) (rowStart (c .before .args .n) (c .before .args .u) (c .before .args .n - 1))
-  row-here = let k = c .before .pre .0 in c .before .pre .2 (c .before .args .n - 1) (omega arith)
+  row-here = let k = c .before .pre .0 in c .before .pre .1 (c .before .args .n - 1) (omega arith)
 
 returns : tie.Need-returns
 returns c = λ z. absurd (z refl)
@@ -27,13 +27,13 @@ sub-row-2 : tie.Need-sub-row-2
 sub-row-2 c = search needs
 
 row-requires : tie.Need-row-requires
-row-requires c κs = row-before c .inside
+row-requires c κs = omega (arith, row-before c .inside)
 
 sub-row-3 : tie.Need-sub-row-3
 sub-row-3 c = search needs
 
 row-requires-2 : tie.Need-row-requires-2
-row-requires-2 c κs = row-here (c .before) .inside
+row-requires-2 c κs = omega (arith, row-here (c .before) .inside)
 
 same-row-requires : tie.Need-same-row-requires
 same-row-requires c κs = rw (c .before .row .ensures, c .row2 .ensures) (row-before (c .before .before), row-here (c .before .before))

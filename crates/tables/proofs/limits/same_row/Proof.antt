@@ -29,8 +29,8 @@ add-x c = let r = c .before .before .pre .0 in let h = c .loop-test .taken in om
 mul-x : tie.Need-mul-x Inv-loop μ-loop
 mul-x c = let r = c .before .before .pre .0 in let h = c .loop-test .taken in omega (arith, r .inside, r .rooms)
 
-element-copy-out-x : tie.Need-element-copy-out-x Inv-loop μ-loop
-element-copy-out-x c = let r = c .before .before .pre .0 in let h = c .loop-test .taken in omega (arith, r .inside, r .rooms)
+shared-slice-copy-out-x : tie.Need-shared-slice-copy-out-x Inv-loop μ-loop
+shared-slice-copy-out-x c = let r = c .before .before .pre .0 in let h = c .loop-test .taken in omega (arith, r .inside, r .rooms)
 
 add-y : tie.Need-add-y Inv-loop μ-loop
 add-y c = let r = c .before .before .before .pre .1 in let h = c .before .loop-test .taken in omega (arith, r .inside, r .rooms)
@@ -38,8 +38,8 @@ add-y c = let r = c .before .before .before .pre .1 in let h = c .before .loop-t
 mul-y : tie.Need-mul-y Inv-loop μ-loop
 mul-y c = let r = c .before .before .before .pre .1 in let h = c .before .loop-test .taken in omega (arith, r .inside, r .rooms)
 
-element-copy-out-y : tie.Need-element-copy-out-y Inv-loop μ-loop
-element-copy-out-y c = let r = c .before .before .before .pre .1 in let h = c .before .loop-test .taken in omega (arith, r .inside, r .rooms)
+shared-slice-copy-out-y : tie.Need-shared-slice-copy-out-y Inv-loop μ-loop
+shared-slice-copy-out-y c = let r = c .before .before .before .pre .1 in let h = c .before .loop-test .taken in omega (arith, r .inside, r .rooms)
 
 add-j : tie.Need-add-j Inv-loop μ-loop
 add-j c = let h = c .before .before .before .loop-test .taken in omega arith
@@ -73,10 +73,10 @@ same-row-spec =
     loop-holds
     add-x
     mul-x
-    element-copy-out-x
+    shared-slice-copy-out-x
     add-y
     mul-y
-    element-copy-out-y
+    shared-slice-copy-out-y
     add-j
     loop-less
     loop-again

@@ -34,7 +34,7 @@ step-requires c κs =
     let s = c .before .before .before in
     let t = s .pre .0 .0 in
     let h = s .pre .0 .1 in
-    ((t .rows (s .args .u) (s .pre .0 .2), t .rooms, t .least, t .most, t .band (s .args .u) (s .pre .0 .2), omega (arith, t .few, s .pre .0 .2)), (omega arith, s .pre .1 .1, s .pre .1 .0 .roomy))
+    ((t .rows (s .args .u) (s .pre .0 .2), t .rooms, t .least, t .most, t .band (s .args .u) (s .pre .0 .2), omega (arith, t .room, s .pre .0 .2)), (omega arith, s .pre .1 .1, s .pre .1 .0 .roomy))
 
 mul-us : tie.Need-mul-us
 mul-us c = search needs

@@ -20,19 +20,19 @@ use Rattle.tables.proofs.search.first.Statement.{statement}
 use Rattle.tables.proofs.search.first.Tie as tie
 
 abbrev Inv-loop : tie.InvT-loop
-Inv-loop n count q k bands coef limits us₀ boxes₀ size₀ m l₀ u₀ us boxes size l u =
+Inv-loop n count q k bands coef limits marks us₀ boxes₀ size₀ m l₀ u₀ us boxes size l u =
     (size ≡ 0) × (levelIn n boxes 0 ≡ levelIn n boxes₀ 0) × Along n count q bands coef limits m (sought (movesLent n count q bands coef limits) m (levelIn n boxes₀ 0)) boxes us l u
 
 abbrev μ-loop : tie.MeasureT-loop
-μ-loop n count q k bands coef limits us₀ boxes₀ size₀ m l₀ u₀ us boxes size l u = turnsAlong n count q bands coef limits m boxes us l u
+μ-loop n count q k bands coef limits marks us₀ boxes₀ size₀ m l₀ u₀ us boxes size l u = turnsAlong n count q bands coef limits m boxes us l u
 
 abbrev Inv-search : tie.InvT-search
-Inv-search n count q k bands coef limits us₀ boxes₀ size₀ m₀ us boxes size m =
+Inv-search n count q k bands coef limits marks us₀ boxes₀ size₀ m₀ us boxes size m =
     (m ≤ k) × (size ≡ 0) × Standing n count q bands coef limits boxes us × (levelIn n boxes 0 ≡ levelIn n boxes₀ 0)
     × (soughtFrom (movesLent n count q bands coef limits) (k - m) m (levelIn n boxes₀ 0) ≡ shortestLent n count q bands coef limits k (levelIn n boxes₀ 0))
 
 abbrev μ-search : tie.MeasureT-search
-μ-search n count q k bands coef limits us₀ boxes₀ size₀ m₀ us boxes size m = k - m
+μ-search n count q k bands coef limits marks us₀ boxes₀ size₀ m₀ us boxes size m = k - m
 
 -- what the modes do in a call
 abbrev moves : tie.Start Inv-loop μ-loop Inv-search μ-search → Moves
@@ -159,7 +159,7 @@ last-requires c κs =
     let g = from t .pre .0 in
     let h = few t in
     let k = low t in
-    ((g .some, g .rows, g .few, g .marked), (omega arith, t .loop .inv .2 .small))
+    ((g .some, g .rows, g .room, from t .pre .3), (omega arith, t .loop .inv .2 .small))
 
 mul-us : tie.Need-mul-us Inv-loop μ-loop Inv-search μ-search
 mul-us c = let t = turn2 (c .before) in let h = few t in let k = low t in omega arith

@@ -85,7 +85,7 @@ moved-requires c κs =
     let x = there y in
     let g = c .before .e2 .given in
     movable (file x) (first x) (size x) (within x) (short (start x)) (g .0 .0)
-    (end-inside (rules x) (part (file x) (first x) (size x)) (start x .pre .longest) (g .0 .0) (sym (walked y) ∙ g .1))
+    (end-inside (rules x) (part (file x) (first x) (size x)) (start x .pre .0 .longest) (g .0 .0) (sym (walked y) ∙ g .1))
 
 enum-known-next : tie.Need-enum-known-next
 enum-known-next c = search needs

@@ -7,7 +7,7 @@ use borrow.Author.Needs.{needs}
 use Rattle.meaning.specs.declared.Verdict.{Verdict}
 use Rattle.meaning.specs.Starts.{tablesAt}
 use Rattle.tables.specs.declared.frames.Frame.{Frame}
-use Rattle.tables.specs.Frames.{rulesIn, FrameSound}
+use Rattle.tables.specs.Frames.{rulesIn, PlantSound}
 use Rattle.tables.specs.StartChecks.{rulesAt, tableAt}
 use Rattle.tables.proofs.start_checks.Laws.{tables-ended, tables-over, tables-stopped, tables-more}
 use Rattle.tables.proofs.start_checks.tables_at.Statement.{statement}
@@ -35,13 +35,13 @@ loop-holds c =
     (omega arith, ap (λ (k : ℕ). tablesAt (rulesAt (a .f) (now (a .edges)) (now (a .bands)) (now (a .coef))) (now (a .start)) k 0 (a .at)) z)
 
 frame-at-requires : tie.Need-frame-at-requires Inv-loop μ-loop
-frame-at-requires c κs = let s = c .before .before .before in (s .pre .rooms, omega (arith, s .pre .few))
+frame-at-requires c κs = let s = c .before .before .before in (s .pre .0 .rooms, omega (arith, s .pre .0 .few))
 
 table-at-requires : tie.Need-table-at-requires Inv-loop μ-loop
 table-at-requires c κs =
     let l = c .before .before in
     let s = l .before .before in
-    subst (λ (g : Frame). FrameSound g (now (s .args .bands)) (now (s .args .coef))) (sym (c .frame-at .ensures)) (s .pre .each (l .loop .i) (omega arith))
+    subst (λ (g : Frame). PlantSound g (now (s .args .bands)) (now (s .args .coef))) (sym (c .frame-at .ensures)) (s .pre .0 .each (l .loop .i) (omega arith), s .pre .1)
 
 enum-known-e : tie.Need-enum-known-e Inv-loop μ-loop
 enum-known-e c = search needs
@@ -59,7 +59,7 @@ enum-known-next : tie.Need-enum-known-next Inv-loop μ-loop
 enum-known-next c = search needs
 
 add-i : tie.Need-add-i Inv-loop μ-loop
-add-i c = omega (arith, c .before .before .before .before .before .before .before .before .pre .few)
+add-i c = omega (arith, c .before .before .before .before .before .before .before .before .pre .0 .few)
 
 loop-less : tie.Need-loop-less Inv-loop μ-loop
 loop-less c = omega arith

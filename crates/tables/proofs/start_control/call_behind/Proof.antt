@@ -1,7 +1,7 @@
 -- `start_control::call_behind`: the lengths up to the table, then the call on it. Assumes nothing.
 use Prim.Native.Nat.{ℕ, _+_, _≤_, _<_, _^_}
 use mathlib.Core.Path.{_≡_, sym, ap, _∙_}
-use mathlib.Core.List.{List}
+use mathlib.Core.List.{List, []}
 use native.Mathlib.Omega.{arith}
 use denote.Ref.{now}
 use lib.ListN.{length}
@@ -33,7 +33,7 @@ module _ (x : tie.After-first) where
   file = now (start .args .start)
 
   abbrev rules : Rules
-  rules = rulesIn (start .args .f) (now (start .args .bands)) (now (start .args .coef))
+  rules = rulesIn (start .args .f) [] []
 
   abbrev first : ℕ
   first = x .first .given .0 .0
@@ -58,12 +58,12 @@ module _ (y : tie.After-call) where
       ∙ ap (λ (t : List ℕ). call (rules there) t (start there .args .st) (start there .args .x)) (slice-part (file there) (first there) (size there))
 
   answered : (a : Answer) → y .call .result ≡ a
-      → answerIn (start there .args .i) (first there) a ≡ callBehind (start there .args .f) (now (start there .args .bands)) (now (start there .args .coef)) (file there) (start there .args .at) (start there .args .i) (start there .args .st) (start there .args .x)
+      → answerIn (start there .args .i) (first there) a ≡ callBehind (start there .args .f) (file there) (start there .args .at) (start there .args .i) (start there .args .st) (start there .args .x)
   answered a g =
       let s = start there .args in
       let p = there .before .before .part-behind in
       ap (answerIn (s .i) (first there)) (sym g)
-      ∙ behind-answered (s .f) (now (s .bands)) (now (s .coef)) (file there) (s .at) (s .i) (s .st) (s .x) (p .result) (p .ensures) (first there) (size there) (found there) (y .call .result) called
+      ∙ behind-answered (s .f) (file there) (s .at) (s .i) (s .st) (s .x) (p .result) (p .ensures) (first there) (size there) (found there) (y .call .result) called
 
 part-behind-requires : tie.Need-part-behind-requires
 part-behind-requires c κs = search needs
@@ -111,7 +111,7 @@ returns c =
     let s = c .before .before .before .before .before .args in
     let p = c .before .before .before .part-behind in
     let g = c .before .e .given in
-    behind-refused (s .f) (now (s .bands)) (now (s .coef)) (now (s .start)) (s .at) (s .i) (s .st) (s .x) (p .result) (p .ensures) (g .0 .0) (g .1)
+    behind-refused (s .f) (now (s .start)) (s .at) (s .i) (s .st) (s .x) (p .result) (p .ensures) (g .0 .0) (g .1)
 
 returns-2 : tie.Need-returns-2
 returns-2 c =

@@ -21,11 +21,11 @@ module _ (y : tie.After-choose-table) where
   start = y .before .before .before .before
 
   told : (o : Choice) → y .choose-table .result ≡ o
-      → onChoice o StartAnswer.Refused (λ i. callBehind (frameAt (start .args .f) (now (start .args .edges)) i) (now (start .args .bands)) (now (start .args .coef)) (now (start .args .start)) (start .args .at) i (start .args .st .state) (start .args .x))
-      ≡ startAnswer (start .args .f) (now (start .args .edges)) (now (start .args .bands)) (now (start .args .coef)) (now (start .args .start)) (start .args .m) (start .args .at) (start .args .st) (start .args .x)
+      → onChoice o StartAnswer.Refused (λ i. callBehind (frameAt (start .args .f) (now (start .args .edges)) i) (now (start .args .start)) (start .args .at) i (start .args .st .state) (start .args .x))
+      ≡ startAnswer (start .args .f) (now (start .args .edges)) (now (start .args .start)) (start .args .m) (start .args .at) (start .args .st) (start .args .x)
   told o g =
       let a = start .args in
-      ap (λ (o : Choice). onChoice o StartAnswer.Refused (λ i. callBehind (frameAt (a .f) (now (a .edges)) i) (now (a .bands)) (now (a .coef)) (now (a .start)) (a .at) i (a .st .state) (a .x))) (sym g ∙ y .choose-table .ensures)
+      ap (λ (o : Choice). onChoice o StartAnswer.Refused (λ i. callBehind (frameAt (a .f) (now (a .edges)) i) (now (a .start)) (a .at) i (a .st .state) (a .x))) (sym g ∙ y .choose-table .ensures)
 
   within : (i : ℕ) → y .choose-table .result ≡ Choice.Table i → i ≤ start .args .m
   within i g =
@@ -51,7 +51,7 @@ call-behind-requires : tie.Need-call-behind-requires
 call-behind-requires c κs =
     let y = c .before .before .before .before in
     let g = c .before .before .i .given in
-    subst (λ (f : Frame). FrameSound f (now (start y .args .bands)) (now (start y .args .coef))) (sym (c .frame-at .ensures)) (start y .pre .each (g .0 .0) (within y (g .0 .0) (g .1)))
+    subst (λ (f : Frame). FrameSound f) (sym (c .frame-at .ensures)) (start y .pre .each (g .0 .0) (within y (g .0 .0) (g .1)))
 
 returns : tie.Need-returns
 returns c = told (c .before .before .before) _ (c .before .e .given .1)
@@ -62,7 +62,7 @@ returns-2 c =
     let g = c .before .before .before .i .given in
     let a = start y .args in
     c .call-behind .ensures
-    ∙ ap (λ (f : Frame). callBehind f (now (a .bands)) (now (a .coef)) (now (a .start)) (a .at) (g .0 .0) (a .st .state) (a .x)) (c .before .frame-at .ensures)
+    ∙ ap (λ (f : Frame). callBehind f (now (a .start)) (a .at) (g .0 .0) (a .st .state) (a .x)) (c .before .frame-at .ensures)
     ∙ told y _ (g .1)
 
 pub start-call-spec : {M : Type 1} → statement M

@@ -1,25 +1,24 @@
 -- `start_control::start_control`: the plant, the chain, whose frames are sound where it was accepted, then the call. Assumes nothing.
 use Prim.Native.Nat.{ℕ, _≤_}
-use mathlib.Core.Path.{_≡_, sym, _∙_, subst}
+use mathlib.Core.Path.{_≡_, sym, ap, _∙_, subst}
 use mathlib.Core.Bool.{false}
 use mathlib.Core.List.{List}
 use lib.IntN.{ℤ}
 use denote.Ref.{now}
 use borrow.Author.Needs.{needs}
-use Rattle.meaning.specs.declared.Plant.{Plant}
 use Rattle.meaning.specs.declared.StartAnswer.{StartAnswer}
 use Rattle.meaning.specs.declared.StartState.{StartState}
 use Rattle.meaning.specs.declared.Verdict.{Verdict}
 use Rattle.meaning.specs.Files.{good}
-use Rattle.meaning.specs.Plants.{plantJudged}
+use Rattle.meaning.specs.Plants.{Plant, plantJudged}
 use Rattle.meaning.specs.Starts.{startCall}
 use Rattle.promises.specs.files.Judged.{judged-sound}
-use Rattle.promises.specs.tables.PlantRules.{read-good, read-bad}
+use Rattle.promises.specs.tables.PlantRules.{Taken, read-good, read-bad}
 use Rattle.promises.specs.files.Sound.{Sound}
 use Rattle.tables.specs.declared.chains.ChainRead.{ChainRead}
 use Rattle.tables.specs.declared.frames.Frame.{Frame}
 use Rattle.tables.specs.Chains.{chainRead}
-use Rattle.tables.specs.Frames.{frameOf}
+use Rattle.tables.specs.Frames.{frameOf, ownFrame}
 use Rattle.tables.proofs.chains.Laws.{Chained, plant-chain, plant-refused, plant-goes, plant-edged, plant-frames}
 use Rattle.tables.proofs.start_control.Laws.{answer-as, plant-bad, plant-good}
 use Rattle.tables.proofs.start_control.start_control.Statement.{statement}
@@ -39,11 +38,14 @@ module _ (c : tie.After-enum-told) where
   abbrev reading : List ℤ
   reading = c .before .before .before .before .before .args .x
 
+  was-taken : Taken (plantJudged plant) (c .before .before .judge-plant .result .outline)
+  was-taken = let r = c .before .before .judge-plant in read-good (plantJudged plant) (r .result) (r .ensures) (c .enum-told .given .1)
+
   abbrev p : Plant
-  p = c .before .before .read-plant .result .plant
+  p = was-taken .plant
 
   taken : plantJudged plant ≡ good p
-  taken = let r = c .before .before .read-plant in read-good (plantJudged plant) (r .result) (r .ensures) (c .enum-told .given .1)
+  taken = was-taken .was
 
   sound : Sound p
   sound = judged-sound plant p taken
@@ -51,13 +53,13 @@ module _ (c : tie.After-enum-told) where
 -- the chain was read
 module _ (x : tie.After-read-chain) where
   abbrev good-plant : tie.After-enum-told
-  good-plant = x .before .before .before
+  good-plant = x .before .before
 
   abbrev f : Frame
   f = x .before .framed .result
 
-  framed : f ≡ frameOf (p good-plant)
-  framed = x .before .framed .ensures
+  framed : f ≡ ownFrame (p good-plant)
+  framed = x .before .framed .ensures ∙ ap frameOf (was-taken good-plant .outline)
 
   abbrev chain : ChainRead
   chain = x .read-chain .result
@@ -66,11 +68,11 @@ module _ (x : tie.After-read-chain) where
   was-read = x .read-chain .ensures
 
   module _ (h : chain .verdict ≡ Verdict.Accepted) where
-    kept : Chained false (frameOf (p good-plant)) (start good-plant) chain
+    kept : Chained false (ownFrame (p good-plant)) (start good-plant) chain
     kept = plant-chain false (p good-plant) (sound good-plant) f framed (start good-plant) chain was-read h
 
-read-plant-requires : tie.Need-read-plant-requires
-read-plant-requires c κs = search needs
+judge-plant-requires : tie.Need-judge-plant-requires
+judge-plant-requires c κs = search needs
 
 enum-known-verdict : tie.Need-enum-known-verdict
 enum-known-verdict c = search needs
@@ -82,7 +84,7 @@ framed-requires : tie.Need-framed-requires
 framed-requires c κs = search needs
 
 read-chain-requires : tie.Need-read-chain-requires
-read-chain-requires c κs = subst (λ (f : Frame). f .n ≤ 4) (sym (c .framed .ensures)) (sound (c .before .before) .ranges .n-high)
+read-chain-requires c κs = subst (λ (f : Frame). f .n ≤ 4) (sym (c .framed .ensures ∙ ap frameOf (was-taken (c .before) .outline))) (sound (c .before) .ranges .n-high)
 
 enum-known-kept : tie.Need-enum-known-kept
 enum-known-kept c = search needs
@@ -92,7 +94,7 @@ enum-told-2 c = search needs
 
 start-call-requires : tie.Need-start-call-requires
 start-call-requires c κs =
-    let k = c .before .before .before .before .before in
+    let k = c .before .before in
     let x = k .before .before in
     let g = good-plant x in
     plant-frames false (p g) (sound g) (f x) (framed x) (start g) (chain x) (was-read x) (kept x (k .enum-told2 .given .1))
@@ -101,7 +103,7 @@ returns : tie.Need-returns
 returns c =
     let a = c .before .before .before .before .before .before .args in
     let e = c .before .verdict .given in
-    let r = c .before .before .before .read-plant in
+    let r = c .before .before .before .judge-plant in
     plant-bad (now (a .plant)) (now (a .start)) (a .st) (a .x) (e .0 .0) (read-bad (plantJudged (now (a .plant))) (r .result) (r .ensures) (e .0 .0) (e .1))
 
 returns-2 : tie.Need-returns-2
@@ -114,7 +116,7 @@ returns-2 c =
 
 returns-3 : tie.Need-returns-3
 returns-3 c =
-    let k = c .before .before .before .before .before .before in
+    let k = c .before .before .before in
     let x = k .before .before in
     let g = good-plant x in
     let t = kept x (k .enum-told2 .given .1) in
@@ -127,7 +129,7 @@ pub start-control-spec : {M : Type 1} → statement M
 start-control-spec =
     tie.close
     (tie.spec
-    read-plant-requires
+    judge-plant-requires
     enum-known-verdict
     enum-told
     framed-requires

@@ -1,4 +1,5 @@
--- `start_makes::make_start`: the chain, then its tables; a draft for at most sixteen tiles, or for the most that there can be. Assumes nothing.
+-- `start_makes::make_start`: the chain, then its tables; while modes take a byte, a draft for at most sixteen tiles, or for the most that there can be. Assumes
+-- nothing.
 use Prim.Native.Nat.{ℕ, _≤_}
 use mathlib.Core.Path.{_≡_, ap, _∙_}
 use mathlib.Core.Bool.{true}
@@ -9,12 +10,12 @@ use lib.IntN.{ℤ}
 use borrow.Author.Needs.{needs}
 use Rattle.meaning.specs.declared.Verdict.{Verdict}
 use Rattle.meaning.specs.Buffers.{Left, left}
-use Rattle.promises.specs.tables.TableLengths.{cap, cap-few}
 use Rattle.tables.specs.declared.chains.ChainRead.{ChainRead}
 use Rattle.tables.specs.declared.frames.Frame.{Frame}
 use Rattle.tables.specs.Chains.{mostAbove}
 use Rattle.tables.specs.StartMakes.{framesTables, FramesSound, behindChain, chainLeft}
 use Rattle.tables.proofs.chains.Laws.{Chained, chain-taken, chain-few, frame-sound}
+use Rattle.tables.proofs.drafts.Laws.{room-long, room-few}
 use Rattle.tables.proofs.start_makes.Laws.{chain-bad, chain-good}
 use Rattle.tables.proofs.start_makes.make_start.Statement.{statement}
 use Rattle.tables.proofs.start_makes.make_start.Tie as tie
@@ -50,11 +51,11 @@ module _ (x : tie.After-read-chain) where
     sound : (boxes .m ≤ mostAbove) × FramesSound frame bands coef (boxes .edges) (boxes .m)
     sound = (
       chain-few true frame chain boxes (x .read-chain .ensures) taken,
-      λ i k. frame-sound true frame chain boxes (x .read-chain .ensures) taken bands coef (from .pre .0) (from .pre .1) i k,
+      λ i k. (frame-sound true frame chain boxes (x .read-chain .ensures) taken (from .pre .0 .0) (from .pre .1) i k, from .pre .0 .1),
     )
 
     made : left (behindChain chain (framesTables frame bands coef (boxes .edges) (boxes .m))) buffer ≡ chainLeft frame bands coef chain buffer
-    made = chain-good frame bands coef chain buffer boxes (x .read-chain .ensures) taken (from .pre .0 .rooms)
+    made = chain-good frame bands coef chain buffer boxes (x .read-chain .ensures) taken (from .pre .0 .0 .rooms)
 
 read-chain-requires : tie.Need-read-chain-requires
 read-chain-requires c κs = search needs
@@ -68,25 +69,37 @@ refuse-requires c κs = search needs
 enum-told : tie.Need-enum-told
 enum-told c = search needs
 
-mul-if1 : tie.Need-mul-if1
-mul-if1 c = search needs
-
-slice-aggregate-write-start : tie.Need-slice-aggregate-write-start
-slice-aggregate-write-start c = search needs
-
-write-start-requires : tie.Need-write-start-requires
-write-start-requires c κs =
-    let x = c .before .before .before .before .before .before .before .before in
-    let g = from x .pre .0 in
-    (sound x (c .before .before .before .before .before .before .enum-told .given .1), omega (arith, cap-few (frame x .n) (frame x .d) (g .some) (g .rooms) (c .before .before .before .before .if1 .taken)))
+write-start-most-requires : tie.Need-write-start-most-requires
+write-start-most-requires c κs = sound (c .before .before .before .before .before .before .before) (c .before .before .before .before .before .enum-told .given .1)
 
 same-length : tie.Need-same-length
 same-length c = search needs
 
 returns : tie.Need-returns
 returns c =
+    let w = c .before .before .write-start-most in
+    let e = made (c .before .before .before .before .before .before .before .before .before .before) (c .before .before .before .before .before .before .before .before .enum-told .given .1) in
+    (w .ensures .0 ∙ ap (λ (l : Left). l .answer) e, w .ensures .1 ∙ ap (λ (l : Left). l .buffer) e)
+
+mul-if2 : tie.Need-mul-if2
+mul-if2 c = search needs
+
+slice-aggregate-write-start : tie.Need-slice-aggregate-write-start
+slice-aggregate-write-start c = search needs
+
+write-start-requires : tie.Need-write-start-requires
+write-start-requires c κs =
+    let x = c .before .before .before .before .before .before .before .before .before .before in
+    let brief : frame x .modes ≤ 128 = omega arith in
+    (sound x (c .before .before .before .before .before .before .before .before .enum-told .given .1), room-few (frame x) (from x .pre .0 .0) brief (c .before .before .before .before .if2 .taken))
+
+same-length-2 : tie.Need-same-length-2
+same-length-2 c = search needs
+
+returns-2 : tie.Need-returns-2
+returns-2 c =
     let w = c .before .before .before .write-start in
-    let e = made (c .before .before .before .before .before .before .before .before .before .before .before .before) (c .before .before .before .before .before .before .before .before .before .before .enum-told .given .1) in
+    let e = made (c .before .before .before .before .before .before .before .before .before .before .before .before .before .before) (c .before .before .before .before .before .before .before .before .before .before .before .before .enum-told .given .1) in
     (w .ensures .0 ∙ ap (λ (l : Left). l .answer) e, w .ensures .1 ∙ ap (λ (l : Left). l .buffer) e)
 
 slice-aggregate-write-start-2 : tie.Need-slice-aggregate-write-start-2
@@ -94,28 +107,28 @@ slice-aggregate-write-start-2 c = search needs
 
 write-start-requires-2 : tie.Need-write-start-requires-2
 write-start-requires-2 c κs =
-    let x = c .before .before .before .before .before .before .before .before in
-    let g = from x .pre .0 in
-    (sound x (c .before .before .before .before .before .before .enum-told .given .1), omega (arith, cap (frame x .n) (frame x .d) (g .some) (g .rooms) (g .depth) (g .tiles)))
-
-same-length-2 : tie.Need-same-length-2
-same-length-2 c = search needs
-
-returns-2 : tie.Need-returns-2
-returns-2 c =
-    let x = c .before .before .before .before .before .before .before in
-    let g = c .before .before .before .before .before .verdict .given in
-    let w = c .before .before .refuse in
-    let e = chain-bad (frame x) (bands x) (coef x) (chain x) (buffer x) (boxes x) (x .read-chain .ensures) (g .0 .0) (g .1) in
-    (w .ensures .0 ∙ ap (λ (l : Left). l .answer) e, w .ensures .1 ∙ ap (λ (l : Left). l .buffer) e)
+    let x = c .before .before .before .before .before .before .before .before .before .before in
+    let brief : frame x .modes ≤ 128 = omega arith in
+    (sound x (c .before .before .before .before .before .before .before .before .enum-told .given .1), room-long (frame x) (from x .pre .0 .0) brief)
 
 same-length-3 : tie.Need-same-length-3
 same-length-3 c = search needs
 
 returns-3 : tie.Need-returns-3
 returns-3 c =
+    let x = c .before .before .before .before .before .before .before in
+    let g = c .before .before .before .before .before .verdict .given in
+    let w = c .before .before .refuse in
+    let e = chain-bad (frame x) (bands x) (coef x) (chain x) (buffer x) (boxes x) (x .read-chain .ensures) (g .0 .0) (g .1) in
+    (w .ensures .0 ∙ ap (λ (l : Left). l .answer) e, w .ensures .1 ∙ ap (λ (l : Left). l .buffer) e)
+
+same-length-4 : tie.Need-same-length-4
+same-length-4 c = search needs
+
+returns-4 : tie.Need-returns-4
+returns-4 c =
     let w = c .before .before .before .write-start2 in
-    let e = made (c .before .before .before .before .before .before .before .before .before .before .before .before) (c .before .before .before .before .before .before .before .before .before .before .enum-told .given .1) in
+    let e = made (c .before .before .before .before .before .before .before .before .before .before .before .before .before .before) (c .before .before .before .before .before .before .before .before .before .before .before .before .enum-told .given .1) in
     (w .ensures .0 ∙ ap (λ (l : Left). l .answer) e, w .ensures .1 ∙ ap (λ (l : Left). l .buffer) e)
 
 pub make-start-spec : {M : Type 1} → statement M
@@ -126,14 +139,17 @@ make-start-spec =
     enum-known-verdict
     refuse-requires
     enum-told
-    mul-if1
-    slice-aggregate-write-start
-    write-start-requires
+    write-start-most-requires
     same-length
     returns
-    slice-aggregate-write-start-2
-    write-start-requires-2
+    mul-if2
+    slice-aggregate-write-start
+    write-start-requires
     same-length-2
     returns-2
+    slice-aggregate-write-start-2
+    write-start-requires-2
     same-length-3
-    returns-3)
+    returns-3
+    same-length-4
+    returns-4)

@@ -10,11 +10,11 @@ use Rattle.meaning.specs.declared.Refusal.{Refusal}
 use Rattle.meaning.specs.declared.Walk.{Walk}
 use Rattle.meaning.specs.Refusals.{noTable}
 use Rattle.meaning.specs.Starts.{tablesFrom}
-use Rattle.promises.specs.tables.TableLengths.{most}
+use Rattle.promises.specs.tables.TableLengths.{most, tileBytes}
 use Rattle.tables.specs.declared.drafts.Grown.{Grown}
 use Rattle.tables.specs.declared.frames.Frame.{Frame}
 use Rattle.tables.specs.Drafts.{Wrote}
-use Rattle.tables.specs.Frames.{rulesIn, FrameSound}
+use Rattle.tables.specs.Frames.{rulesIn, PlantSound}
 use Rattle.tables.specs.StartMakes.{partBytes, WroteParts, framesRules, framesTables}
 use Rattle.tables.proofs.start_makes.Laws.{Going, parts-begin, parts-done, parts-stopped, parts-more}
 use Rattle.tables.proofs.start_makes.put_parts.Statement.{statement}
@@ -66,15 +66,15 @@ frame-at-requires : tie.Need-frame-at-requires Inv-loop μ-loop
 frame-at-requires c κs =
     let s = c .before .before .before .before in
     let h = c .loop-test .taken in
-    (s .pre .0 .1 0 (omega arith) .rooms, omega (arith, s .pre .0 .0))
+    (s .pre .0 .1 0 (omega arith) .0 .rooms, omega (arith, s .pre .0 .0))
 
 put-part-requires : tie.Need-put-part-requires Inv-loop μ-loop
 put-part-requires c κs =
     let s = c .before .before .before .before .before .before .before in
     let l = c .before .before .before .before .loop in
     let e = sym (c .before .before .frame-at .ensures) in (
-      subst (λ (f : Frame). FrameSound f (now (s .args .bands)) (now (s .args .coef))) e (s .pre .0 .1 (l .i) (c .before .before .before .loop-test .taken)),
-      subst (λ (f : Frame). 2 + most (2 ^ f .n) 7 (f .d) ≤ length (l .draft)) e (omega (arith, s .pre .1 .0, l .inv .1)),
+      subst (λ (f : Frame). PlantSound f (now (s .args .bands)) (now (s .args .coef))) e (s .pre .0 .1 (l .i) (c .before .before .before .loop-test .taken)),
+      subst (λ (f : Frame). 2 + most (2 ^ f .n) (tileBytes (f .modes)) (f .d) ≤ length (l .draft)) e (omega (arith, s .pre .1 .0, l .inv .1)),
     )
 
 enum-known-grown : tie.Need-enum-known-grown Inv-loop μ-loop

@@ -1,21 +1,26 @@
--- `states::can_run`: each test that fails alone, and all of them together. Assumes nothing.
-use Prim.Native.Nat.{_+_, _≤_}
-use mathlib.Core.Path.{sym, _∙_}
-use native.Mathlib.Omega.{arith}
+-- `states::can_run`: each test that fails alone, and then the modes. Assumes nothing.
+use Prim.Native.Nat.{ℕ}
+use mathlib.Core.Path.{_≡_}
+use mathlib.Core.List.{List}
 use denote.Ref.{now}
-use lib.ListN.{length}
 use borrow.Author.Needs.{needs}
-use Rattle.tables.proofs.states.Laws.{too-many, too-low, too-far, runs-broken, runs-by-mode}
+use Rattle.meaning.specs.Verdicts.{modesAt}
+use Rattle.tables.specs.Modes.{told}
+use Rattle.tables.specs.Tiles.{patternOf}
+use Rattle.tables.proofs.states.Laws.{too-many, too-low, not-read, all-read}
 use Rattle.tables.proofs.states.can_run.Statement.{statement}
 use Rattle.tables.proofs.states.can_run.Tie as tie
 
--- the tests before the number were passed
-module _ (c : tie.Else4) where
+-- the modes were read
+module _ (c : tie.After-read-modes) where
   abbrev start : tie.Start
-  start = c .before .before .before .before .before
+  start = c .before .before .before .before
 
-  inside : start .args .place + start .args .left ≤ length (now (start .args .table))
-  inside = omega (arith, c .before .if3 .left, c .if4 .left)
+  abbrev modes : List ℕ
+  modes = patternOf (start .args .left) (c .read-modes .result .us)
+
+  read-as : told (c .read-modes .result .answer) modes ≡ modesAt (start .args .modes) (start .args .left) (now (start .args .table)) (start .args .place)
+  read-as = c .read-modes .ensures
 
 returns : tie.Need-returns
 returns c =
@@ -27,54 +32,30 @@ returns-2 c =
     let a = c .before .before .before .args in
     too-low (a .k) (a .modes) (now (a .table)) (a .place) (a .left) (c .if2 .taken)
 
-returns-3 : tie.Need-returns-3
-returns-3 c =
-    let a = c .before .before .before .before .args in
-    too-far (a .k) (a .modes) (now (a .table)) (a .place) (a .left) (omega (arith, c .if3 .taken))
-
-sub-if4 : tie.Need-sub-if4
-sub-if4 c = search needs
-
-returns-4 : tie.Need-returns-4
-returns-4 c =
-    let a = c .before .before .before .before .before .args in
-    too-far (a .k) (a .modes) (now (a .table)) (a .place) (a .left) (omega (arith, c .before .if3 .left, c .if4 .taken))
-
-number-requires : tie.Need-number-requires
-number-requires c κs = search needs
-
-enum-known-u : tie.Need-enum-known-u
-enum-known-u c = search needs
+read-modes-requires : tie.Need-read-modes-requires
+read-modes-requires c κs = search needs
 
 enum-told : tie.Need-enum-told
 enum-told c = search needs
 
-returns-5 : tie.Need-returns-5
-returns-5 c =
-    let e = c .before .before .before in
-    let a = start e .args in
-    runs-broken (a .k) (a .modes) (now (a .table)) (a .place) (a .left) (e .before .before .before .if1 .left) (e .before .before .if2 .left) (inside e)
-    (sym (c .before .before .number .ensures) ∙ c .enum-told .given .1)
+enum-told-2 : tie.Need-enum-told-2
+enum-told-2 c = search needs
 
-returns-6 : tie.Need-returns-6
-returns-6 c =
-    let e = c .before .before .before .before in
-    let a = start e .args in
-    let g = c .before .u .given in
-    runs-by-mode (a .k) (a .modes) (now (a .table)) (a .place) (a .left) (e .before .before .before .if1 .left) (e .before .before .if2 .left) (inside e) (g .0 .0) (g .0 .1 .0)
-    (sym (c .before .before .before .number .ensures) ∙ g .1)
+returns-3 : tie.Need-returns-3
+returns-3 c =
+    let x = c .before .before in
+    let a = start x .args in
+    let g = c .enum-told .given in
+    not-read (a .k) (a .modes) (now (a .table)) (a .place) (a .left) (x .before .before .if1 .left) (x .before .if2 .left) (x .read-modes .result .answer) (modes x) (read-as x) (g .0 .0) (g .1)
+
+returns-4 : tie.Need-returns-4
+returns-4 c =
+    let x = c .before .before in
+    let a = start x .args in
+    let g = c .enum-told2 .given in
+    all-read (a .k) (a .modes) (now (a .table)) (a .place) (a .left) (x .before .before .if1 .left) (x .before .if2 .left) (x .read-modes .result .answer) (modes x) (read-as x) (g .0 .0) (g .1)
 
 pub can-run-spec : {M : Type 1} → statement M
 can-run-spec =
     tie.close
-    (tie.spec
-    returns
-    returns-2
-    returns-3
-    sub-if4
-    returns-4
-    number-requires
-    enum-known-u
-    enum-told
-    returns-5
-    returns-6)
+    (tie.spec returns returns-2 read-modes-requires enum-told enum-told-2 returns-3 returns-4)

@@ -3,6 +3,7 @@ use Prim.Native.Nat.{ℕ, _+_, _-_, _≤_, _<_}
 use mathlib.Core.Path.{_≡_, ap, _∙_}
 use native.Mathlib.Omega.{arith}
 use denote.Ref.{now}
+use lib.ListN.{length}
 use mir.Facts.{toZ-ofZ}
 use Rattle.laws.specs.Integers.{ok64}
 use Rattle.laws.specs.Lists.{at}
@@ -12,7 +13,7 @@ use Rattle.meaning.specs.Plants.{bandLimit, bandStart}
 use Rattle.promises.specs.files.Sound.{Bounded}
 use Rattle.tables.specs.Images.{sumLimit, BandSound}
 use Rattle.tables.specs.Limits.{addLimit, divided, dividedIn}
-use Rattle.tables.proofs.images.Laws.{bandHere, band-here, band-small}
+use Rattle.tables.proofs.images.Laws.{bandHere, band-here, band-small, band-inside}
 use Rattle.tables.proofs.levels.Laws.{FilledTo, filled-none, filled-more, filled-box}
 use Rattle.tables.proofs.steps.divide.Statement.{statement}
 use Rattle.tables.proofs.steps.divide.Tie as tie
@@ -44,10 +45,13 @@ module _ (p : tie.After-band Inv-loop μ-loop) where
 
   -- the band is that of the mode
   placed : p .band .result ≡ bandStart (from round .args .n) (from round .args .u) (index round)
-  placed = p .band .ensures .0
+  placed = p .band .ensures
 
   small : Bounded bandLimit (bandHere (from round .args .n) (now (from round .args .bands)) (from round .args .u) (index round) (p .band .result) placed)
   small = let a = from round .args in band-small (a .n) (now (a .bands)) (a .u) (index round) (p .band .result) placed (band round)
+
+  within : p .band .result + 1 < length (now (from round .args .bands))
+  within = let a = from round .args in band-inside (a .n) (now (a .bands)) (a .u) (index round) (p .band .result) placed (band round)
 
   abbrev low : Ex
   low = let s = from round .args in var (at (now (s .slo)) (index round)) addLimit (from round .pre .1 .0 (index round) (round .loop-test .taken) .0) ⊕ var (at (now (s .bands)) (p .band .result)) bandLimit (small .low)
@@ -71,22 +75,22 @@ element-copy-out-h : tie.Need-element-copy-out-h Inv-loop μ-loop
 element-copy-out-h c = few (c .before)
 
 band-requires : tie.Need-band-requires Inv-loop μ-loop
-band-requires c κs = band (c .before .before) .inside
+band-requires c κs = omega (arith, band (c .before .before) .inside)
 
 mul-wl : tie.Need-mul-wl Inv-loop μ-loop
-mul-wl c = omega (arith, c .band .ensures .1)
+mul-wl c = omega (arith, within c)
 
-element-copy-out-wl : tie.Need-element-copy-out-wl Inv-loop μ-loop
-element-copy-out-wl c = omega (arith, c .band .ensures .1)
+shared-slice-copy-out-wl : tie.Need-shared-slice-copy-out-wl Inv-loop μ-loop
+shared-slice-copy-out-wl c = omega (arith, within c)
 
 add-wh : tie.Need-add-wh Inv-loop μ-loop
-add-wh c = omega (arith, c .before .band .ensures .1)
+add-wh c = omega (arith, within (c .before))
 
 mul-wh : tie.Need-mul-wh Inv-loop μ-loop
-mul-wh c = omega (arith, c .before .band .ensures .1)
+mul-wh c = omega (arith, within (c .before))
 
-element-copy-out-wh : tie.Need-element-copy-out-wh Inv-loop μ-loop
-element-copy-out-wh c = c .before .band .ensures .1
+shared-slice-copy-out-wh : tie.Need-shared-slice-copy-out-wh Inv-loop μ-loop
+shared-slice-copy-out-wh c = within (c .before)
 
 add-ceiling : tie.Need-add-ceiling Inv-loop μ-loop
 add-ceiling c = need (low (c .before .before)) tt
@@ -141,10 +145,10 @@ divide-spec =
     element-copy-out-h
     band-requires
     mul-wl
-    element-copy-out-wl
+    shared-slice-copy-out-wl
     add-wh
     mul-wh
-    element-copy-out-wh
+    shared-slice-copy-out-wh
     add-ceiling
     ceiling-requires
     add-floor

@@ -14,8 +14,8 @@ add-from c = search needs
 mul-from : tie.Need-mul-from
 mul-from c = search needs
 
-element-copy-out-from : tie.Need-element-copy-out-from
-element-copy-out-from c = search needs
+shared-slice-copy-out-from : tie.Need-shared-slice-copy-out-from
+shared-slice-copy-out-from c = search needs
 
 add-to : tie.Need-add-to
 add-to c = search needs
@@ -26,8 +26,8 @@ add-to-2 c = search needs
 mul-to : tie.Need-mul-to
 mul-to c = search needs
 
-element-copy-out-to : tie.Need-element-copy-out-to
-element-copy-out-to c = search needs
+shared-slice-copy-out-to : tie.Need-shared-slice-copy-out-to
+shared-slice-copy-out-to c = search needs
 
 ordered-requires : tie.Need-ordered-requires
 ordered-requires c κs = search needs
@@ -48,10 +48,10 @@ inside-spec =
     (tie.spec
     add-from
     mul-from
-    element-copy-out-from
+    shared-slice-copy-out-from
     add-to
     add-to-2
     mul-to
-    element-copy-out-to
+    shared-slice-copy-out-to
     ordered-requires
     returns)

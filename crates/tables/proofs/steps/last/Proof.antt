@@ -19,12 +19,12 @@ use Rattle.tables.proofs.steps.last.Statement.{statement}
 use Rattle.tables.proofs.steps.last.Tie as tie
 
 abbrev Inv-loop : tie.InvT-loop
-Inv-loop n count coef limits boxes place e₀ u₀ e u =
+Inv-loop n count coef limits marks boxes place e₀ u₀ e u =
     (u ≤ count) × (1 ≤ u → Extremes (lastEntries n coef (u - 1)) (boxIn n boxes place) (e .lo) (e .hi))
     × (firstMode (landing n coef limits (boxIn n boxes place)) (count - u) u ≡ firstMode (landing n coef limits (boxIn n boxes place)) count 0)
 
 abbrev μ-loop : tie.MeasureT-loop
-μ-loop n count coef limits boxes place e₀ u₀ e u = count - u
+μ-loop n count coef limits marks boxes place e₀ u₀ e u = count - u
 
 abbrev try : tie.Start Inv-loop μ-loop → ℕ → Option (List ℕ)
 try s = let a = s .args in landing (a .n) (now (a .coef)) (now (a .limits)) (boxIn (a .n) (now (a .boxes)) (a .place))
@@ -41,15 +41,16 @@ shared-requires c κs =
     let s = c .before .before in
     let l = c .before .loop in
     let h = c .loop-test .taken in
-    let few = s .pre .0 .2 in
-    ((omega arith, s .pre .0 .0, s .pre .0 .1 (l .u) h, s .pre .1 .0, s .pre .1 .1), λ z. let m = s .pre .0 .3 (l .u) h .shared z in rw (← m .1) (l .inv .1 (m .0)))
+    let room = s .pre .0 .3 .room in
+    ((omega arith, s .pre .0 .0, s .pre .0 .1 (l .u) h, s .pre .1 .0, s .pre .1 .1), λ z. let m = s .pre .0 .3 .marked (l .u) h .shared z in rw (← m .1) (l .inv .1 (m .0)))
 
 lands-requires : tie.Need-lands-requires Inv-loop μ-loop
 lands-requires c κs =
     let t = c .before in
     let s = t .before .before in
-    let few = s .pre .0 .2 in
-    ((omega (arith, t .loop-test .taken), s .pre .0 .0, s .pre .0 .1 (t .before .loop .u) (t .loop-test .taken), s .pre .1 .0, s .pre .1 .1), (c .shared .ensures, s .pre .0 .3 (t .before .loop .u) (t .loop-test .taken) .offset))
+    let h = t .loop-test .taken in
+    let m = s .pre .0 .3 in
+    ((omega (arith, s .pre .0 .2), s .pre .0 .0, s .pre .0 .1 (t .before .loop .u) (t .loop-test .taken), s .pre .1 .0, s .pre .1 .1), (c .shared .ensures, m .marked (t .before .loop .u) h .offset, omega (arith, m .room)))
 
 returns : tie.Need-returns Inv-loop μ-loop
 returns c =

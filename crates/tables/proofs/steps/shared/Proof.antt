@@ -14,20 +14,20 @@ use Rattle.tables.proofs.steps.shared.Tie as tie
 last-row : (s : tie.Start) → RowSound (s .args .n) (now (s .args .coef)) (rowStart (s .args .n) (s .args .u) (s .args .n - 1))
 last-row s = let k = s .pre .0 .1 in s .pre .0 .2 (s .args .n - 1) (omega arith)
 
-add-mark : tie.Need-add-mark
-add-mark c = search needs
-
 mul-mark : tie.Need-mul-mark
 mul-mark c = search needs
 
-element-copy-out-mark : tie.Need-element-copy-out-mark
-element-copy-out-mark c = search needs
+mul-mark-2 : tie.Need-mul-mark-2
+mul-mark-2 c = search needs
+
+shared-slice-copy-out-mark : tie.Need-shared-slice-copy-out-mark
+shared-slice-copy-out-mark c = search needs
 
 sub-row : tie.Need-sub-row
 sub-row c = search needs
 
 row-requires : tie.Need-row-requires
-row-requires c κs = last-row (c .before .before) .inside
+row-requires c κs = omega (arith, last-row (c .before .before) .inside)
 
 extremes-requires : tie.Need-extremes-requires
 extremes-requires c κs = let s = c .before .before .before in (rw (c .row .ensures) (last-row s), s .pre .0 .3, s .pre .0 .4)
@@ -42,9 +42,9 @@ pub shared-spec : {M : Type 1} → statement M
 shared-spec =
     tie.close
     (tie.spec
-    add-mark
     mul-mark
-    element-copy-out-mark
+    mul-mark-2
+    shared-slice-copy-out-mark
     sub-row
     row-requires
     extremes-requires

@@ -19,7 +19,7 @@ mul-stays : tie.Need-mul-stays
 mul-stays c = search needs
 
 stays-requires : tie.Need-stays-requires
-stays-requires c κs = let s = c .before .before .before in ((s .pre .0 .0, omega arith), (omega (arith, s .pre .1 .0), s .pre .1 .1, refl, refl))
+stays-requires c κs = let s = c .before .before .before in ((s .pre .0 .0, s .pre .0 .5), (omega (arith, s .pre .1 .0), s .pre .1 .1, refl, refl))
 
 add-divide : tie.Need-add-divide
 add-divide c = search needs

@@ -30,8 +30,8 @@ add-offset c = search needs
 mul-offset : tie.Need-mul-offset
 mul-offset c = search needs
 
-element-copy-out-offset : tie.Need-element-copy-out-offset
-element-copy-out-offset c = search needs
+shared-slice-copy-out-offset : tie.Need-shared-slice-copy-out-offset
+shared-slice-copy-out-offset c = search needs
 
 add-least : tie.Need-add-least
 add-least c = need (least (c .before .before .before)) tt
@@ -52,7 +52,7 @@ sums-spec =
     extremes-requires
     add-offset
     mul-offset
-    element-copy-out-offset
+    shared-slice-copy-out-offset
     add-least
     add-greatest
     returns)

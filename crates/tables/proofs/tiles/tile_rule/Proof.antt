@@ -91,7 +91,7 @@ image-requires c κs =
     (sound (start (t .before)) (l .i) (t .loop-test .taken), l .inv .1)
 
 within-requires : tie.Need-within-requires Inv-loop μ-loop
-within-requires c κs = let s = start (round c .before) in s .pre .0 .0 .rooms
+within-requires c κs = let s = start (round c .before) in s .pre .0 .0 .0 .rooms
 
 add-i : tie.Need-add-i Inv-loop μ-loop
 add-i c = let t = round (c .before .before) in let h = t .loop-test .taken in let k = start (t .before) .pre .1 .longest in omega arith
@@ -125,7 +125,7 @@ returns c =
     sym (tile-leaves (frame s) (bands s) (coef s) (modes s) (s .args .k) (l .i) (box s (l .c)) (box s (g .image .result)) (t .loop-test .taken) (g .image .ensures) e) ∙ l .inv .2
 
 within-requires-2 : tie.Need-within-requires-2 Inv-loop μ-loop
-within-requires-2 c κs = let s = start (c .before) in s .pre .0 .0 .rooms
+within-requires-2 c κs = let s = start (c .before) in s .pre .0 .0 .0 .rooms
 
 returns-2 : tie.Need-returns-2 Inv-loop μ-loop
 returns-2 c =

@@ -207,7 +207,7 @@ walk-walk-requires t c κs =
     let h = c .before .loop-test .taken in
     let z = c .before .before .before .before .before .if3 .left in
     let less = s .pre .0 in
-    (omega arith, (s .pre .1 .0, rw (c .child .ensures) (small-children edgeLimit (box t s) (c .before .before .loop .c) (rw (← k) h) (s .pre .1 .1))))
+    (omega arith, (s .pre .1 .0, rw (c .child .ensures) (small-children edgeLimit (box t s) (c .before .before .loop .c) (rw (← k) h) (s .pre .1 .1)), s .pre .1 .2))
 
 walk-enum-known-past : (t : ℕ) → walk-lts.Need-enum-known-past (claims t) (walk-at t) walk.Post walk-Inv-loop walk-μ-loop
 walk-enum-known-past t c = search needs

@@ -81,7 +81,10 @@ enum-known-past-2 : tie.Need-enum-known-past-2
 enum-known-past-2 c = search needs
 
 tile-rule-requires : tie.Need-tile-rule-requires
-tile-rule-requires c κs = let k = c .before .before in (start k .pre .0, below-modes k)
+tile-rule-requires c κs =
+    let k = c .before .before in
+    let p = start k .pre .0 in
+    (((p .0, p .2 (c .before .if1 .taken)), p .1), below-modes k)
 
 enum-told : tie.Need-enum-told
 enum-told c = search needs

@@ -1,4 +1,4 @@
--- `drafts::table`: header, then the tree of the box that is tiled, by the frame taken apart. Assumes nothing.
+-- `drafts::table_with`: the limits, the header, then the tree of the box that is tiled, by the frame taken apart. Assumes nothing.
 use mathlib.Core.Path.{_≡_, sym, subst}
 use denote.Ref.{now}
 use borrow.Author.Needs.{needs}
@@ -10,13 +10,13 @@ use Rattle.tables.specs.Frames.{frameFrom, rulesIn}
 use Rattle.tables.specs.Limits.{LimitsLaid}
 use Rattle.tables.proofs.frames.Laws.{lent-is}
 use Rattle.tables.proofs.drafts.Laws.{table-wrote}
-use Rattle.tables.proofs.drafts.table.Statement.{statement}
-use Rattle.tables.proofs.drafts.table.Tie as tie
+use Rattle.tables.proofs.drafts.table_with.Statement.{statement}
+use Rattle.tables.proofs.drafts.table_with.Tie as tie
 
 -- the frame was taken apart, and is the frame
 module _ (x : tie.After-counts-of) where
   abbrev from : tie.Start
-  from = x .before .before .before .before .before .before .before .before .before .before .before .before .before .before
+  from = x .before .before .before .before .before .before .before .before .before .before .before .before .before .before .before .before .before
 
   whole : frameFrom (x .counts-of .result) (x .before .before .before .before .before .before .before .before .before .edges-of .result) ≡ from .args .f
   whole = lent-is (from .args .f) (x .counts-of .result) (x .before .before .before .before .before .before .before .before .before .edges-of .result) (x .counts-of .ensures) (x .before .before .before .before .before .before .before .before .before .edges-of .ensures)
@@ -38,24 +38,31 @@ counts-of-requires c κs = search needs
 
 tree-requires : tie.Need-tree-requires
 tree-requires c κs =
-    let x = c .before .before .before in
+    let x = c .before .before .before .before in
     let a = from x .args in
-    subst (λ (f : Frame). LimitsLaid f (now (a .bands)) (now (a .coef)) (x .before .before .before .before .before .before .before .before .before .before .before .lay .last .1 .1 .1 .0) × Small edgeLimit (boxOf (f .n) (a .f .root))) (sym (whole x)) (x .before .before .before .before .before .before .before .before .before .before .before .lay .ensures, from x .pre .root)
+    let l = x .before .before .before .before .before .before .before .before .before .before .before .before .before .lay in
+    subst (λ (f : Frame). LimitsLaid f (now (a .bands)) (now (a .coef)) (l .last .1 .1 .1 .0) (l .last .1 .1 .1 .1 .0) × Small edgeLimit (boxOf (f .n) (a .f .root))) (sym (whole x)) (l .ensures .0, from x .pre .0 .0 .root)
 
 same-length : tie.Need-same-length
 same-length c = search needs
 
+same-length-2 : tie.Need-same-length-2
+same-length-2 c = search needs
+
+same-length-3 : tie.Need-same-length-3
+same-length-3 c = search needs
+
 returns : tie.Need-returns
 returns c =
-    let x = c .before .before .before .before .before .before in
+    let x = c .before .before .before .before .before .before .before in
     let a = from x .args in
     let w = c .before .before .tree in
-    let v = c .before .before .before .before .before .before .before .before .before .put-number2 in
-    table-wrote (rulesIn (a .f) (now (a .bands)) (now (a .coef))) (c .before .before .before .before .before .before .before .before .before .before .before .before .before .put-number .ensures) (v .ensures) (w .result) (w .last .1 .1 .1 .1 .1 .1 .1 .0)
-    (subst (λ (f : Frame). Wrote (treeBytes (rulesIn f (now (a .bands)) (now (a .coef))) (a .f .d) (boxOf (f .n) (a .f .root))) (v .last .0) (v .result) (w .result) (w .last .1 .1 .1 .1 .1 .1 .1 .0)) (whole x) (w .ensures))
+    let v = c .before .before .before .before .before .before .before .before .before .before .put-number2 in
+    table-wrote (rulesIn (a .f) (now (a .bands)) (now (a .coef))) (c .before .before .before .before .before .before .before .before .before .before .before .before .before .before .put-number .ensures) (v .ensures) (w .result) (w .last .1 .1 .1 .1 .1 .1 .1 .1 .0)
+    (subst (λ (f : Frame). Wrote (treeBytes (rulesIn f (now (a .bands)) (now (a .coef))) (a .f .d) (boxOf (f .n) (a .f .root))) (v .last .0) (v .result) (w .result) (w .last .1 .1 .1 .1 .1 .1 .1 .1 .0)) (whole x) (w .ensures))
 
-pub table-spec : {M : Type 1} → statement M
-table-spec =
+pub table-with-spec : {M : Type 1} → statement M
+table-with-spec =
     tie.close
     (tie.spec
     lay-requires
@@ -65,4 +72,6 @@ table-spec =
     counts-of-requires
     tree-requires
     same-length
+    same-length-2
+    same-length-3
     returns)
