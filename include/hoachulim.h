@@ -3,7 +3,10 @@
 
    A number is 0, or that of the refusal; out[0] is its place and out[1] its step, each 0 where it has none.
    The two controllers answer a mode, and their out has the number before these.
-   Every number is 64 bits wide, answers and lengths too, so that one proved module serves every processor. */
+   Every number is 64 bits wide, answers and lengths too, so that one proved module serves every processor.
+
+   Stack, in bytes, measured on an emulated Cortex-M4: plant 2,624, sheet 12,464, control 8,312, start_control 8,920, whatever the plant; check and
+   start_check 12,776 for plants of at most sixteen modes, 69,520 for more; start_make 83,736 for at most sixteen modes, make 195,352 for more. */
 #ifndef HOACHULIM_H
 #define HOACHULIM_H
 
