@@ -5,8 +5,8 @@
    The two controllers answer a mode, and their out has the number before these.
    Every number is 64 bits wide, answers and lengths too, so that one proved module serves every processor.
 
-   Stack, in bytes, measured on an emulated Cortex-M4: plant 2,624, sheet 12,464, control 8,312, start_control 8,920, whatever the plant; check and
-   start_check 12,776 for plants of at most sixteen modes, 69,520 for more; start_make 83,736 for at most sixteen modes, make 195,352 for more. */
+   Stack, in bytes, measured on an emulated Cortex-M4: plant 2,624, sheet 12,464, control 8,312, start_control 8,920, whatever the plant;
+   start_check 12,776 and start_make 83,736 on a plant of one mode; check 69,520 and make 195,352 on one of 129, whose larger arrays they keep. */
 #ifndef HOACHULIM_H
 #define HOACHULIM_H
 
