@@ -1,18 +1,19 @@
-// Files that the program's arguments name, read whole into a lent buffer. Relies on os and io. Leaves out what a file says.
+// The program's arguments: files that they name, read whole into a lent buffer, and words. Relies on os and io. Leaves out what a file says.
 // What goes wrong is told on standard error: the file's name and why. A buffer is longer than any right file of its kind, by as many bytes as settle
 // what is said of one that goes on behind it; so every file is judged, however long. A start file's lengths may reach as far as they like, so that no number
 // of bytes settles what is said of it: who reads one asks whether it was read whole.
 use libc::STDERR_FILENO;
+ghost use Prim.Native.Nat.{_≤_};
 ghost use Rattle.io.specs.Counts.{Counts};
 
-// Room for a file of each kind. No plant has more than 27,704 bytes, and a byte more settles any file. No table has more than 54,615; its last number
-// begins at 54,613 at most, and five bytes tell what a number is.
+// Room for a file of each kind. No plant has more than 27,704 bytes, and a byte more settles any file. No table has more than 57,345; its last number
+// begins at 57,343 at most, and five bytes tell what a number is.
 pub const PLANT: usize = 27_705;
 
-pub const TABLE: usize = 54_620;
+pub const TABLE: usize = 57_350;
 
-// More than the 491,660 bytes of the largest.
-pub const START: usize = 500_000;
+// More than the 516,326 bytes of the largest.
+pub const START: usize = 520_000;
 
 // A file that was read, how many of its bytes, and whether that is all of it; or not read, which was told.
 pub struct Paper {
@@ -90,4 +91,49 @@ pub fn says_start() -> bool {
         && word[2] == b'a'
         && word[3] == b'r'
         && word[4] == b't'
+}
+
+// A word read as a number: what it says, or that it is none.
+pub enum Word {
+    Number(usize),
+    Other,
+}
+
+// v with a digit behind it. From 10^18 on it stays as it is: a number too long to hold is never taken for a small one.
+fn longer(v: usize, digit: usize) -> usize
+    requires { ⌜ digit ≤ 9 ⌝ }
+{
+    if v < 1_000_000_000_000_000_000 {
+        v * 10 + digit
+    } else {
+        v
+    }
+}
+
+// The number that a word of decimal digits says.
+fn said(word: &[u8]) -> Word {
+    if word.len() == 0 {
+        return Word::Other;
+    }
+    let mut v: usize = 0;
+    let mut i: usize = 0;
+    while i < word.len() {
+        let letter = word[i];
+        if letter < b'0' {
+            return Word::Other;
+        }
+        if b'9' < letter {
+            return Word::Other;
+        }
+        v = longer(v, (letter - b'0') as usize);
+        i += 1;
+    }
+    Word::Number(v)
+}
+
+// The number that argument i says. A word that is longer than the buffer counts as empty, and says none.
+pub fn number(i: usize) -> Word {
+    let mut word = io::buffer();
+    let length = os::arg(i, &mut word);
+    said(&word[..length])
 }

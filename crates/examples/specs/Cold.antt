@@ -41,7 +41,7 @@ start =
     ∷ 0x07 ∷ 0x01 ∷ 0x01 ∷ 0x00 ∷ 0x01 ∷ 0x01 ∷ 0x01 ∷ 0x00
     ∷ 0x07 ∷ 0x01 ∷ 0x01 ∷ 0x00 ∷ 0x01 ∷ 0x01 ∷ 0x01 ∷ 0x00 ∷ []
 
-made : (startMade P chain ≡ good start) × (startChecked P start ≡ Verdict.Accepted)
+made : (startMade P chain 1 ≡ good start) × (startChecked P start ≡ Verdict.Accepted)
 unfolding computing
 made = (refl, refl)
 
@@ -57,11 +57,11 @@ called = (refl, refl, refl, refl, refl, refl, refl, refl)
 
 -- Chains that are refused: a box that does not hold the one before, one outside S, m over 8, another form, a byte behind, lo > hi, an edge cut short. And no
 -- table: at depth 0 no pattern works for all of R, and from 150 no two modes lead into R.
-refusals : (startMade P (fileOf (chainForm 1) (pos 1 ∷ pos 2 ∷ pos 190 ∷ pos 230 ∷ pos 191 ∷ pos 230 ∷ [])) ≡ bad (notHeld 2))
-    × (startMade P (fileOf (chainForm 1) (pos 1 ∷ pos 1 ∷ pos 190 ∷ pos 231 ∷ [])) ≡ bad (notHeld 1))
-    × (startMade P (1 ∷ 9 ∷ []) ≡ bad (unfit 1)) × (startMade P (2 ∷ []) ≡ bad wrongForm) × (startMade P (chain ++ 0 ∷ []) ≡ bad (unfit 6))
-    × (startMade P (fileOf (chainForm 1) (pos 1 ∷ pos 1 ∷ pos 230 ∷ pos 190 ∷ [])) ≡ bad (unfit 4)) × (startMade P (1 ∷ 1 ∷ 0xFC ∷ []) ≡ bad (broken 2))
-    × (startMade (plantIn 190 230 0) chain ≡ bad (noTable 0)) × (startMade (plantIn 150 260 1) (fileOf (chainForm 1) (pos 1 ∷ pos 1 ∷ pos 150 ∷ pos 260 ∷ [])) ≡ bad (noTable 1))
+refusals : (startMade P (fileOf (chainForm 1) (pos 1 ∷ pos 2 ∷ pos 190 ∷ pos 230 ∷ pos 191 ∷ pos 230 ∷ [])) 1 ≡ bad (notHeld 2))
+    × (startMade P (fileOf (chainForm 1) (pos 1 ∷ pos 1 ∷ pos 190 ∷ pos 231 ∷ [])) 1 ≡ bad (notHeld 1))
+    × (startMade P (1 ∷ 9 ∷ []) 1 ≡ bad (unfit 1)) × (startMade P (2 ∷ []) 1 ≡ bad wrongForm) × (startMade P (chain ++ 0 ∷ []) 1 ≡ bad (unfit 6))
+    × (startMade P (fileOf (chainForm 1) (pos 1 ∷ pos 1 ∷ pos 230 ∷ pos 190 ∷ [])) 1 ≡ bad (unfit 4)) × (startMade P (1 ∷ 1 ∷ 0xFC ∷ []) 1 ≡ bad (broken 2))
+    × (startMade (plantIn 190 230 0) chain 1 ≡ bad (noTable 0)) × (startMade (plantIn 150 260 1) (fileOf (chainForm 1) (pos 1 ∷ pos 1 ∷ pos 150 ∷ pos 260 ∷ [])) 1 ≡ bad (noTable 1))
 unfolding computing
 refusals = (refl, refl, refl, refl, refl, refl, refl, refl, refl)
 
@@ -75,7 +75,7 @@ startFrom (good s) = s
 startFrom (bad e) = []
 
 abbrev coldStart : List ℕ
-coldStart = startFrom (startMade cold (fileOf (chainForm 1) (pos 1 ∷ pos 2 ∷ pos 180 ∷ pos 225 ∷ pos 160 ∷ pos 230 ∷ [])))
+coldStart = startFrom (startMade cold (fileOf (chainForm 1) (pos 1 ∷ pos 2 ∷ pos 180 ∷ pos 225 ∷ pos 160 ∷ pos 230 ∷ [])) 1)
 
 abbrev coldTold : StartState → ℕ → StartAnswer
 coldTold st x = startControlled cold coldStart st (pos x ∷ [])
@@ -127,16 +127,16 @@ unfoldable same : ℕ → List ℤ
 same zero = []
 same (suc m) = pos 195 ∷ pos 225 ∷ same m
 
-equal-boxes : (startControlled P (startFrom (startMade P (fileOf (chainForm 1) (pos 1 ∷ pos 8 ∷ same 8)))) (state 8 4 1) (pos 200 ∷ []) ≡ StartAnswer.Mode 1 startIdle)
-    × (startControlled P (startFrom (startMade P (fileOf (chainForm 1) (pos 1 ∷ pos 8 ∷ same 8)))) (state 9 4 1) (pos 200 ∷ []) ≡ StartAnswer.Refused badState)
+equal-boxes : (startControlled P (startFrom (startMade P (fileOf (chainForm 1) (pos 1 ∷ pos 8 ∷ same 8)) 1)) (state 8 4 1) (pos 200 ∷ []) ≡ StartAnswer.Mode 1 startIdle)
+    × (startControlled P (startFrom (startMade P (fileOf (chainForm 1) (pos 1 ∷ pos 8 ∷ same 8)) 1)) (state 9 4 1) (pos 200 ∷ []) ≡ StartAnswer.Refused badState)
 unfolding computing same
 equal-boxes = (refl, refl)
 
 -- a lent buffer: too short it is all zeros, and a longer one keeps what stands behind
-lent-short : startLeft P chain (replicate 21 0xAA) ≡ refusedWith short (replicate 21 0xAA)
+lent-short : startLeft P chain 1 (replicate 21 0xAA) ≡ refusedWith short (replicate 21 0xAA)
 unfolding computing
 lent-short = refl
 
-lent-long : startLeft P chain (replicate 23 0xAA) ≡ record { answer = Written.Length 22; buffer = start ++ 0xAA ∷ [] }
+lent-long : startLeft P chain 1 (replicate 23 0xAA) ≡ record { answer = Written.Length 22; buffer = start ++ 0xAA ∷ [] }
 unfolding computing
 lent-long = refl

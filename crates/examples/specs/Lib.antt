@@ -1,5 +1,6 @@
 pub mod Answers
 pub mod Banded
 pub mod Cold
+pub mod Halving
 pub mod Many
 pub mod Worked

@@ -36,7 +36,7 @@ ranges = (refl, refl)
 abbrev table : List ℕ
 table = 0x01 ∷ 0x01 ∷ 0x00 ∷ 0x01 ∷ 0x80 ∷ 0x01 ∷ 0x01 ∷ 0x00 ∷ []
 
-tables : (made (valves 190 230 1) ≡ good table) × (checked (valves 190 230 1) table ≡ Verdict.Accepted)
+tables : (made (valves 190 230 1) 1 ≡ good table) × (checked (valves 190 230 1) table ≡ Verdict.Accepted)
     × (checked (valves 190 230 1) (0x01 ∷ 0x01 ∷ 0x00 ∷ 0x01 ∷ 0x81 ∷ 0x01 ∷ 0x01 ∷ 0x00 ∷ []) ≡ Verdict.Refused (badTable 4))
 unfolding computing cool
 tables = (refl, refl, refl)

@@ -55,15 +55,16 @@ pub extern "C" fn hoachulim_check(plant: &[u8], table: &[u8], out: &mut [u64; 2]
     shown::verdict(verdict, out)
 }
 
-// The table of a plant file into a lent buffer: 0, or the number of the refusal; out holds the length written, or place and step. Finished, only
+// The table of a plant file, of the form that is told, into a lent buffer: 0, or the number of the refusal; out holds the length written, or place and step. Finished, only
 // the table's bytes are changed; refused, the buffer is all zeros.
 #[no_mangle]
-pub extern "C" fn hoachulim_make(plant: &[u8], buf: &mut [u8], out: &mut [u64; 2]) -> u64
-    ensures number { λ r. ⌜ r ≡ writtenShown (makerLeft (now (plant .entry)) (now (buf .entry)) .answer) .number ⌝ }
-    ensures length { λ r. ⌜ now (out .exit) ≡ lengthOrPlace (makerLeft (now (plant .entry)) (now (buf .entry)) .answer) ⌝ }
-    ensures bytes { λ r. ⌜ now (buf .exit) ≡ makerLeft (now (plant .entry)) (now (buf .entry)) .buffer ⌝ }
+pub extern "C" fn hoachulim_make(plant: &[u8], form: u64, buf: &mut [u8], out: &mut [u64; 2]) -> u64
+    ensures number { λ r. ⌜ r ≡ writtenShown (makerLeft (now (plant .entry)) form (now (buf .entry)) .answer) .number ⌝ }
+    ensures length { λ r. ⌜ now (out .exit) ≡ lengthOrPlace (makerLeft (now (plant .entry)) form (now (buf .entry)) .answer) ⌝ }
+    ensures bytes { λ r. ⌜ now (buf .exit) ≡ makerLeft (now (plant .entry)) form (now (buf .entry)) .buffer ⌝ }
 {
-    let written = makes::make(plant, buf);
+    let told = form as usize;
+    let written = makes::make(plant, told, buf);
     shown::written(written, out)
 }
 
@@ -107,20 +108,22 @@ pub extern "C" fn hoachulim_start_check(plant: &[u8], start: &[u8], out: &mut [u
     shown::verdict(verdict, out)
 }
 
-// The start file of a plant file and a chain into a lent buffer: 0, or the number of the refusal; out holds the length written, or place and step.
+// The start file of a plant file and a chain, its tables of the form that is told, into a lent buffer: 0, or the number of the refusal; out holds the length written, or place and step.
 // Finished, only the file's bytes are changed; refused, the buffer is all zeros.
 #[no_mangle]
 pub extern "C" fn hoachulim_start_make(
     plant: &[u8],
     chain: &[u8],
+    form: u64,
     buf: &mut [u8],
     out: &mut [u64; 2],
 ) -> u64
-    ensures number { λ r. ⌜ r ≡ writtenShown (startLeft (now (plant .entry)) (now (chain .entry)) (now (buf .entry)) .answer) .number ⌝ }
-    ensures length { λ r. ⌜ now (out .exit) ≡ lengthOrPlace (startLeft (now (plant .entry)) (now (chain .entry)) (now (buf .entry)) .answer) ⌝ }
-    ensures bytes { λ r. ⌜ now (buf .exit) ≡ startLeft (now (plant .entry)) (now (chain .entry)) (now (buf .entry)) .buffer ⌝ }
+    ensures number { λ r. ⌜ r ≡ writtenShown (startLeft (now (plant .entry)) (now (chain .entry)) form (now (buf .entry)) .answer) .number ⌝ }
+    ensures length { λ r. ⌜ now (out .exit) ≡ lengthOrPlace (startLeft (now (plant .entry)) (now (chain .entry)) form (now (buf .entry)) .answer) ⌝ }
+    ensures bytes { λ r. ⌜ now (buf .exit) ≡ startLeft (now (plant .entry)) (now (chain .entry)) form (now (buf .entry)) .buffer ⌝ }
 {
-    let written = start_makes::start_make(plant, chain, buf);
+    let told = form as usize;
+    let written = start_makes::start_make(plant, chain, told, buf);
     shown::written(written, out)
 }
 

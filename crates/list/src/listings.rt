@@ -1,5 +1,5 @@
-// The listing (document 01, "The listing program"): the table of a plant, a line for each tile in file order. Relies on crate tables for the table,
-// on boxes for the tiles' boxes. Leaves out whether a table is right: it lists what the maker made.
+// The listing (document 01, "The listing program"; request 2026-06): the table of a plant in the form that is asked for, a line for each tile in file order.
+// Relies on crate tables for the table, on boxes for the tiles' boxes. Leaves out whether a table is right: it lists what the maker made.
 // The tree is walked twice: the header tells how many tiles there are before the first is told.
 use crate::boxes;
 use crate::boxes::Bx;
@@ -96,8 +96,8 @@ fn tile(shown: bool, n: usize, table: &[u8], place: usize, k: usize, b: Bx, t: T
     }
 }
 
-// The tree at the tally's place, over box b with depth d left.
-fn tree(shown: bool, n: usize, table: &[u8], d: usize, b: Bx, t: Tally) -> Tally {
+// The tree at the tally's place, of a table of that form, over box b with depth d left.
+fn tree(shown: bool, form: usize, n: usize, table: &[u8], d: usize, b: Bx, t: Tally) -> Tally {
     let Number::Value(k, next) = numbers::number(table, t.place) else {
         return t;
     };
@@ -107,7 +107,7 @@ fn tree(shown: bool, n: usize, table: &[u8], d: usize, b: Bx, t: Tally) -> Tally
     if d == 0 {
         return t;
     }
-    let count = boxes::count(n, b);
+    let count = boxes::count(form, n, b);
     let mut past = Tally {
         place: next,
         tiles: t.tiles,
@@ -115,8 +115,8 @@ fn tree(shown: bool, n: usize, table: &[u8], d: usize, b: Bx, t: Tally) -> Tally
     };
     let mut c: usize = 0;
     while c < count {
-        let child = boxes::child(n, b, c);
-        past = tree(shown, n, table, d - 1, child, past);
+        let child = boxes::child(form, n, b, c);
+        past = tree(shown, form, n, table, d - 1, child, past);
         c += 1;
     }
     past
@@ -151,14 +151,29 @@ fn show_box(n: usize, i: usize, b: Bx, t: Tally) {
     show_tally(line, past_colon, t);
 }
 
-// The walk of a whole table over its box: the tree stands behind form and n, a byte each.
+// How deep the splits of a form may go in a plant of depth d: where one side is halved at a time, n times as deep. No plant has a d above 6: one
+// that had would be left as it is, so that nothing overflows.
+fn depth(form: usize, n: usize, d: usize) -> usize {
+    if form != 3 {
+        return d;
+    }
+    if 6 < d {
+        return d;
+    }
+    boxes::sides(n) * d
+}
+
+// The walk of a whole table over its box, by the table's own form. The tree stands behind form and n, a byte each.
 fn walk(shown: bool, n: usize, d: usize, table: &[u8], root: Bx) -> Tally {
     let start = Tally {
         place: 2,
         tiles: 0,
         longest: 0,
     };
-    tree(shown, n, table, d, root, start)
+    let Number::Value(form, _) = numbers::number(table, 0) else {
+        return start;
+    };
+    tree(shown, form, n, table, depth(form, n, d), root, start)
 }
 
 // The first `length` bytes of a table's buffer, made for that plant.
@@ -180,11 +195,11 @@ pub fn show_part(n: usize, d: usize, i: usize, table: &[u8], root: Bx) {
     walk(true, n, d, table, root);
 }
 
-// The listing of a plant's file, or its refusal.
-pub fn list(plant: &[u8]) {
-    let mut room = [0u8; 54_615];
+// The listing of a plant's table of that form, or the refusal. No table has more bytes than there is room for.
+pub fn list(plant: &[u8], form: usize) {
+    let mut room = [0u8; 57_345];
     let table: &mut [u8] = &mut room;
-    match makes::make(plant, table) {
+    match makes::make(plant, form, table) {
         Written::Refused(e) => tellings::tell_place(e),
         Written::Length(length) => {
             let read = plants::judge_plant(plant);

@@ -3,7 +3,7 @@
 use Prim.Native.Nat.{ℕ}
 use mathlib.Core.Bool.{Bool, false, _&&_, _||_, cond}
 use mathlib.Core.List.{List, [], _∷_, _++_, map}
-use lib.IntN.{ℤ, pos, _+ℤ_}
+use lib.IntN.{ℤ, pos, _+ℤ_, _-ℤ_}
 use lib.Signed.{leZ, ltZ}
 use Rattle.laws.specs.Division.{floorZ}
 use Rattle.laws.specs.Lists.{at, tab, all}
@@ -73,3 +73,25 @@ anyLong (s ∷ ss) = long s || anyLong ss
 
 unfoldable pub children : List Side → List (List Side)
 children b = cond (anyLong b) (pieces b) []
+
+-- ---- request 2026-06: the longest side alone, in two
+
+-- a side's counts beyond the first; and the most of a box
+abbrev pub reach : Side → ℤ
+reach s = s .hi -ℤ s .lo
+
+abbrev pub larger : ℤ → ℤ → ℤ
+larger a b = cond (leZ a b) b a
+
+unfoldable pub furthest : List Side → ℤ
+furthest [] = pos 0
+furthest (s ∷ ss) = larger (reach s) (furthest ss)
+
+-- the first side that reaches so far, halved, lower half first; the others stay
+unfoldable pub halved : ℤ → List Side → List (List Side)
+halved far [] = []
+halved far (s ∷ ss) = cond (leZ far (reach s)) (map (λ h. h ∷ ss) (halves s)) (map (λ b. s ∷ b) (halved far ss))
+
+-- the longest side, the lowest dimension where several are equal; a box with no long side cannot be split
+unfoldable pub longestHalved : List Side → List (List Side)
+longestHalved b = cond (anyLong b) (halved (furthest b) b) []

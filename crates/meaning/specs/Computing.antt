@@ -2,7 +2,7 @@
 use Rattle.laws.specs.Lists.{tab, tabs, all, firstFalse}
 use Rattle.meaning.specs.Numbers.{groupsAt, groupsOf}
 use Rattle.meaning.specs.Files.{little, lowFirst, valuesAt, fileOf}
-use Rattle.meaning.specs.Boxes.{fits, lies, inFront, pieces, anyLong, children}
+use Rattle.meaning.specs.Boxes.{fits, lies, inFront, pieces, anyLong, children, furthest, halved, longestHalved}
 use Rattle.meaning.specs.Images.{dot, reachedAll, extreme, image}
 use Rattle.meaning.specs.Plants.{times, edges, bands, row, headed, modesOwn, modesAlike, plantForm, plantOf, numbersOf, wideModes, plantJudged, plantLeft}
 use Rattle.meaning.specs.Rules.{ruleFrom}
@@ -16,5 +16,5 @@ use Rattle.meaning.specs.Sheets.{finite, roomForm, sheetForm, roomsOf, s
 use lib.Ieee.{add, sub, mul, lt, ofBits, toBits}
 
 unfoldable pub computing : Unit {0}
-unfolding tab tabs all firstFalse groupsAt groupsOf little lowFirst valuesAt fileOf fits lies inFront pieces anyLong children dot reachedAll extreme image times edges bands row headed modesOwn modesAlike plantForm plantOf numbersOf wideModes plantJudged plantLeft ruleFrom modesBytes layout longest tilesOf each modesAt walk header verdict firstMode allOf exactly shortest treeOf among find call checked made makerLeft controlled chainForm partsOf tablesAt startChecked tablesFrom startMade startLeft onPart startControlled finite roomForm sheetForm roomsOf sheetOf sheetValues sumFrom coefficient emitters offset wholeOf unitsOf largestEdge widening madeNumbers sheetJudged sheetLeft madeLeft add sub mul lt ofBits toBits
+unfolding tab tabs all firstFalse groupsAt groupsOf little lowFirst valuesAt fileOf fits lies inFront pieces anyLong children furthest halved longestHalved dot reachedAll extreme image times edges bands row headed modesOwn modesAlike plantForm plantOf numbersOf wideModes plantJudged plantLeft ruleFrom modesBytes layout longest tilesOf each modesAt walk header verdict firstMode allOf exactly shortest treeOf among find call checked made makerLeft controlled chainForm partsOf tablesAt startChecked tablesFrom startMade startLeft onPart startControlled finite roomForm sheetForm roomsOf sheetOf sheetValues sumFrom coefficient emitters offset wholeOf unitsOf largestEdge widening madeNumbers sheetJudged sheetLeft madeLeft add sub mul lt ofBits toBits
 computing = tt

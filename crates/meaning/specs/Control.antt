@@ -61,7 +61,7 @@ abbrev pub canRun : ℕ → ℕ → List ℕ → ℕ → ℕ → Bool
 canRun K N s place left = leb left K && leb 2 place && areRead (modesAt N left s place)
 
 module _ (r : Rules) where
-  open Rules r using (Box, Reading, children, root, safe, n, D, K, N)
+  open Rules r using (Box, Reading, children, root, safe, form, n, D, K, N)
 
   -- The tile that holds a reading, in the tree at `at`. The walk tells 1 and 6 of what it reads, passed tiles too, and tests no image.
   unfoldable pub find : ℕ → List ℕ → ℕ → Box → Reading → Found
@@ -95,4 +95,4 @@ module _ (r : Rules) where
 
   -- a call on a plant that was read
   unfoldable pub call : List ℕ → State → Reading → Answer
-  call s st x = onWalk (header n s) Answer.Refused λ at. stateCall s at (st .place) (st .left) x
+  call s st x = onWalk (header form n s) Answer.Refused λ at. stateCall s at (st .place) (st .left) x

@@ -24,6 +24,8 @@ pub record Rules : Type 1 where
   pub root : Box
   pub goal : Box
   pub safe : Box
+  -- the form of its tables, which their header says
+  pub form : ℕ
   -- dimensions, depth, longest pattern, modes
   pub n : ℕ
   pub D : ℕ

@@ -16,7 +16,7 @@ use Rattle.meaning.specs.declared.State.{State}
 use Rattle.meaning.specs.declared.Answer.{Answer}
 use Rattle.meaning.specs.declared.StartState.{StartState}
 use Rattle.meaning.specs.declared.StartAnswer.{StartAnswer}
-use Rattle.meaning.specs.Refusals.{broken, unfit, outside, badState, notHeld, moved}
+use Rattle.meaning.specs.Refusals.{broken, wrongForm, unfit, outside, badState, notHeld, moved}
 use Rattle.meaning.specs.Numbers.{numberAt, bytesOf}
 use Rattle.meaning.specs.Files.{Form, end, Read, read, refused, valuesAt, valuesOf, fileOf, Judged, good, bad}
 use Rattle.meaning.specs.Buffers.{Left, left}
@@ -26,7 +26,7 @@ use Rattle.meaning.specs.Rules.{Rules, holds, missed}
 use Rattle.meaning.specs.Verdicts.{onNumber, onWalk, tableEnd}
 use Rattle.meaning.specs.Control.{idle, call}
 use Rattle.meaning.specs.Runs.{Run, Samples}
-use Rattle.meaning.specs.Tables.{readingOf, tableRules, onPlant, definedTable, mayFollow}
+use Rattle.meaning.specs.Tables.{readingOf, knownForm, formOf, tableRules, onPlant, definedTable, mayFollow}
 
 -- ---- the chain: a start file's beginning
 
@@ -75,9 +75,9 @@ onStart p s = onChain (p .n) (rootOf p) (safeOf p) (valuesAt (chainForm (p .n)) 
 abbrev pub onWhole : {A : Type 0} → Plant → List ℕ → (Refusal → A) → (List ℤ → ℕ → A) → A
 onWhole p s = onChain (p .n) (rootOf p) (safeOf p) (valuesOf (chainForm (p .n)) s)
 
--- the rules of Ri's table
-abbrev pub boxRules : Plant → List ℤ → ℕ → Rules
-boxRules p vs i = tableRules p (boxAt (p .n) (rootOf p) vs i) (boxBelow (p .n) (rootOf p) vs i)
+-- the rules of Ri's table, of a form
+abbrev pub boxRules : Plant → List ℤ → ℕ → ℕ → Rules
+boxRules p vs i form = tableRules form p (boxAt (p .n) (rootOf p) vs i) (boxBelow (p .n) (rootOf p) vs i)
 
 -- ---- the tables behind it, each with its byte length in front
 
@@ -101,13 +101,13 @@ startOf n vs ts = fileOf (chainForm n) vs ++ partsOf ts
 
 -- ---- Checker: plant; form, m, edges; 15; then each table's length and the table, read within it; bytes left over last
 
-module _ (r : ℕ → Rules) (s : List ℕ) where
+module _ (r : ℕ → ℕ → Rules) (s : List ℕ) where
   -- k tables, the first of them box i's
   unfoldable pub tablesAt : ℕ → ℕ → ℕ → Verdict
   tablesAt zero i at = guard (eqb at (length s)) (Verdict.Refused (unfit at)) λ _. Verdict.Accepted
   tablesAt (suc k) i at =
       onLength s at Verdict.Refused λ first size.
-      onWalk (tableEnd (r i) (part s first size)) (λ e. Verdict.Refused (moved first e)) λ next.
+      onWalk (tableEnd (r i (formOf (part s first size))) (part s first size)) (λ e. Verdict.Refused (moved first e)) λ next.
       guard (eqb next size) (Verdict.Refused (unfit at)) λ _.
       tablesAt k (suc i) (first + size)
 
@@ -117,7 +117,7 @@ startChecked plant start =
     onStart p start Verdict.Refused λ vs next.
     tablesAt (boxRules p vs) start (above vs + 1) 0 next
 
--- ---- Maker: plant; the chain, with nothing behind it; 15; 9 with the first index that has no table; 10
+-- ---- Maker: plant; the chain, with nothing behind it; 15; 2 where the form is not known; 9 with the first index that has no table; 10
 
 -- a table, and those behind it
 abbrev pub tableWith : List ℕ → Judged (List (List ℕ)) → Judged (List (List ℕ))
@@ -137,14 +137,16 @@ abbrev pub startBytes : ℕ → List ℤ → Judged (List (List ℕ)) → Judged
 startBytes n vs (bad e) = bad e
 startBytes n vs (good ts) = good (startOf n vs ts)
 
-unfoldable pub startMade : List ℕ → List ℕ → Judged (List ℕ)
-startMade plant chain =
+-- it is told one form for all
+unfoldable pub startMade : List ℕ → List ℕ → ℕ → Judged (List ℕ)
+startMade plant chain form =
     onPlant (plantJudged plant) bad λ p.
     onWhole p chain bad λ vs _.
-    startBytes (p .n) vs (tablesFrom (boxRules p vs) (above vs + 1) 0)
+    guard (knownForm form) (bad wrongForm) λ _.
+    startBytes (p .n) vs (tablesFrom (λ i. boxRules p vs i form) (above vs + 1) 0)
 
-unfoldable pub startLeft : List ℕ → List ℕ → List ℕ → Left
-startLeft plant chain buf = left (startMade plant chain) buf
+unfoldable pub startLeft : List ℕ → List ℕ → ℕ → List ℕ → Left
+startLeft plant chain form buf = left (startMade plant chain form) buf
 
 -- ---- Controller: plant; form, m, edges; 15; the index; 11 where idle; the lengths up to the table; then the call on it
 
@@ -172,12 +174,12 @@ onPart (suc i) s at refuse rest = onLength s at refuse λ first size. onPart i s
 module _ (p : Plant) (vs : List ℤ) (s : List ℕ) (at : ℕ) where
   -- the call on box i's table
   abbrev pub callIn : ℕ → State → List ℤ → StartAnswer
-  callIn i st x = onPart i s at StartAnswer.Refused λ first size. answerIn i first (call (boxRules p vs i) (part s first size) st x)
+  callIn i st x = onPart i s at StartAnswer.Refused λ first size. let t = part s first size in answerIn i first (call (boxRules p vs i (formOf t)) t st x)
 
   -- idle: the smallest box that holds the reading, of equal ones the lowest index; outside Rm it is 11
   abbrev pub chosenCall : List ℤ → StartAnswer
   chosenCall x =
-      let r = boxRules p vs (above vs) in
+      let r = boxRules p vs (above vs) 1 in
       guard (holds r (r .root) x) (StartAnswer.Refused (outside (missed r (r .root) x))) λ _.
       callIn (chosen (p .n) (rootOf p) vs x) idle x
 
@@ -202,7 +204,7 @@ abbrev pub inBox : List ℕ → List ℕ → ℕ → List ℤ → Bool
 inBox plant start i x =
     onPlant (plantJudged plant) (λ _. false) λ p.
     onStart p start (λ _. false) λ vs _.
-    leb i (above vs) && holds (boxRules p vs i) (boxRules p vs i .root) x
+    leb i (above vs) && holds (boxRules p vs i 1) (boxRules p vs i 1 .root) x
 
 -- a call gives a mode and the next state
 abbrev pub startGives : List ℕ → List ℕ → StartState → List ℤ → ℕ → StartState → Type 0

@@ -51,11 +51,11 @@ pub record Pattern (K N : ℕ) (us : List ℕ) : Type 0 where
   pub modes : below N us
 
 module _ (r : Rules) where
-  open Rules r using (Box, Reading, children, n)
+  open Rules r using (Box, Reading, children, form, n)
 
-  -- form 1, n, then the tree
+  -- form, n, then the tree
   abbrev pub tableOf : Tree → List ℕ
-  tableOf t = bytesOf 1 ++ (bytesOf n ++ layout t)
+  tableOf t = bytesOf form ++ (bytesOf n ++ layout t)
 
   -- A tree over a box with that much depth left, whose splits are possible and not too deep and whose tiles are all as P says.
   module _ (P : Box → List ℕ → Type 0) where

@@ -65,17 +65,17 @@ nodeAt K s at refuse split tile =
     onNumber (numberAt s at) (refuse (broken at)) λ k next.
     onSize K k (refuse (badTable at)) (split next) (λ k. tile k next)
 
--- form 1, then n: the place behind them
-unfoldable pub header : ℕ → List ℕ → Walk
-header n s =
-    onNumber (numberAt s 0) (Walk.Refused (broken 0)) λ form at.
-    guard (eqb form 1) (Walk.Refused wrongForm) λ _.
+-- form, then n: the place behind them
+unfoldable pub header : ℕ → ℕ → List ℕ → Walk
+header form n s =
+    onNumber (numberAt s 0) (Walk.Refused (broken 0)) λ told at.
+    guard (eqb told form) (Walk.Refused wrongForm) λ _.
     onNumber (numberAt s at) (Walk.Refused (broken at)) λ m next.
     guard (eqb m n) (Walk.Refused (badTable at)) λ _.
     Walk.Next next
 
 module _ (r : Rules) where
-  open Rules r using (Box, children, root, n, D, K, N)
+  open Rules r using (Box, children, root, form, n, D, K, N)
 
   -- the tree at `at`, over a box with depth d left
   unfoldable pub walk : (Box → List ℕ → Tried) → ℕ → List ℕ → ℕ → Box → Walk
@@ -88,7 +88,7 @@ module _ (r : Rules) where
 
   -- the place behind a table: the header and the tree
   abbrev pub tableEnd : List ℕ → Walk
-  tableEnd s = onWalk (header n s) Walk.Refused λ at. walk (rule r) D s at root
+  tableEnd s = onWalk (header form n s) Walk.Refused λ at. walk (rule r) D s at root
 
   unfoldable pub verdict : List ℕ → Verdict
   verdict s =

@@ -8,6 +8,8 @@ pub mod Exists
 pub mod Finds
 pub mod First
 pub mod FirstFault
+pub mod FormTold
+pub mod Halving
 pub mod Images
 pub mod Laws
 pub mod Layouts
@@ -24,8 +26,10 @@ pub mod Reached
 pub mod Shapes
 pub mod Splits
 pub mod Steps
+pub mod TableForms
 pub mod TableLengths
 pub mod TableTrips
+pub mod TileCounts
 pub mod Trips
 pub mod Turning
 pub mod Unique

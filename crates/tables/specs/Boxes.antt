@@ -1,10 +1,11 @@
--- Boxes as the code holds them, what it asks of their edges, and one side of a child by the child's number. Definitions alone.
-use Prim.Native.Nat.{ℕ, _/_, _%_}
+-- Boxes as the code holds them, what it asks of their edges, one side of a child by the child's number, and the place of the longest side. Definitions alone.
+use Prim.Native.Nat.{ℕ, suc, _/_, _%_}
 use mathlib.Core.Bool.{cond}
 use mathlib.Core.List.{List, [], _∷_}
 use lib.Dec.{eqb}
 use lib.IntN.{pos, _+ℤ_}
-use Rattle.meaning.specs.Boxes.{Side, side, sidesOf, long, middle}
+use lib.Signed.{leZ}
+use Rattle.meaning.specs.Boxes.{Side, side, sidesOf, long, middle, reach, furthest}
 use Rattle.promises.specs.files.Sound.{Bounded}
 use Rattle.tables.specs.declared.boxes.Bx.{Bx}
 
@@ -30,3 +31,8 @@ pieceOf s x = cond (long s) (cond (eqb (x % 2) 0) (lower s) (upper s)) s
 
 abbrev pub restOf : Side → ℕ → ℕ
 restOf s x = cond (long s) (x / 2) x
+
+-- the place, from 0, of the longest side, the lowest where several are equal: the first that no side behind it outreaches
+unfoldable pub longestAt : List Side → ℕ
+longestAt [] = 0
+longestAt (s ∷ ss) = cond (leZ (furthest ss) (reach s)) 0 (suc (longestAt ss))

@@ -74,6 +74,7 @@ bxBelow n root edges (suc i) = bxAt n root edges i
 -- a plant's frame with Ri as the box that is tiled, and the box below as the one that patterns end in
 abbrev pub frameAt : Frame → List ℤ → ℕ → Frame
 frameAt f edges i = record {
+  form = f .form;
   n = f .n;
   modes = f .modes;
   q = f .q;

@@ -1,5 +1,6 @@
 -- A frame: what a table is made, checked and run by, its small numbers by value; with the bands and the coefficients of its modes, which are lent, its rules. And
--- what is asked of it, and of what its modes are lent: the first by every function, the second only where images are made. A judged plant's own frame has both.
+-- what is asked of it, and of what its modes are lent: the first by every function, the second only where images are made. A judged plant's own frame has both,
+-- of whatever known form.
 -- Definitions alone.
 use Prim.Native.Nat.{ℕ, _*_, _≤_, _<_}
 use mathlib.Core.Path.{_≡_}
@@ -14,7 +15,7 @@ use Rattle.meaning.specs.Boxes.{within}
 use Rattle.meaning.specs.Images.{Step}
 use Rattle.meaning.specs.Plants.{Plant, outlineOf, edgeLimit, mostModes, rowStart, bandSide}
 use Rattle.meaning.specs.Rules.{Rules}
-use Rattle.meaning.specs.Tables.{rulesFrom}
+use Rattle.meaning.specs.Tables.{knownForm, rulesFrom}
 use Rattle.tables.specs.declared.boxes.Bx.{Bx}
 use Rattle.tables.specs.declared.frames.Frame.{Frame}
 use Rattle.tables.specs.declared.frames.Counts.{Counts}
@@ -24,9 +25,10 @@ use Rattle.tables.specs.Images.{stepFrom, RowSound, BandSound}
 abbrev pub boxFrom : List ℤ → List ℤ → Bx
 boxFrom lo hi = record { lo = lo; hi = hi }
 
--- a plant's own: R is tiled, and patterns end in R
+-- a plant's own, of form 1: R is tiled, and patterns end in R
 abbrev pub frameOf : Outline → Frame
 frameOf p = record {
+  form = 1;
   n = p .n;
   modes = p .modes;
   q = p .q;
@@ -41,9 +43,23 @@ frameOf p = record {
 abbrev pub ownFrame : Plant → Frame
 ownFrame p = frameOf (outlineOf p)
 
+-- a frame of another form
+abbrev pub formed : Frame → ℕ → Frame
+formed f form = record {
+  form = form;
+  n = f .n;
+  modes = f .modes;
+  q = f .q;
+  k = f .k;
+  d = f .d;
+  root = f .root;
+  goal = f .goal;
+  safe = f .safe;
+}
+
 -- a frame taken apart: its numbers, and the edges of its boxes, lows and highs of each
 abbrev pub countsOf : Frame → Counts
-countsOf f = record { n = f .n; modes = f .modes; q = f .q; k = f .k; d = f .d }
+countsOf f = record { form = f .form; n = f .n; modes = f .modes; q = f .q; k = f .k; d = f .d }
 
 abbrev pub edgesOf : Frame → List (List ℤ)
 edgesOf f = f .root .lo ∷ f .root .hi ∷ f .goal .lo ∷ f .goal .hi ∷ f .safe .lo ∷ f .safe .hi ∷ []
@@ -51,6 +67,7 @@ edgesOf f = f .root .lo ∷ f .root .hi ∷ f .goal .lo ∷ f .goal .hi ∷ f .s
 -- and put together again
 abbrev pub frameFrom : Counts → List (List ℤ) → Frame
 frameFrom c edges = record {
+  form = c .form;
   n = c .n;
   modes = c .modes;
   q = c .q;
@@ -66,10 +83,15 @@ abbrev pub stepIn : Frame → List ℤ → List ℤ → ℕ → Step
 stepIn f bands coef u = stepFrom (f .n) (f .q) bands coef u
 
 abbrev pub rulesIn : Frame → List ℤ → List ℤ → Rules
-rulesIn f bands coef = rulesFrom (f .n) (f .modes) (f .k) (f .d) (boxOf (f .n) (f .root)) (boxOf (f .n) (f .goal)) (boxOf (f .n) (f .safe)) (stepIn f bands coef)
+rulesIn f bands coef = rulesFrom (f .form) (f .n) (f .modes) (f .k) (f .d) (boxOf (f .n) (f .root)) (boxOf (f .n) (f .goal)) (boxOf (f .n) (f .safe)) (stepIn f bands coef)
 
--- its numbers and its boxes in the ranges
+-- and those of it with another form
+abbrev pub rulesBy : Frame → List ℤ → List ℤ → ℕ → Rules
+rulesBy f bands coef form = rulesIn (formed f form) bands coef
+
+-- its form known, its numbers and its boxes in the ranges
 pub record FrameSound (f : Frame) : Type 0 where
+  pub known : knownForm (f .form) ≡ true
   pub some : 1 ≤ f .n
   pub rooms : f .n ≤ 4
   pub longest : f .k ≤ 6

@@ -14,12 +14,12 @@ use Rattle.meaning.specs.Boxes.{Side, fits}
 use Rattle.meaning.specs.Control.{call}
 use Rattle.meaning.specs.Refusals.{outside, badState}
 use Rattle.meaning.specs.Starts.{above, boxAt, chosen, isIdle, answerIn, onPart, part}
-use Rattle.meaning.specs.Tables.{readingOf}
+use Rattle.meaning.specs.Tables.{readingOf, formOf}
 use Rattle.tables.specs.declared.frames.Frame.{Frame}
 use Rattle.tables.specs.declared.start_control.Choice.{Choice}
 use Rattle.tables.specs.Boxes.{boxOf}
 use Rattle.tables.specs.Chains.{valuesIn, frameAt}
-use Rattle.tables.specs.Frames.{rulesIn}
+use Rattle.tables.specs.Frames.{rulesBy}
 
 -- in n dimensions, R being root, the values of the chain being vs
 module _ (n : ℕ) (root : List Side) (vs : List ℤ) where
@@ -47,9 +47,9 @@ abbrev pub onChoice : {A : Type 0} → Choice → (Refusal → A) → (ℕ → A
 onChoice (Choice.Refused e) refuse rest = refuse e
 onChoice (Choice.Table i) refuse rest = rest i
 
--- the call on table i, by a frame's rules: a call needs no bands and no coefficients
+-- the call on table i, by a frame's rules of the form that the table says: a call needs no bands and no coefficients
 abbrev pub callBehind : Frame → List ℕ → ℕ → ℕ → State → List ℤ → StartAnswer
-callBehind f s at i st x = onPart i s at StartAnswer.Refused λ first size. answerIn i first (call (rulesIn f [] []) (part s first size) st x)
+callBehind f s at i st x = onPart i s at StartAnswer.Refused λ first size. let t = part s first size in answerIn i first (call (rulesBy f [] [] (formOf t)) t st x)
 
 -- a call on a chain of m boxes that was read, `at` being the place behind it
 abbrev pub startAnswer : Frame → List ℤ → List ℕ → ℕ → ℕ → StartState → List ℤ → StartAnswer

@@ -7,18 +7,20 @@ use lib.IntN.{ℤ}
 use lib.ListN.{length}
 use Rattle.laws.specs.Writing.{Put}
 use Rattle.meaning.specs.declared.Walk.{Walk}
+use Rattle.laws.specs.Guards.{guard}
 use Rattle.meaning.specs.Buffers.{Left, left}
 use Rattle.meaning.specs.Defined.{mapSome}
 use Rattle.meaning.specs.Files.{Judged, good, bad, valuesOf}
 use Rattle.meaning.specs.Numbers.{bytesOf}
+use Rattle.meaning.specs.Refusals.{wrongForm}
 use Rattle.meaning.specs.Rules.{Rules}
 use Rattle.meaning.specs.Starts.{chainForm, above, boxAt, boxBelow, onChain, partsOf, tablesFrom, startBytes}
-use Rattle.meaning.specs.Tables.{rulesFrom}
+use Rattle.meaning.specs.Tables.{knownForm, rulesFrom}
 use Rattle.tables.specs.declared.frames.Frame.{Frame}
 use Rattle.tables.specs.Boxes.{boxOf}
 use Rattle.tables.specs.Chains.{frameAt}
 use Rattle.tables.specs.Drafts.{definedBytes}
-use Rattle.tables.specs.Frames.{stepIn, rulesIn, PlantSound}
+use Rattle.tables.specs.Frames.{formed, stepIn, rulesIn, PlantSound}
 
 -- a table behind its length
 abbrev pub withLength : List ℕ → List ℕ
@@ -55,12 +57,13 @@ behindChain chain (good ts) = good (chain ++ partsOf ts)
 abbrev pub valuesRules : Frame → List ℤ → List ℤ → List ℤ → ℕ → Rules
 valuesRules f bands coef vs i =
     let root = boxOf (f .n) (f .root) in
-    rulesFrom (f .n) (f .modes) (f .k) (f .d) (boxAt (f .n) root vs i) (boxBelow (f .n) root vs i) (boxOf (f .n) (f .safe)) (stepIn f bands coef)
+    rulesFrom (f .form) (f .n) (f .modes) (f .k) (f .d) (boxAt (f .n) root vs i) (boxBelow (f .n) root vs i) (boxOf (f .n) (f .safe)) (stepIn f bands coef)
 
-abbrev pub chainMade : Frame → List ℤ → List ℤ → List ℕ → Judged (List ℕ)
-chainMade f bands coef chain =
+abbrev pub chainMade : Frame → List ℤ → List ℤ → List ℕ → ℕ → Judged (List ℕ)
+chainMade f bands coef chain form =
     onChain (f .n) (boxOf (f .n) (f .root)) (boxOf (f .n) (f .safe)) (valuesOf (chainForm (f .n)) chain) bad λ vs _.
-    startBytes (f .n) vs (tablesFrom (valuesRules f bands coef vs) (above vs + 1) 0)
+    guard (knownForm form) (bad wrongForm) λ _.
+    startBytes (f .n) vs (tablesFrom (valuesRules (formed f form) bands coef vs) (above vs + 1) 0)
 
-abbrev pub chainLeft : Frame → List ℤ → List ℤ → List ℕ → List ℕ → Left
-chainLeft f bands coef chain buf = left (chainMade f bands coef chain) buf
+abbrev pub chainLeft : Frame → List ℤ → List ℤ → List ℕ → ℕ → List ℕ → Left
+chainLeft f bands coef chain form buf = left (chainMade f bands coef chain form) buf

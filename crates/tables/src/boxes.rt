@@ -1,4 +1,4 @@
-// Boxes (document 01, "Split"): the split of a side, the children of a box, a reading in a box, a box in a box.
+// Boxes (document 01, "Split"; request 2026-06): the split of a side, the children of a box by a table's form, a reading in a box, a box in a box.
 // Relies on crates/meaning for what they are. Leaves out who splits which box, and to what depth.
 // Each loop goes through the first n sides; what an array holds behind them is never read.
 ghost use mathlib.Core.Path.{_≡_};
@@ -9,10 +9,10 @@ ghost use lib.ListN.{length, getD};
 ghost use lib.IntN.{natAbs};
 ghost use lib.Signed.{leZ};
 ghost use Rattle.laws.specs.Lists.{firstFalse};
-ghost use Rattle.meaning.specs.Boxes.{side, middle, fits, within, children};
+ghost use Rattle.meaning.specs.Boxes.{side, middle, fits, within, children, longestHalved};
 ghost use Rattle.meaning.specs.Plants.{edgeLimit};
-ghost use Rattle.meaning.specs.Tables.{readingOf};
-ghost use Rattle.tables.specs.Boxes.{boxOf, Small, pieceOf, restOf};
+ghost use Rattle.meaning.specs.Tables.{readingOf, childrenBy};
+ghost use Rattle.tables.specs.Boxes.{boxOf, Small, pieceOf, restOf, longestAt};
 
 pub struct Bx {
     pub lo: [i64; 4],
@@ -61,8 +61,8 @@ fn half(l: i64, h: i64, x: usize) -> Piece
     }
 }
 
-// Child x of a box that has more than x children: dimension 1 takes the lowest bit of x.
-pub fn child(n: usize, b: Bx, x: usize) -> Bx
+// Child x where all long sides are halved at once: dimension 1 takes the lowest bit of x.
+fn all_halved(n: usize, b: Bx, x: usize) -> Bx
     requires { ⌜ (n ≤ 4) × Small edgeLimit (boxOf n b) × (x < length (children (boxOf n b))) ⌝ }
     ensures { λ r. ⌜ boxOf n r ≡ getD (children (boxOf n b)) x [] ⌝ }
 {
@@ -84,10 +84,62 @@ pub fn child(n: usize, b: Bx, x: usize) -> Bx
     kid
 }
 
-// How many children a box has: 2 to the number of its long sides, and none where there is no long side.
-pub fn count(n: usize, b: Bx) -> usize
+// The dimension, from 0, of the longest side, the lowest where several are equal. No side is empty: the first leads until another reaches further.
+fn longest(n: usize, b: Bx) -> usize
+    requires { ⌜ (n ≤ 4) × Small edgeLimit (boxOf n b) ⌝ }
+    ensures { λ r. ⌜ r ≡ longestAt (boxOf n b) ⌝ }
+{
+    let mut most: i64 = 0;
+    let mut place: usize = 0;
+    let mut j: usize = 0;
+    while j < n {
+        let l = b.lo[j];
+        let h = b.hi[j];
+        let far = h - l;
+        if most < far {
+            most = far;
+            place = j;
+        }
+        j += 1;
+    }
+    place
+}
+
+// Child x where the longest side alone is halved, lower half first. That side is long, so one edge of it moves.
+fn longest_halved(n: usize, b: Bx, x: usize) -> Bx
+    requires { ⌜ (n ≤ 4) × Small edgeLimit (boxOf n b) × (x < length (longestHalved (boxOf n b))) ⌝ }
+    ensures { λ r. ⌜ boxOf n r ≡ getD (longestHalved (boxOf n b)) x [] ⌝ }
+{
+    let mut kid = b;
+    let j = longest(n, b);
+    let l = b.lo[j];
+    let h = b.hi[j];
+    let m = middle(l, h);
+    if x == 0 {
+        kid.hi[j] = m;
+    } else {
+        let above = m + 1;
+        kid.lo[j] = above;
+    }
+    kid
+}
+
+// Child x of a box that has more than x children.
+pub fn child(form: usize, n: usize, b: Bx, x: usize) -> Bx
+    requires { ⌜ (n ≤ 4) × Small edgeLimit (boxOf n b) × (x < length (childrenBy form (boxOf n b))) ⌝ }
+    ensures { λ r. ⌜ boxOf n r ≡ getD (childrenBy form (boxOf n b)) x [] ⌝ }
+{
+    if form == 3 {
+        longest_halved(n, b, x)
+    } else {
+        all_halved(n, b, x)
+    }
+}
+
+// How many children a box has by a form: 2 to the number of its long sides, in form 3 two, and none where there is no long side.
+pub fn count(form: usize, n: usize, b: Bx) -> usize
     requires { ⌜ n ≤ 4 ⌝ }
-    ensures { λ r. ⌜ r ≡ length (children (boxOf n b)) ⌝ }
+    ensures { λ r. ⌜ r ≡ length (childrenBy form (boxOf n b)) ⌝ }
 {
     let mut k: usize = 1;
     let mut j: usize = 0;
@@ -99,7 +151,13 @@ pub fn count(n: usize, b: Bx) -> usize
         }
         j += 1;
     }
-    if k == 1 { 0 } else { k }
+    if k == 1 {
+        0
+    } else if form == 3 {
+        2
+    } else {
+        k
+    }
 }
 
 // Both orders at once: what a reading in a side and a side in a side ask.

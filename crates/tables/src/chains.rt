@@ -147,6 +147,7 @@ pub fn frame_at(f: Frame, edges: &[i64; EDGES], i: usize) -> Frame
     let goal = box_below(f.n, own, edges, i);
     let safe = f.safe;
     Frame {
+        form: f.form,
         n: f.n,
         modes: f.modes,
         q: f.q,

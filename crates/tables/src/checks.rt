@@ -15,20 +15,21 @@ use meaning::COEFFICIENTS;
 use meaning::Verdict;
 use meaning::Walk;
 ghost use mathlib.Core.Path.{_≡_};
-ghost use Rattle.meaning.specs.Tables.{checked};
+ghost use Rattle.meaning.specs.Tables.{formOf, checked};
 ghost use Rattle.meaning.specs.Verdicts.{tableEnd, verdict};
 ghost use Rattle.tables.specs.Arrays.{RoomFor};
-ghost use Rattle.tables.specs.Frames.{rulesIn, PlantSound};
+ghost use Rattle.tables.specs.Frames.{rulesIn, rulesBy, PlantSound};
 
 // The place behind a table, its header and its tree, against a frame. What may stand there is not asked.
-pub(crate) fn table_end(f: Frame, bands: &[i64], coef: &[i64], table: &[u8]) -> Walk
+fn end_by(f: Frame, bands: &[i64], coef: &[i64], table: &[u8]) -> Walk
     requires { ⌜ PlantSound f (now bands) (now coef) ⌝ }
     ensures { λ r. ⌜ r ≡ tableEnd (rulesIn f (now (bands .entry)) (now (coef .entry))) (now (table .entry)) ⌝ }
 {
-    match headers::header(f.n, table) {
+    match headers::header(f.form, f.n, table) {
         Walk::Refused(e) => Walk::Refused(e),
         Walk::Next(at) => {
             let root = f.root;
+            let depth = frames::depth(f.form, f.n, f.d);
             let edges = frames::edges_of(f);
             walks::walk(
                 frames::counts_of(f),
@@ -37,7 +38,7 @@ pub(crate) fn table_end(f: Frame, bands: &[i64], coef: &[i64], table: &[u8]) -> 
                 coef,
                 true,
                 table,
-                f.d,
+                depth,
                 at,
                 root,
             )
@@ -45,10 +46,23 @@ pub(crate) fn table_end(f: Frame, bands: &[i64], coef: &[i64], table: &[u8]) -> 
     }
 }
 
+// By the form that the table says.
+pub(crate) fn table_end(f: Frame, bands: &[i64], coef: &[i64], table: &[u8]) -> Walk
+    requires { ⌜ PlantSound f (now bands) (now coef) ⌝ }
+    ensures { λ r. ⌜ r ≡ tableEnd (rulesBy f (now (bands .entry)) (now (coef .entry)) (formOf (now (table .entry)))) (now (table .entry)) ⌝ }
+{
+    end_by(
+        frames::formed(f, headers::form_of(table)),
+        bands,
+        coef,
+        table,
+    )
+}
+
 // A table against a frame: it has to end where its bytes do.
 fn judge<'a>(f: Frame, bands: &'a [i64], coef: &'a [i64], table: &[u8]) -> Verdict
     requires { ⌜ PlantSound f (now bands) (now coef) ⌝ }
-    ensures { λ r. ⌜ r ≡ verdict (rulesIn f (now (bands .entry)) (now (coef .entry))) (now (table .entry)) ⌝ }
+    ensures { λ r. ⌜ r ≡ verdict (rulesBy f (now (bands .entry)) (now (coef .entry)) (formOf (now (table .entry)))) (now (table .entry)) ⌝ }
 {
     match table_end(f, bands, coef, table) {
         Walk::Refused(e) => Verdict::Refused(e),

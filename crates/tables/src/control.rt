@@ -21,9 +21,9 @@ ghost use mathlib.Core.List.{[]};
 ghost use Prim.Native.Nat.{_≤_};
 ghost use Rattle.meaning.specs.Boxes.{fits};
 ghost use Rattle.meaning.specs.Control.{idleCall, runningCall, call};
-ghost use Rattle.meaning.specs.Tables.{readingOf, controlled};
+ghost use Rattle.meaning.specs.Tables.{readingOf, formOf, controlled};
 ghost use Rattle.tables.specs.Boxes.{boxOf};
-ghost use Rattle.tables.specs.Frames.{rulesIn, FrameSound};
+ghost use Rattle.tables.specs.Frames.{rulesIn, rulesBy, FrameSound};
 ghost use Rattle.tables.specs.Control.{admission};
 
 // Whether a call may go on: the state can be, and then the box holds the reading; 12 before 11.
@@ -51,8 +51,9 @@ fn idle_call(f: Frame, table: &[u8], at: usize, place: usize, x: [i64; 4]) -> An
     match admit(place == 0, f.n, f.root, x) {
         Verdict::Refused(e) => Answer::Refused(e),
         Verdict::Accepted => {
+            let depth = frames::depth(f.form, f.n, f.d);
             let edges = frames::edges_of(f);
-            match finds::find(frames::counts_of(f), &edges, table, f.d, at, f.root, x) {
+            match finds::find(frames::counts_of(f), &edges, table, depth, at, f.root, x) {
                 Found::Refused(e) => Answer::Refused(e),
                 Found::Tile(from, k) => states::answer(table, from, k),
             }
@@ -72,16 +73,17 @@ fn running_call(f: Frame, table: &[u8], place: usize, left: usize, x: [i64; 4]) 
     }
 }
 
-// A call on a plant that was read.
+// A call on a plant that was read, by the form that the table says. A running call hangs on no form.
 pub(crate) fn call(f: Frame, table: &[u8], st: State, x: [i64; 4]) -> Answer
     requires { ⌜ FrameSound f ⌝ }
-    ensures { λ r. ⌜ r ≡ call (rulesIn f [] []) (now (table .entry)) st x ⌝ }
+    ensures { λ r. ⌜ r ≡ call (rulesBy f [] [] (formOf (now (table .entry)))) (now (table .entry)) st x ⌝ }
 {
-    match headers::header(f.n, table) {
+    let form = headers::form_of(table);
+    match headers::header(form, f.n, table) {
         Walk::Refused(e) => Answer::Refused(e),
         Walk::Next(at) => {
             if st.left == 0 {
-                idle_call(f, table, at, st.place, x)
+                idle_call(frames::formed(f, form), table, at, st.place, x)
             } else {
                 running_call(f, table, st.place, st.left, x)
             }

@@ -27,12 +27,12 @@ ghost use Rattle.tables.specs.Tiles.{longestPattern, patternOf};
 ghost use Rattle.tables.specs.Drafts.{Wrote, treeBytes, definedBytes};
 
 // No table has more bytes than MOST; none of at most BRIEF modes, which take a byte each, more than LONG; and none of such and at most sixteen tiles more than
-// FEW. Zeros of 30,039 bytes would be a sixth of what a small house needs, and of 54,615 a half.
-pub const MOST: usize = 54_615;
+// FEW. Zeros of 32,769 bytes would be a sixth of what a small house needs, and of 57,345 a half.
+pub const MOST: usize = 57_345;
 
 pub const BRIEF: usize = 128;
 
-pub const LONG: usize = 30_039;
+pub const LONG: usize = 32_769;
 
 pub const FEW: usize = 129;
 
@@ -83,14 +83,14 @@ fn tree(
     if d == 0 {
         return Grown::Nothing;
     }
-    let count = boxes::count(n, b);
+    let count = boxes::count(f.form, n, b);
     if count == 0 {
         return Grown::Nothing;
     }
     let mut place = numbers::put_number(buf, at, 0);
     let mut c: usize = 0;
     while c < count {
-        let child = boxes::child(n, b, c);
+        let child = boxes::child(f.form, n, b, c);
         let grown = tree(
             f,
             edges,
@@ -125,10 +125,11 @@ fn table_with(
     requires room { ⌜ (limitsSize * f .modes ≤ length (now limits)) × (marksSize * f .modes ≤ length (now marks)) ⌝ }
     ensures { λ r. ⌜ Wrote (definedBytes (rulesIn f (now (bands .entry)) (now (coef .entry)))) (now (buf .entry)) 0 r (now (buf .exit)) ⌝ }
 {
+    let depth = frames::depth(f.form, f.n, f.d);
     limits::lay(f, bands, coef, limits, marks);
     let root = f.root;
     let edges = frames::edges_of(f);
-    let past_form = numbers::put_number(buf, 0, 1);
+    let past_form = numbers::put_number(buf, 0, f.form);
     let past_rooms = numbers::put_number(buf, past_form, f.n);
     tree(
         frames::counts_of(f),
@@ -137,11 +138,21 @@ fn table_with(
         coef,
         limits,
         marks,
-        f.d,
+        depth,
         root,
         buf,
         past_rooms,
     )
+}
+
+// In limits for any plant. A function of its own, so that makers for few modes have no room for many on their stack.
+fn table_many(f: Frame, bands: &[i64], coef: &[i64], buf: &mut [u8]) -> Grown
+    requires { ⌜ PlantSound f (now bands) (now coef) ⌝ }
+    ensures { λ r. ⌜ Wrote (definedBytes (rulesIn f (now (bands .entry)) (now (coef .entry)))) (now (buf .entry)) 0 r (now (buf .exit)) ⌝ }
+{
+    let mut limits = [0i64; MOST_LIMITS];
+    let mut marks = [0i64; MOST_MARKS];
+    table_with(f, bands, coef, &mut limits, &mut marks, buf)
 }
 
 // The table of a frame.
@@ -149,12 +160,10 @@ pub fn table(f: Frame, bands: &[i64], coef: &[i64], buf: &mut [u8]) -> Grown
     requires { ⌜ PlantSound f (now bands) (now coef) ⌝ }
     ensures { λ r. ⌜ Wrote (definedBytes (rulesIn f (now (bands .entry)) (now (coef .entry)))) (now (buf .entry)) 0 r (now (buf .exit)) ⌝ }
 {
-    if f.modes <= FEW_MODES {
-        let mut limits = [0i64; FEW_LIMITS];
-        let mut marks = [0i64; FEW_MARKS];
-        return table_with(f, bands, coef, &mut limits, &mut marks, buf);
+    if FEW_MODES < f.modes {
+        return table_many(f, bands, coef, buf);
     }
-    let mut limits = [0i64; MOST_LIMITS];
-    let mut marks = [0i64; MOST_MARKS];
+    let mut limits = [0i64; FEW_LIMITS];
+    let mut marks = [0i64; FEW_MARKS];
     table_with(f, bands, coef, &mut limits, &mut marks, buf)
 }

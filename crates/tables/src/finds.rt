@@ -60,11 +60,11 @@ pub fn find(
         return Found::Refused(refusals::bad_table(at));
     }
     let none = [0i64; 1];
-    let count = boxes::count(n, b);
+    let count = boxes::count(f.form, n, b);
     let mut place = next;
     let mut c: usize = 0;
     while c < count {
-        let child = boxes::child(n, b, c);
+        let child = boxes::child(f.form, n, b, c);
         if n <= boxes::missed(n, child, x) {
             return find(f, edges, table, d - 1, place, child, x);
         }

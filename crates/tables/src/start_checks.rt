@@ -22,13 +22,13 @@ ghost use Prim.Native.Nat.{_+_};
 ghost use Rattle.meaning.specs.Starts.{tablesAt, startChecked};
 ghost use Rattle.tables.specs.Arrays.{RoomFor};
 ghost use Rattle.tables.specs.Chains.{FramesSound};
-ghost use Rattle.tables.specs.Frames.{rulesIn, ModesSound, PlantSound};
+ghost use Rattle.tables.specs.Frames.{rulesBy, ModesSound, PlantSound};
 ghost use Rattle.tables.specs.StartChecks.{rulesAt, tableAt};
 
 // The place behind the table whose length stands at `at`. What is told of the table is told at its place in the file.
 fn table_at(f: Frame, bands: &[i64], coef: &[i64], start: &[u8], at: usize) -> Walk
     requires { ⌜ PlantSound f (now bands) (now coef) ⌝ }
-    ensures { λ r. ⌜ r ≡ tableAt (rulesIn f (now (bands .entry)) (now (coef .entry))) (now (start .entry)) at ⌝ }
+    ensures { λ r. ⌜ r ≡ tableAt (rulesBy f (now (bands .entry)) (now (coef .entry))) (now (start .entry)) at ⌝ }
 {
     match parts::part_at(start, at) {
         Part::Refused(e) => Walk::Refused(e),

@@ -86,14 +86,14 @@ pub fn walk(
         return Walk::Refused(refusals::bad_table(at));
     }
     let n = f.n;
-    let count = boxes::count(n, b);
+    let count = boxes::count(f.form, n, b);
     if count == 0 {
         return Walk::Refused(refusals::bad_table(at));
     }
     let mut place = next;
     let mut c: usize = 0;
     while c < count {
-        let child = boxes::child(n, b, c);
+        let child = boxes::child(f.form, n, b, c);
         let past = walk(f, edges, bands, coef, judged, table, d - 1, place, child);
         let Walk::Next(m) = past else {
             return past;

@@ -32,10 +32,10 @@ use Rattle.meaning.specs.Defined.{definedTree}
 use Rattle.meaning.specs.Files.{Read, read, refused, Judged, good, bad}
 use Rattle.meaning.specs.Numbers.{numberAt}
 use Rattle.meaning.specs.Plants.{Plant, plantJudged, rootOf, safeOf}
-use Rattle.meaning.specs.Refusals.{leaves, misses, noTable, short, outside, badState}
+use Rattle.meaning.specs.Refusals.{wrongForm, leaves, misses, noTable, short, outside, badState}
 use Rattle.meaning.specs.Rules.{Rules, rule, holds, missed}
 use Rattle.meaning.specs.Tables as T
-use Rattle.meaning.specs.Tables.{rulesOf, checked, made, makerLeft, controlled, startsIn, safeIn}
+use Rattle.meaning.specs.Tables.{knownForm, formOf, rulesOf, checked, made, makerLeft, controlled, startsIn, safeIn}
 use Rattle.meaning.specs.Trees.{Tree, Pattern, modesBytes, below, longest, tableOf, Tile, tilesOf, having}
 use Rattle.meaning.specs.Verdicts.{modesAt, header, verdict}
 use Rattle.promises.specs.files.Buffers.{wrote}
@@ -44,39 +44,40 @@ use Rattle.promises.specs.tables.Chosen.{chosen}
 use Rattle.promises.specs.tables.Finds.{firstPlace, nextPlace}
 use Rattle.promises.specs.tables.FirstFault.{LeavesAt, MissesAt, FirstBad, Comes, working, leaving, missing, comes, leaving-told, missing-told}
 use Rattle.promises.specs.tables.Layouts.{ModesStand, modes-stand, first-read, modes-read, headed, table-header}
-use Rattle.promises.specs.tables.Made.{made-accepted, made-exactly, nine-exactly, maker-nine, maker-ten, maker-writes}
+use Rattle.promises.specs.tables.Made.{made-accepted, made-exactly, nine-exactly, maker-nine, maker-two, maker-ten, maker-writes}
 use Rattle.promises.specs.tables.PlantRules.{judged-sizes, checked-as, made-as, controlled-as}
 use Rattle.promises.specs.tables.Promise.{Promised, promise}
 use Rattle.promises.specs.tables.Shapes.{Shaped, Good, over-map}
+use Rattle.promises.specs.tables.TableForms.{form-known}
 
--- of a plant's and a table's bytes; of a plant's bytes and a lent buffer; of a plant's and a table's bytes, a state and a reading
+-- of a plant's and a table's bytes; of a plant's bytes, a table's form and a lent buffer; of a plant's and a table's bytes, a state and a reading
 abbrev pub Checker : Type 0
 Checker = List ℕ → List ℕ → Verdict
 
 abbrev pub Maker : Type 0
-Maker = List ℕ → List ℕ → Left
+Maker = List ℕ → ℕ → List ℕ → Left
 
 abbrev pub Controller : Type 0
 Controller = List ℕ → List ℕ → State → List ℤ → Answer
 
 -- ---- demand 3
 
--- The table keeps the file's rules: it is that of a tree over the plant's R, of sound shape, its tiles working or not.
+-- The table keeps the file's rules: it is that of a tree over the plant's R, of sound shape by the form that it says, its tiles working or not.
 pub record Laid (plant table : List ℕ) : Type 0 where
   pub p : Plant
   pub judged : plantJudged plant ≡ good p
   pub tree : Tree
-  pub shape : Shaped (rulesOf p) tree
-  pub is : table ≡ tableOf (rulesOf p) tree
+  pub shape : Shaped (rulesOf (formOf table) p) tree
+  pub is : table ≡ tableOf (rulesOf (formOf table) p) tree
 
 tiled-laid : (plant table : List ℕ) → Tiled plant table → Laid plant table
 tiled-laid plant table t =
-    let r = rulesOf (t .p) in
+    let r = rulesOf (formOf table) (t .p) in
     record {
       p = t .p;
       judged = t .judged;
       tree = t .tree;
-      shape = over-map r (Good r (rule r)) (λ b us. Pattern (t .p .k) (t .p .modes) us) (λ b us g. g .shape) (t .tree) (t .p .d) (rootOf (t .p)) (t .works);
+      shape = over-map r (Good r (rule r)) (λ b us. Pattern (t .p .k) (t .p .modes) us) (λ b us g. g .shape) (t .tree) (r .D) (rootOf (t .p)) (t .works);
       is = t .is;
     }
 
@@ -98,27 +99,27 @@ checked-keeps plant table a = let w = promise plant table a in (tiled-laid plant
 -- ---- demand 2, the table of refusals: 7 and 8 of a table that keeps the file's rules, at the first tile that does not work
 
 pub record Tells (check : Checker) : Type 0 where
-  pub leaving : (plant table : List ℕ) (t : Laid plant table) (one : Tile (rulesOf (t .p))) → FirstBad (rulesOf (t .p)) (t .tree) one
-      → (i : ℕ) → LeavesAt (rulesOf (t .p)) (one .box) (one .modes) i → check plant table ≡ Verdict.Refused (leaves (one .place) i)
-  pub missing : (plant table : List ℕ) (t : Laid plant table) (one : Tile (rulesOf (t .p))) → FirstBad (rulesOf (t .p)) (t .tree) one
-      → (i : ℕ) → MissesAt (rulesOf (t .p)) (one .box) (one .modes) i → check plant table ≡ Verdict.Refused (misses (one .place) i)
+  pub leaving : (plant table : List ℕ) (t : Laid plant table) (one : Tile (rulesOf (formOf table) (t .p))) → FirstBad (rulesOf (formOf table) (t .p)) (t .tree) one
+      → (i : ℕ) → LeavesAt (rulesOf (formOf table) (t .p)) (one .box) (one .modes) i → check plant table ≡ Verdict.Refused (leaves (one .place) i)
+  pub missing : (plant table : List ℕ) (t : Laid plant table) (one : Tile (rulesOf (formOf table) (t .p))) → FirstBad (rulesOf (formOf table) (t .p)) (t .tree) one
+      → (i : ℕ) → MissesAt (rulesOf (formOf table) (t .p)) (one .box) (one .modes) i → check plant table ≡ Verdict.Refused (misses (one .place) i)
 
 pub checked-tells : Tells checked
 checked-tells = record {
   leaving = λ plant table t one b i h.
-      of-tree plant table t ∙ leaving-told (rulesOf (t .p)) (judged-sizes plant (t .p) (t .judged)) (t .tree) (t .shape) one b i h;
+      of-tree plant table t ∙ leaving-told (rulesOf (formOf table) (t .p)) (judged-sizes plant (t .p) (t .judged) (formOf table) (form-known table)) (t .tree) (t .shape) one b i h;
   missing = λ plant table t one b i h.
-      of-tree plant table t ∙ missing-told (rulesOf (t .p)) (judged-sizes plant (t .p) (t .judged)) (t .tree) (t .shape) one b i h;
+      of-tree plant table t ∙ missing-told (rulesOf (formOf table) (t .p)) (judged-sizes plant (t .p) (t .judged) (formOf table) (form-known table)) (t .tree) (t .shape) one b i h;
 }
   where
-    of-tree : (plant table : List ℕ) (t : Laid plant table) → checked plant table ≡ verdict (rulesOf (t .p)) (tableOf (rulesOf (t .p)) (t .tree))
-    of-tree plant table t = checked-as plant (t .p) (t .judged) table ∙ ap (verdict (rulesOf (t .p))) (t .is)
+    of-tree : (plant table : List ℕ) (t : Laid plant table) → checked plant table ≡ verdict (rulesOf (formOf table) (t .p)) (tableOf (rulesOf (formOf table) (t .p)) (t .tree))
+    of-tree plant table t = checked-as plant (t .p) (t .judged) table ∙ ap (verdict (rulesOf (formOf table) (t .p))) (t .is)
 
 -- two checkers of which both are true answer alike on every table that keeps the file's rules
 pub one-verdict : (f g : Checker) → AcceptsWorking f → Tells f → AcceptsWorking g → Tells g → (plant table : List ℕ) → Laid plant table → f plant table ≡ g plant table
-one-verdict f g A F B G plant table t = go (comes (rulesOf (t .p)) (t .tree) (t .shape))
+one-verdict f g A F B G plant table t = go (comes (rulesOf (formOf table) (t .p)) (t .tree) (t .shape))
   where
-    go : Comes (rulesOf (t .p)) (t .tree) → f plant table ≡ g plant table
+    go : Comes (rulesOf (formOf table) (t .p)) (t .tree) → f plant table ≡ g plant table
     go (working w) =
         let works : Tiled plant table = record { p = t .p; judged = t .judged; tree = t .tree; works = w; is = t .is } in
         A plant table works ∙ sym (B plant table works)
@@ -127,33 +128,40 @@ one-verdict f g A F B G plant table t = go (comes (rulesOf (t .p)) (t .tree) (t 
 
 -- ---- demand 2, the maker
 
--- the bytes of the defined table of a plant that was judged good
-pub record DefinedTable (plant bytes : List ℕ) : Type 0 where
+-- the bytes of the defined table, of a known form, of a plant that was judged good
+pub record DefinedTable (plant : List ℕ) (form : ℕ) (bytes : List ℕ) : Type 0 where
   pub p : Plant
   pub judged : plantJudged plant ≡ good p
+  pub known : knownForm form ≡ true
   pub tree : Tree
-  pub defined : definedTree (rulesOf p) ≡ some tree
-  pub is : bytes ≡ tableOf (rulesOf p) tree
+  pub defined : definedTree (rulesOf form p) ≡ some tree
+  pub is : bytes ≡ tableOf (rulesOf form p) tree
 
 pub record Makes (make : Maker) : Type 0 where
   -- where the defined table fits, its bytes stand in front, their number is answered, and the rest of the buffer is as it was
-  pub writes : (plant buf bytes : List ℕ) → DefinedTable plant bytes → length bytes ≤ length buf → make plant buf ≡ wrote bytes buf
-  -- 9 exactly where the plant is good and no table at all is accepted; 10 exactly where the defined table does not fit; and before them the plant's own refusal
-  pub nine : (plant buf : List ℕ) → (make plant buf .answer ≡ Written.Refused (noTable 0))
-      ↔ ((p : Plant) × (plantJudged plant ≡ good p) × ((table : List ℕ) → checked plant table ≡ Verdict.Accepted → ⊥))
-  pub ten : (plant buf : List ℕ) → (make plant buf .answer ≡ Written.Refused short) ↔ ((bytes : List ℕ) × DefinedTable plant bytes × (length buf < length bytes))
-  pub plant-first : (plant buf : List ℕ) (e : Refusal) → plantJudged plant ≡ bad e → make plant buf .answer ≡ Written.Refused e
+  pub writes : (plant : List ℕ) (form : ℕ) (buf bytes : List ℕ) → DefinedTable plant form bytes → length bytes ≤ length buf → make plant form buf ≡ wrote bytes buf
+  -- 9 exactly where the plant is good, the form is known and no table at all of that form is accepted; 10 exactly where the defined table does not fit; and
+  -- before them the plant's own refusal, then 2 where the form is not known
+  pub nine : (plant : List ℕ) (form : ℕ) (buf : List ℕ) → (make plant form buf .answer ≡ Written.Refused (noTable 0))
+      ↔ ((p : Plant) × (plantJudged plant ≡ good p) × (knownForm form ≡ true) × ((table : List ℕ) → formOf table ≡ form → checked plant table ≡ Verdict.Accepted → ⊥))
+  pub ten : (plant : List ℕ) (form : ℕ) (buf : List ℕ) → (make plant form buf .answer ≡ Written.Refused short)
+      ↔ ((bytes : List ℕ) × DefinedTable plant form bytes × (length buf < length bytes))
+  pub plant-first : (plant : List ℕ) (form : ℕ) (buf : List ℕ) (e : Refusal) → plantJudged plant ≡ bad e → make plant form buf .answer ≡ Written.Refused e
+  pub then-form : (plant : List ℕ) (form : ℕ) (buf : List ℕ) (p : Plant) → plantJudged plant ≡ good p → knownForm form ≡ false
+      → make plant form buf .answer ≡ Written.Refused wrongForm
   -- a refused write zeros the whole buffer
-  pub zeros : (plant buf : List ℕ) (e : Refusal) → make plant buf .answer ≡ Written.Refused e → make plant buf .buffer ≡ replicate (length buf) 0
+  pub zeros : (plant : List ℕ) (form : ℕ) (buf : List ℕ) (e : Refusal) → make plant form buf .answer ≡ Written.Refused e
+      → make plant form buf .buffer ≡ replicate (length buf) 0
 
 -- what is made is the defined table
-made-defined : (plant bytes : List ℕ) → (made plant ≡ good bytes) ↔ DefinedTable plant bytes
-made-defined plant bytes = (
+made-defined : (plant : List ℕ) (form : ℕ) (bytes : List ℕ) → (made plant form ≡ good bytes) ↔ DefinedTable plant form bytes
+made-defined plant form bytes = (
   λ q.
-      let w = accepted-judged plant bytes (made-accepted plant bytes q) in
-      let t = made-exactly plant (w .0) (w .1) bytes .0 q in
-      record { p = w .0; judged = w .1; tree = t .0; defined = t .1; is = t .2 },
-  λ t. made-exactly plant (t .p) (t .judged) bytes .1 (t .tree, t .defined, t .is),
+      let a = made-accepted plant form bytes q in
+      let w = accepted-judged plant bytes (a .0) in
+      let t = made-exactly plant (w .0) (w .1) form (a .2) bytes .0 q in
+      record { p = w .0; judged = w .1; known = a .2; tree = t .0; defined = t .1; is = t .2 },
+  λ t. made-exactly plant (t .p) (t .judged) form (t .known) bytes .1 (t .tree, t .defined, t .is),
 )
 
 refused-zeros : (j : Judged (List ℕ)) (buf : List ℕ) (e : Refusal) → left j buf .answer ≡ Written.Refused e → left j buf .buffer ≡ replicate (length buf) 0
@@ -170,46 +178,51 @@ refused-zeros (good bytes) buf e q = go (leb (length bytes) (length buf)) q
 pub maker-makes : Makes makerLeft
 unfolding T.makerLeft T.made
 maker-makes = record {
-  writes = λ plant buf bytes t l. maker-writes plant buf bytes (made-defined plant bytes .1 t) l;
+  writes = λ plant form buf bytes t l. maker-writes plant form buf bytes (made-defined plant form bytes .1 t) l;
   nine = maker-nine;
-  ten = λ plant buf.
-      let w = maker-ten plant buf in (
-        λ a. let t = w .0 a in (t .0, made-defined plant (t .0) .0 (t .1), t .2),
-        λ t. w .1 (t .0, made-defined plant (t .0) .1 (t .1), t .2),
+  ten = λ plant form buf.
+      let w = maker-ten plant form buf in (
+        λ a. let t = w .0 a in (t .0, made-defined plant form (t .0) .0 (t .1), t .2),
+        λ t. w .1 (t .0, made-defined plant form (t .0) .1 (t .1), t .2),
       );
-  plant-first = λ plant buf e q. rw q refl;
-  zeros = λ plant buf e q. refused-zeros (made plant) buf e q;
+  plant-first = λ plant form buf e q. rw q refl;
+  then-form = maker-two;
+  zeros = λ plant form buf e q. refused-zeros (made plant form) buf e q;
 }
 
 -- two makers of which this is true answer alike and leave the same bytes
-module _ (f g : Maker) (F : Makes f) (G : Makes g) (plant buf : List ℕ) where
-  refused-left : (make : Maker) → Makes make → (e : Refusal) → make plant buf .answer ≡ Written.Refused e → make plant buf ≡ refusedWith e buf
-  refused-left make m e q = same q (m .zeros plant buf e q)
+module _ (f g : Maker) (F : Makes f) (G : Makes g) (plant : List ℕ) (form : ℕ) (buf : List ℕ) where
+  refused-left : (make : Maker) → Makes make → (e : Refusal) → make plant form buf .answer ≡ Written.Refused e → make plant form buf ≡ refusedWith e buf
+  refused-left make m e q = same q (m .zeros plant form buf e q)
     where
       same : {a b : Written} {x y : List ℕ} → a ≡ b → x ≡ y → _≡_ {A = Left} (record { answer = a; buffer = x }) (record { answer = b; buffer = y })
       same p q = rw (p, q) refl
 
-  refused-alike : (e : Refusal) → f plant buf .answer ≡ Written.Refused e → g plant buf .answer ≡ Written.Refused e → f plant buf ≡ g plant buf
+  refused-alike : (e : Refusal) → f plant form buf .answer ≡ Written.Refused e → g plant form buf .answer ≡ Written.Refused e → f plant form buf ≡ g plant form buf
   refused-alike e p q = refused-left f F e p ∙ sym (refused-left g G e q)
 
-  pub one-answer : f plant buf ≡ g plant buf
+  pub one-answer : f plant form buf ≡ g plant form buf
   one-answer = of-plant (plantJudged plant) refl
     where
-      of-table : (bytes : List ℕ) → DefinedTable plant bytes → Dec (length buf < length bytes) → f plant buf ≡ g plant buf
-      of-table bytes t (yes l) = refused-alike short (F .ten plant buf .1 (bytes, t, l)) (G .ten plant buf .1 (bytes, t, l))
-      of-table bytes t (no l) = F .writes plant buf bytes t (omega arith) ∙ sym (G .writes plant buf bytes t (omega arith))
+      of-table : (bytes : List ℕ) → DefinedTable plant form bytes → Dec (length buf < length bytes) → f plant form buf ≡ g plant form buf
+      of-table bytes t (yes l) = refused-alike short (F .ten plant form buf .1 (bytes, t, l)) (G .ten plant form buf .1 (bytes, t, l))
+      of-table bytes t (no l) = F .writes plant form buf bytes t (omega arith) ∙ sym (G .writes plant form buf bytes t (omega arith))
 
-      of-tree : (p : Plant) → plantJudged plant ≡ good p → (o : Option Tree) → definedTree (rulesOf p) ≡ o → f plant buf ≡ g plant buf
-      of-tree p e (some t) q =
-          let bytes = tableOf (rulesOf p) t in
-          of-table bytes (record { p = p; judged = e; tree = t; defined = q; is = refl }) (decLt (length buf) (length bytes))
-      of-tree p e none q =
-          let no = nine-exactly plant p e .0 (made-as plant p e ∙ rw q refl) in
-          refused-alike (noTable 0) (F .nine plant buf .1 (p, e, no)) (G .nine plant buf .1 (p, e, no))
+      of-tree : (p : Plant) → plantJudged plant ≡ good p → knownForm form ≡ true → (o : Option Tree) → definedTree (rulesOf form p) ≡ o → f plant form buf ≡ g plant form buf
+      of-tree p e known (some t) q =
+          let bytes = tableOf (rulesOf form p) t in
+          of-table bytes (record { p = p; judged = e; known = known; tree = t; defined = q; is = refl }) (decLt (length buf) (length bytes))
+      of-tree p e known none q =
+          let no = nine-exactly plant p e form known .0 (made-as plant p e form known ∙ rw q refl) in
+          refused-alike (noTable 0) (F .nine plant form buf .1 (p, e, known, no)) (G .nine plant form buf .1 (p, e, known, no))
 
-      of-plant : (j : Judged Plant) → plantJudged plant ≡ j → f plant buf ≡ g plant buf
-      of-plant (bad e) q = refused-alike e (F .plant-first plant buf e q) (G .plant-first plant buf e q)
-      of-plant (good p) q = of-tree p q (definedTree (rulesOf p)) refl
+      of-form : (p : Plant) → plantJudged plant ≡ good p → (c : Bool) → knownForm form ≡ c → f plant form buf ≡ g plant form buf
+      of-form p e true known = of-tree p e known (definedTree (rulesOf form p)) refl
+      of-form p e false other = refused-alike wrongForm (F .then-form plant form buf p e other) (G .then-form plant form buf p e other)
+
+      of-plant : (j : Judged Plant) → plantJudged plant ≡ j → f plant form buf ≡ g plant form buf
+      of-plant (bad e) q = refused-alike e (F .plant-first plant form buf e q) (G .plant-first plant form buf e q)
+      of-plant (good p) q = of-form p q (knownForm form) refl
 
 -- ---- demand 2, a call of the controller on an accepted table
 
@@ -231,17 +244,17 @@ stateOf place left = record { place = place; left = left }
 pub record Answers (control : Controller) : Type 0 where
   -- idle, the reading in R: its tile is the one of the table's that holds it; its first mode is answered, and the others are left
   pub first-mode : (plant table : List ℕ) (t : Tiled plant table) (x : List ℤ) → startsIn plant x ≡ true
-      → (one : Tile (rulesOf (t .p))) → having (rulesOf (t .p)) x (tilesOf (rulesOf (t .p)) (t .tree) (rootOf (t .p)) 2) ≡ one ∷ []
-      → (u : ℕ) (us : List ℕ) → one .modes ≡ u ∷ us → control plant table idle x ≡ Answer.Mode u (stateWith us (nextPlace (firstPlace (rulesOf (t .p)) one) u))
+      → (one : Tile (rulesOf (formOf table) (t .p))) → having (rulesOf (formOf table) (t .p)) x (tilesOf (rulesOf (formOf table) (t .p)) (t .tree) (rootOf (t .p)) 2) ≡ one ∷ []
+      → (u : ℕ) (us : List ℕ) → one .modes ≡ u ∷ us → control plant table idle x ≡ Answer.Mode u (stateWith us (nextPlace (firstPlace (rulesOf (formOf table) (t .p)) one) u))
   -- running, the reading in S: the mode at the place is answered; with modes left the state moves behind it, else it is idle
   pub next-mode : (plant table : List ℕ) (t : Tiled plant table) (x : List ℤ) → safeIn plant x ≡ true
       → (place m : ℕ) (k : CanRun (t .p) table place (suc m)) → control plant table (stateOf place (suc m)) x ≡ Answer.Mode (k .mode) (stateAt (nextPlace place (k .mode)) m)
   -- 11: the reading is outside R, idle, or outside S, running; the first dimension in which it is
   pub outside-root : (plant table : List ℕ) (t : Tiled plant table) (x : List ℤ) → startsIn plant x ≡ false
-      → control plant table idle x ≡ Answer.Refused (outside (missed (rulesOf (t .p)) (rootOf (t .p)) x))
+      → control plant table idle x ≡ Answer.Refused (outside (missed (rulesOf (formOf table) (t .p)) (rootOf (t .p)) x))
   pub outside-safe : (plant table : List ℕ) (t : Tiled plant table) (x : List ℤ) → safeIn plant x ≡ false
       → (place m : ℕ) → CanRun (t .p) table place (suc m)
-      → control plant table (stateOf place (suc m)) x ≡ Answer.Refused (outside (missed (rulesOf (t .p)) (safeOf (t .p)) x))
+      → control plant table (stateOf place (suc m)) x ≡ Answer.Refused (outside (missed (rulesOf (formOf table) (t .p)) (safeOf (t .p)) x))
   -- 12, before 11: a state that cannot be
   pub no-place : (plant table : List ℕ) (t : Tiled plant table) (x : List ℤ) (place : ℕ) → control plant table (stateOf (suc place) 0) x ≡ Answer.Refused badState
   pub cannot-run : (plant table : List ℕ) (t : Tiled plant table) (x : List ℤ) (place m : ℕ) → (CanRun (t .p) table place (suc m) → ⊥)
@@ -250,7 +263,7 @@ pub record Answers (control : Controller) : Type 0 where
 -- the test of a state
 module _ (plant : List ℕ) (p : Plant) (good-plant : plantJudged plant ≡ good p) (table : List ℕ) (place m : ℕ) where
   small : p .modes ≤ 2 ^ 35
-  small = judged-sizes plant p good-plant .modes
+  small = judged-sizes plant p good-plant 1 refl .modes
 
   mode-there : (k : CanRun p table place (suc m)) → numberAt table place ≡ Number.Value (k .mode) (nextPlace place (k .mode))
   mode-there k = first-read (p .modes) small (k .mode) (k .later) table place (k .end) (k .are-modes) (k .stand)
@@ -283,12 +296,12 @@ cannot false h = refl
 -- the header is read, and the state says which call it is
 module _ (plant table : List ℕ) (t : Tiled plant table) (x : List ℤ) where
   abbrev rules : Rules
-  rules = rulesOf (t .p)
+  rules = rulesOf (formOf table) (t .p)
 
-  header-is : header (t .p .n) table ≡ Walk.Next (headed (t .p .n))
-  header-is = table-header rules (judged-sizes plant (t .p) (t .judged)) table [] (t .tree) (t .is ∙ sym (append-nil (tableOf rules (t .tree))))
+  header-is : header (formOf table) (t .p .n) table ≡ Walk.Next (headed (formOf table) (t .p .n))
+  header-is = table-header rules (judged-sizes plant (t .p) (t .judged) (formOf table) (form-known table)) table [] (t .tree) (t .is ∙ sym (append-nil (tableOf rules (t .tree))))
 
-  idle-as : (place : ℕ) → controlled plant table (stateOf place 0) x ≡ idleCall rules table (headed (t .p .n)) place x
+  idle-as : (place : ℕ) → controlled plant table (stateOf place 0) x ≡ idleCall rules table (headed (formOf table) (t .p .n)) place x
   unfolding C.call
   idle-as place = controlled-as plant (t .p) (t .judged) table (stateOf place 0) x ∙ rw header-is refl
 
@@ -307,10 +320,10 @@ controlled-answers = record {
   first-mode = λ plant table t x h one q u us e.
       let c = chosen plant table t x h in
       let same : c .the ≡ one = cc (c .only) in
-      let modes : c .first ∷ c .later ≡ u ∷ us = sym (c .modes-are) ∙ ap (λ (o : Tile (rulesOf (t .p))). o .modes) same ∙ e in
+      let modes : c .first ∷ c .later ≡ u ∷ us = sym (c .modes-are) ∙ ap (λ (o : Tile (rulesOf (formOf table) (t .p))). o .modes) same ∙ e in
       let a : c .first ≡ u = cc in
       let b : c .later ≡ us = cc in
-      let at : firstPlace (rulesOf (t .p)) (c .the) ≡ firstPlace (rulesOf (t .p)) one = ap (firstPlace (rulesOf (t .p))) same in
+      let at : firstPlace (rulesOf (formOf table) (t .p)) (c .the) ≡ firstPlace (rulesOf (formOf table) (t .p)) one = ap (firstPlace (rulesOf (formOf table) (t .p))) same in
       c .answered ∙ rw (a, b, at) refl;
   next-mode = λ plant table t x h place m k.
       running-as plant table t x place m ∙ simp (can-run plant (t .p) (t .judged) table place m .1 k, in-safe plant table t x true h) (rw (mode-there plant (t .p) (t .judged) table place m k) refl);

@@ -81,18 +81,18 @@ module _ (plant : List ℕ) (p : Plant) (e : plantJudged plant ≡ good p) (equa
   pub other-written : (buf : List ℕ) → length other ≤ length buf → plantLeft (inForm form p) buf ≡ wrote other buf
   other-written = read-written other (inForm form p) other-read
 
-  -- ---- the same rules, and so the same answers
+  -- ---- the same rules, whatever form of table is told, and so the same answers
 
-  pub same-rules : rulesOf (inForm form p) ≡ rulesOf p
-  same-rules = refl
+  pub same-rules : (told : ℕ) → rulesOf told (inForm form p) ≡ rulesOf told p
+  same-rules told = refl
 
   pub same-checked : (table : List ℕ) → checked other table ≡ checked plant table
   unfolding T.checked
   same-checked table = rw (e, other-read) refl
 
-  pub same-made : (buf : List ℕ) → makerLeft other buf ≡ makerLeft plant buf
+  pub same-made : (told : ℕ) (buf : List ℕ) → makerLeft other told buf ≡ makerLeft plant told buf
   unfolding T.makerLeft T.made
-  same-made buf = rw (e, other-read) refl
+  same-made told buf = rw (e, other-read) refl
 
   pub same-controlled : (table : List ℕ) (st : State) (x : List ℤ) → controlled other table st x ≡ controlled plant table st x
   unfolding T.controlled
@@ -107,9 +107,9 @@ module _ (plant : List ℕ) (p : Plant) (e : plantJudged plant ≡ good p) (equa
   unfolding S.startChecked
   same-start-checked start = rw (e, other-read) refl
 
-  pub same-start-made : (chain buf : List ℕ) → startLeft other chain buf ≡ startLeft plant chain buf
+  pub same-start-made : (chain : List ℕ) (told : ℕ) (buf : List ℕ) → startLeft other chain told buf ≡ startLeft plant chain told buf
   unfolding S.startLeft S.startMade
-  same-start-made chain buf = rw (e, other-read) refl
+  same-start-made chain told buf = rw (e, other-read) refl
 
   pub same-start-controlled : (start : List ℕ) (st : StartState) (x : List ℤ) → startControlled other start st x ≡ startControlled plant start st x
   unfolding S.startControlled

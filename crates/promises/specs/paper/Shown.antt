@@ -31,7 +31,7 @@ use Rattle.meaning.specs.Files.{good}
 use Rattle.meaning.specs.Numbers.{numberAt, asSigned, signedAt, bytesOf, stored, restored}
 use Rattle.meaning.specs.Plants.{Plant, plantJudged, rootOf}
 use Rattle.meaning.specs.Rules.{Rules, rule, holds}
-use Rattle.meaning.specs.Tables.{rulesOf, checked, made, makerLeft, controlled, startsIn, TableRun}
+use Rattle.meaning.specs.Tables.{depthBy, knownForm, formOf, rulesOf, checked, made, makerLeft, controlled, startsIn, TableRun}
 use Rattle.meaning.specs.Verdicts as W
 use Rattle.meaning.specs.Verdicts.{walk, header, verdict}
 use Rattle.promises.specs.tables.Checked.{Tiled, checked-exactly}
@@ -45,6 +45,7 @@ use Rattle.promises.specs.files.Numbers.{reads, was, restored-stored, st
 use Rattle.promises.specs.tables.Patterns.{Lands, works-exactly, staying, landing, leaves-exactly, misses-exactly}
 use Rattle.promises.specs.tables.PlantRules.{judged-sizes, checked-as, controlled-as}
 use Rattle.promises.specs.tables.Promise.{promise}
+use Rattle.promises.specs.tables.TableForms.{form-known}
 use Rattle.promises.specs.paper.Shows.{shows, refusing, noMode, same-refusal, Some, number-exactly, signed-exactly, tried-exactly, written-exactly, walk-exactly, verdict-exactly, answer-exactly, accepted-some, refused-some, mode-some, call-some}
 use Rattle.promises.specs.paper.Told.{checker-some, controller-some}
 
@@ -121,28 +122,28 @@ module _ (plant table : List ℕ) where
 
 -- ---- S7: 9, 10, or 0 with the length of the table
 
-module _ (plant buf : List ℕ) where
-  pub nine-shown : (writtenShown (makerLeft plant buf .answer) ≡ shows 9 0 0 [])
-      ↔ ((p : Plant) × (plantJudged plant ≡ good p) × ((table : List ℕ) → checked plant table ≡ Verdict.Accepted → ⊥))
-  nine-shown = Iff·trans (written-exactly (makerLeft plant buf .answer) (Written.Refused (noTable 0))) (maker-nine plant buf)
+module _ (plant : List ℕ) (form : ℕ) (buf : List ℕ) where
+  pub nine-shown : (writtenShown (makerLeft plant form buf .answer) ≡ shows 9 0 0 [])
+      ↔ ((p : Plant) × (plantJudged plant ≡ good p) × (knownForm form ≡ true) × ((table : List ℕ) → formOf table ≡ form → checked plant table ≡ Verdict.Accepted → ⊥))
+  nine-shown = Iff·trans (written-exactly (makerLeft plant form buf .answer) (Written.Refused (noTable 0))) (maker-nine plant form buf)
 
-  pub ten-shown : (writtenShown (makerLeft plant buf .answer) ≡ shows 10 0 0 []) ↔ ((bytes : List ℕ) × (made plant ≡ good bytes) × (length buf < length bytes))
-  ten-shown = Iff·trans (written-exactly (makerLeft plant buf .answer) (Written.Refused short)) (maker-ten plant buf)
+  pub ten-shown : (writtenShown (makerLeft plant form buf .answer) ≡ shows 10 0 0 []) ↔ ((bytes : List ℕ) × (made plant form ≡ good bytes) × (length buf < length bytes))
+  ten-shown = Iff·trans (written-exactly (makerLeft plant form buf .answer) (Written.Refused short)) (maker-ten plant form buf)
 
-  pub length-shown : (m : ℕ) → (writtenShown (makerLeft plant buf .answer) ≡ shows 0 0 0 (pos m ∷ []))
-      ↔ ((bytes : List ℕ) × (made plant ≡ good bytes) × (length bytes ≤ length buf) × (m ≡ length bytes))
-  length-shown m = Iff·trans (written-exactly (makerLeft plant buf .answer) (Written.Length m)) (maker-length plant buf m)
+  pub length-shown : (m : ℕ) → (writtenShown (makerLeft plant form buf .answer) ≡ shows 0 0 0 (pos m ∷ []))
+      ↔ ((bytes : List ℕ) × (made plant form ≡ good bytes) × (length bytes ≤ length buf) × (m ≡ length bytes))
+  length-shown m = Iff·trans (written-exactly (makerLeft plant form buf .answer) (Written.Length m)) (maker-length plant form buf m)
 
 -- ---- S8: of an accepted table and a reading in R, the tile found and the call's answer
 
 pub chosen-shown : (plant table : List ℕ) (t : Tiled plant table) (x : List ℤ) → startsIn plant x ≡ true
     → (c : Chosen plant table t x)
-    × (foundShown (find (rulesOf (t .p)) (t .p .d) table 2 (rootOf (t .p)) x) ≡ shows 0 0 0 (pos (firstPlace (rulesOf (t .p)) (c .the)) ∷ pos (length (c .the .modes)) ∷ []))
+    × (foundShown (find (rulesOf (formOf table) (t .p)) (depthBy (formOf table) (t .p .n) (t .p .d)) table 2 (rootOf (t .p)) x) ≡ shows 0 0 0 (pos (firstPlace (rulesOf (formOf table) (t .p)) (c .the)) ∷ pos (length (c .the .modes)) ∷ []))
     × (answerShown (controlled plant table idle x)
-    ≡ shows 0 0 0 (pos (c .first) ∷ pos (stateWith (c .later) (nextPlace (firstPlace (rulesOf (t .p)) (c .the)) (c .first)) .place) ∷ pos (length (c .later)) ∷ []))
+    ≡ shows 0 0 0 (pos (c .first) ∷ pos (stateWith (c .later) (nextPlace (firstPlace (rulesOf (formOf table) (t .p)) (c .the)) (c .first)) .place) ∷ pos (length (c .later)) ∷ []))
 chosen-shown plant table t x h =
     let c = chosen plant table t x h in
-    (c, ap foundShown (c .found), ap answerShown (c .answered) ∙ state-shown (c .later) (c .first) (nextPlace (firstPlace (rulesOf (t .p)) (c .the)) (c .first)))
+    (c, ap foundShown (c .found), ap answerShown (c .answered) ∙ state-shown (c .later) (c .first) (nextPlace (firstPlace (rulesOf (formOf table) (t .p)) (c .the)) (c .first)))
   where
     state-shown : (us : List ℕ) (u place : ℕ) → answerShown (Answer.Mode u (stateWith us place)) ≡ shows 0 0 0 (pos u ∷ pos (stateWith us place .place) ∷ pos (length us) ∷ [])
     state-shown [] u place = refl
@@ -171,8 +172,9 @@ module _ (plant table : List ℕ) (st : State) (x : List ℤ) where
 -- ---- S6 and S8 in their parts, which show what they pass on
 
 -- the header and a tree: 0 with the place behind it exactly where it stands
-pub header-shown : (n : ℕ) → n < 2 ^ 35 → (s : List ℕ) (m : ℕ) → (walkShown (header n s) ≡ shows 0 0 0 (pos m ∷ [])) ↔ Stands s 0 (bytesOf 1 ++ bytesOf n) m
-header-shown n small s m = Iff·trans (walk-exactly (header n s) (Walk.Next m)) (λ e. header-stands n s m e, λ w. header-read n small s m w)
+pub header-shown : (form n : ℕ) → form < 2 ^ 35 → n < 2 ^ 35 → (s : List ℕ) (m : ℕ)
+    → (walkShown (header form n s) ≡ shows 0 0 0 (pos m ∷ [])) ↔ Stands s 0 (bytesOf form ++ bytesOf n) m
+header-shown form n fit small s m = Iff·trans (walk-exactly (header form n s) (Walk.Next m)) (λ e. header-stands form n s m e, λ w. header-read form n fit small s m w)
 
 pub walk-shown : (r : Rules) → Sizes r → (s : List ℕ) (judge : r .Box → List ℕ → Tried) (d at : ℕ) (b : r .Box) (m : ℕ)
     → (walkShown (walk r judge d s at b) ≡ shows 0 0 0 (pos m ∷ [])) ↔ TreeStands r judge d s at b m
@@ -181,19 +183,19 @@ walk-shown r z s judge d at b m =
 
 module _ (plant : List ℕ) (p : Plant) (good-plant : plantJudged plant ≡ good p) (table : List ℕ) where
   -- the checker shows what the header shows that is refused; then what the walk shows; then 6 where bytes are left over
-  pub header-first : (e : Refusal) → walkShown (header (p .n) table) ≡ refusing e [] → verdictShown (checked plant table) ≡ refusing e []
+  pub header-first : (e : Refusal) → walkShown (header (formOf table) (p .n) table) ≡ refusing e [] → verdictShown (checked plant table) ≡ refusing e []
   unfolding W.verdict
   header-first e h =
-      let q = walk-exactly (header (p .n) table) (Walk.Refused e) .0 h in
+      let q = walk-exactly (header (formOf table) (p .n) table) (Walk.Refused e) .0 h in
       let is : checked plant table ≡ Verdict.Refused e = checked-as plant p good-plant table ∙ rw q refl in
       ap verdictShown is
 
-  module _ (at : ℕ) (head : walkShown (header (p .n) table) ≡ shows 0 0 0 (pos at ∷ [])) where
+  module _ (at : ℕ) (head : walkShown (header (formOf table) (p .n) table) ≡ shows 0 0 0 (pos at ∷ [])) where
     abbrev walked : Walk
-    walked = walk (rulesOf p) (rule (rulesOf p)) (p .d) table at (rootOf p)
+    walked = walk (rulesOf (formOf table) p) (rule (rulesOf (formOf table) p)) (depthBy (formOf table) (p .n) (p .d)) table at (rootOf p)
 
-    head-is : header (p .n) table ≡ Walk.Next at
-    head-is = walk-exactly (header (p .n) table) (Walk.Next at) .0 head
+    head-is : header (formOf table) (p .n) table ≡ Walk.Next at
+    head-is = walk-exactly (header (formOf table) (p .n) table) (Walk.Next at) .0 head
 
     pub walk-next : (e : Refusal) → walkShown walked ≡ refusing e [] → verdictShown (checked plant table) ≡ refusing e []
     unfolding W.verdict
@@ -217,18 +219,18 @@ module _ (plant : List ℕ) (p : Plant) (good-plant : plantJudged plant ≡ good
 
     -- an idle call on a reading in R is refused exactly as the look for its tile is, whatever the table
     pub look-shown : (x : List ℤ) → startsIn plant x ≡ true → (e : Refusal) → Some e
-        → (foundShown (find (rulesOf p) (p .d) table at (rootOf p) x) ≡ refusing e []) ↔ (answerShown (controlled plant table idle x) ≡ refusing e noMode)
+        → (foundShown (find (rulesOf (formOf table) p) (depthBy (formOf table) (p .n) (p .d)) table at (rootOf p) x) ≡ refusing e []) ↔ (answerShown (controlled plant table idle x) ≡ refusing e noMode)
     unfolding C.call
     look-shown x h e s =
-        let r = rulesOf p in
+        let r = rulesOf (formOf table) p in
         let held : holds r (rootOf p) x ≡ true = rw good-plant at h in
-        let is : controlled plant table idle x ≡ onFound table (find r (p .d) table at (rootOf p) x) = controlled-as plant p good-plant table idle x ∙ rw (head-is, held) refl in
-        rw is (go (find r (p .d) table at (rootOf p) x) refl)
+        let is : controlled plant table idle x ≡ onFound table (find r (depthBy (formOf table) (p .n) (p .d)) table at (rootOf p) x) = controlled-as plant p good-plant table idle x ∙ rw (head-is, held) refl in
+        rw is (go (find r (depthBy (formOf table) (p .n) (p .d)) table at (rootOf p) x) refl)
       where
         -- a tile that is found has a first mode
-        go : (f : Found) → find (rulesOf p) (p .d) table at (rootOf p) x ≡ f → (foundShown f ≡ refusing e []) ↔ (answerShown (onFound table f) ≡ refusing e noMode)
+        go : (f : Found) → find (rulesOf (formOf table) p) (depthBy (formOf table) (p .n) (p .d)) table at (rootOf p) x ≡ f → (foundShown f ≡ refusing e []) ↔ (answerShown (onFound table f) ≡ refusing e noMode)
         go (Found.Tile from k) w =
-            let first = found-first (rulesOf p) (judged-sizes plant p good-plant) x (p .d) table at (rootOf p) from k w in (
+            let first = found-first (rulesOf (formOf table) p) (judged-sizes plant p good-plant (formOf table) (form-known table)) x (depthBy (formOf table) (p .n) (p .d)) table at (rootOf p) from k w in (
               λ q. let z = ap (λ (a : Shown). a .values) q in never cc,
               λ q. absurd (s (sym (ap (λ (a : Shown). a .number) (ap answerShown (sym (first-answered (p .modes) table from k first)) ∙ q)))),
             )

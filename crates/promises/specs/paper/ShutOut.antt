@@ -98,33 +98,34 @@ accepts-all check all demand = let w = demand P table₄ (all P table₄) in lea
 
 -- ---- a maker that always says 9, or writes nothing: demand 2, existence and bytes, at line 1
 
-defined₁ : DefinedTable P table₁
+defined₁ : DefinedTable P 1 table₁
 unfolding computing
-defined₁ = let t = made-exactly P plantP judged table₁ .0 refl in record { p = plantP; judged = judged; tree = t .0; defined = t .1; is = t .2 }
+defined₁ = let t = made-exactly P plantP judged 1 refl table₁ .0 refl in record { p = plantP; judged = judged; known = refl; tree = t .0; defined = t .1; is = t .2 }
 
-defined₅ : DefinedTable P′ table₅
+defined₅ : DefinedTable P′ 1 table₅
 unfolding computing
-defined₅ = let t = made-exactly P′ plantP′ judged′ table₅ .0 refl in record { p = plantP′; judged = judged′; tree = t .0; defined = t .1; is = t .2 }
+defined₅ = let t = made-exactly P′ plantP′ judged′ 1 refl table₅ .0 refl in record { p = plantP′; judged = judged′; known = refl; tree = t .0; defined = t .1; is = t .2 }
 
-pub always-nine : (make : Maker) → ((plant buf : List ℕ) → make plant buf .answer ≡ Written.Refused (noTable 0)) → Makes make → ⊥
-always-nine make nine demand = let w = demand .nine P [] .0 (nine P []) in w .2 table₁ accepted₁
+pub always-nine : (make : Maker) → ((plant : List ℕ) (form : ℕ) (buf : List ℕ) → make plant form buf .answer ≡ Written.Refused (noTable 0)) → Makes make → ⊥
+unfolding computing
+always-nine make nine demand = let w = demand .nine P 1 [] .0 (nine P 1 []) in w .3 table₁ refl accepted₁
 
 -- the buffer's first byte was not 1
-pub writes-nothing : (make : Maker) → ((plant buf : List ℕ) → make plant buf .buffer ≡ buf) → Makes make → ⊥
+pub writes-nothing : (make : Maker) → ((plant : List ℕ) (form : ℕ) (buf : List ℕ) → make plant form buf .buffer ≡ buf) → Makes make → ⊥
 writes-nothing make nothing demand =
-    let w = demand .writes P (lent 7) table₁ defined₁ (omega arith) in
-    let e : getD (make P (lent 7) .buffer) 0 0 ≡ 1 = rw w refl in
-    omega (arith, sym e ∙ ap (λ (l : List ℕ). getD l 0 0) (nothing P (lent 7)))
+    let w = demand .writes P 1 (lent 7) table₁ defined₁ (omega arith) in
+    let e : getD (make P 1 (lent 7) .buffer) 0 0 ≡ 1 = rw w refl in
+    omega (arith, sym e ∙ ap (λ (l : List ℕ). getD l 0 0) (nothing P 1 (lent 7)))
 
 -- ---- one fixed table: demand 2, at lines 1 and 5
 
-pub one-table : (make : Maker) (table : List ℕ) → ((plant buf : List ℕ) (m : ℕ) → make plant buf .answer ≡ Written.Length m → take m (make plant buf .buffer) ≡ table)
+pub one-table : (make : Maker) (table : List ℕ) → ((plant : List ℕ) (form : ℕ) (buf : List ℕ) (m : ℕ) → make plant form buf .answer ≡ Written.Length m → take m (make plant form buf .buffer) ≡ table)
     → Makes make → ⊥
 one-table make table fixed demand =
-    let a = demand .writes P (lent 7) table₁ defined₁ (omega arith) in
-    let b = demand .writes P′ (lent 5) table₅ defined₅ (omega arith) in
-    let first : table₁ ≡ table = rw a at (fixed P (lent 7) 7 (rw a refl)) in
-    let other : table₅ ≡ table = rw b at (fixed P′ (lent 5) 5 (rw b refl)) in
+    let a = demand .writes P 1 (lent 7) table₁ defined₁ (omega arith) in
+    let b = demand .writes P′ 1 (lent 5) table₅ defined₅ (omega arith) in
+    let first : table₁ ≡ table = rw a at (fixed P 1 (lent 7) 7 (rw a refl)) in
+    let other : table₅ ≡ table = rw b at (fixed P′ 1 (lent 5) 5 (rw b refl)) in
     omega (arith, ap length (first ∙ sym other))
 
 -- ---- one fixed mode, or the first again: demand 2, line 9
@@ -173,7 +174,7 @@ line-4 : (check : Checker) → Tells check → check P table₄ ≡ Verdict.Refu
 unfolding computing laid₄ S.images E.Every
 line-4 check demand =
     demand .leaving P table₄ laid₄ (record { box = rootOf plantP; modes = 1 ∷ []; place = 2 }) (record { front = []; back = []; are = refl; work = tt })
-    1 (record { before = []; it = rulesOf plantP .image 1 (rootOf plantP); behind = []; are = refl; inside = tt; outside = refl; step = refl })
+    1 (record { before = []; it = rulesOf 1 plantP .image 1 (rootOf plantP); behind = []; are = refl; inside = tt; outside = refl; step = refl })
 
 -- another number, place or step
 pub made-up : (check : Checker) (e : Refusal) → (e ≡ leaves 2 1 → ⊥) → check P table₄ ≡ Verdict.Refused e → Tells check → ⊥

@@ -99,16 +99,16 @@ minusThreeQuarters = ofBits binary64 0xBFE8_0000_0000_0000
 pub record StarredLines : Type 0 where
   pub bytesOfP : P ≡ 0x01 ∷ 0x01 ∷ 0x02 ∷ 0x0A ∷ 0x02 ∷ 0x01 ∷ 0x86 ∷ 0x03 ∷ 0xC2 ∷ 0x03 ∷ 0xFC ∷ 0x02 ∷ 0xCC ∷ 0x03 ∷ 0x09 ∷ 0x08
       ∷ 0x12 ∷ 0xC8 ∷ 0x01 ∷ 0x12 ∷ 0xD8 ∷ 0x04 ∷ []
-  pub line1 : (makerLeft P (lent 9) ≡ wrote table₁ 2)
-      × (makerLeft P (lent 7) ≡ wrote table₁ 0)
-      × (makerLeft P (lent 6) ≡ refusedWith short (lent 6))
-      × (makerLeft P₀ (lent 6) ≡ refusedWith (noTable 0) (lent 6))
+  pub line1 : (makerLeft P 1 (lent 9) ≡ wrote table₁ 2)
+      × (makerLeft P 1 (lent 7) ≡ wrote table₁ 0)
+      × (makerLeft P 1 (lent 6) ≡ refusedWith short (lent 6))
+      × (makerLeft P₀ 1 (lent 6) ≡ refusedWith (noTable 0) (lent 6))
   pub line2 : (imageBy 1 195 225 ≡ one (pos 205) (pos 232)) × (imageBy 0 195 225 ≡ one (pos 185) (pos 212))
   pub line3 : (imageBy 1 195 210 ≡ one (pos 205) (pos 219)) × (imageBy 0 211 225 ≡ one (pos 200) (pos 212))
   pub line4 : (checked P table₄ ≡ Verdict.Refused (leaves 2 1))
       × (checked P′ table₄ ≡ Verdict.Refused (misses 2 1))
       × (checked P table₅ ≡ Verdict.Refused (leaves 2 1))
-  pub line5 : (makerLeft P′ (lent 5) ≡ wrote table₅ 0)
+  pub line5 : (makerLeft P′ 1 (lent 5) ≡ wrote table₅ 0)
       × (imageBy 0 195 225 ≡ one (pos 185) (pos 212))
       × (imageBy 1 185 212 ≡ one (pos 196) (pos 221))
   pub line6 : image (record { q = 10; rows = record { entries = pos 7 ∷ []; offset = pos 0; low = minus 9; high = pos 0 } ∷ [] }) (one (minus 20) (minus 11))

@@ -35,7 +35,7 @@ use Rattle.meaning.specs.Rules.{Rules, rule, holds}
 use Rattle.meaning.specs.Sheets as S
 use Rattle.meaning.specs.Sheets.{plantFileMade, sheetJudged, sheetRead, sheetReadOf, madeLeft, sheetLeft}
 use Rattle.meaning.specs.Tables as T
-use Rattle.meaning.specs.Tables.{readingOf, rulesOf, onPlant, checked, made, makerLeft, controlled}
+use Rattle.meaning.specs.Tables.{formOf, readingOf, rulesOf, onPlant, checked, made, makerLeft, controlled}
 use Rattle.meaning.specs.Verdicts as W
 use Rattle.meaning.specs.Verdicts.{walk, header, tableEnd, verdict}
 use Rattle.meaning.specs.Control as C
@@ -84,7 +84,7 @@ module _ (r : Rules) (s : List ℕ) where
 
   pub end-tells : r .K ≤ 6 → WalkTells checkerNumbers (length s) (tableEnd r s)
   end-tells most =
-      walk-keeps checkerNumbers (length s) (WalkTells checkerNumbers (length s)) (header (r .n) s) Walk.Refused _ (header-tells checkerNumbers s refl refl refl (r .n)) (λ e t. t)
+      walk-keeps checkerNumbers (length s) (WalkTells checkerNumbers (length s)) (header (r .form) (r .n) s) Walk.Refused _ (header-tells checkerNumbers s refl refl refl (r .form) (r .n)) (λ e t. t)
       (λ at l. walk-tells checkerNumbers s refl refl r (rule r) (rule-tells r checkerNumbers s refl refl most) (r .D) at (r .root) l)
 
   verdict-tells : r .K ≤ 6 → VerdictTells (verdict r s)
@@ -125,7 +125,7 @@ module _ (r : Rules) (s : List ℕ) where
     pub call-tells : (st : State) → AnswerTells (call r s st x)
     unfolding C.call
     call-tells st =
-        walk-keeps controllerNumbers (length s) AnswerTells (header (r .n) s) Answer.Refused _ (header-tells controllerNumbers s refl refl refl (r .n)) (λ e t. t)
+        walk-keeps controllerNumbers (length s) AnswerTells (header (r .form) (r .n) s) Answer.Refused _ (header-tells controllerNumbers s refl refl refl (r .form) (r .n)) (λ e t. t)
         (λ at l. state-tells at (st .place) (st .left) l)
 
 -- a box of at most four sides has as many tests for a reading
@@ -149,9 +149,9 @@ checker-told plant table e = go (plantJudged plant) refl
     of r Verdict.Accepted h a = never cc
     of r (Verdict.Refused f) h a = let z : f ≡ e = cc in rw z at h
 
-    go : (j : Judged Plant) → plantJudged plant ≡ j → onPlant j Verdict.Refused (λ p. verdict (rulesOf p) table) ≡ Verdict.Refused e → Told plant table checkerNumbers e
+    go : (j : Judged Plant) → plantJudged plant ≡ j → onPlant j Verdict.Refused (λ p. verdict (rulesOf (formOf table) p) table) ≡ Verdict.Refused e → Told plant table checkerNumbers e
     go (bad f) q a = let z : f ≡ e = cc in let w = rw z at q in of-plant w (plant-told plant e w)
-    go (good p) q a = of-table p q (of (rulesOf p) (verdict (rulesOf p) table) (verdict-tells (rulesOf p) table (judged-sound plant p q .ranges .k-high)) a)
+    go (good p) q a = of-table p q (of (rulesOf (formOf table) p) (verdict (rulesOf (formOf table) p) table) (verdict-tells (rulesOf (formOf table) p) table (judged-sound plant p q .ranges .k-high)) a)
 
 pub controller-told : (plant table : List ℕ) (st : State) (x : List ℤ) (e : Refusal) → controlled plant table st x ≡ Answer.Refused e
     → Told plant table controllerNumbers e
@@ -162,12 +162,12 @@ controller-told plant table st x e = go (plantJudged plant) refl
     of r (Answer.Mode u then) h a = never cc
     of r (Answer.Refused f) h a = let z : f ≡ e = cc in rw z at h
 
-    go : (j : Judged Plant) → plantJudged plant ≡ j → onPlant j Answer.Refused (λ p. call (rulesOf p) table st x) ≡ Answer.Refused e → Told plant table controllerNumbers e
+    go : (j : Judged Plant) → plantJudged plant ≡ j → onPlant j Answer.Refused (λ p. call (rulesOf (formOf table) p) table st x) ≡ Answer.Refused e → Told plant table controllerNumbers e
     go (bad f) q a = let z : f ≡ e = cc in let w = rw z at q in of-plant w (plant-told plant e w)
     go (good p) q a =
         let n = judged-sound plant p q .ranges .n-high in
         let sides : (lo hi : List ℤ) → length (sidesOf (p .n) lo hi) ≤ 4 = λ lo hi. omega (arith, length-tab (sideAt lo hi) (p .n) 0) in
-        of-table p q (of (rulesOf p) (call (rulesOf p) table st x) (call-tells (rulesOf p) table
+        of-table p q (of (rulesOf (formOf table) p) (call (rulesOf (formOf table) p) table st x) (call-tells (rulesOf (formOf table) p) table
         (λ y. (fits-size (p .n) n (rootOf p) (sides (p .rlo) (p .rhi)) y, fits-size (p .n) n (safeOf p) (sides (p .slo) (p .shi)) y)) x st) a)
 
 -- ---- writers into a lent buffer: 10 besides
@@ -186,10 +186,10 @@ left-told : {column : List Place} (numbers more : List ℕ) (size : ℕ) (j : Ju
     → (buf : List ℕ) (e : Refusal) → left j buf .answer ≡ Written.Refused e → TellingBy column more size e
 left-told {column} numbers more size j h some ten = left-refused (TellingBy column more size) j (λ e q. told-more (h e q) more some) (λ _ _. ten)
 
-pub maker-told : (plant buf : List ℕ) (e : Refusal) → makerLeft plant buf .answer ≡ Written.Refused e
+pub maker-told : (plant : List ℕ) (form : ℕ) (buf : List ℕ) (e : Refusal) → makerLeft plant form buf .answer ≡ Written.Refused e
     → Telling makerNumbers (length plant) e
 unfolding T.makerLeft
-maker-told plant buf = left-told (9 ∷ plantNumbers) makerNumbers (length plant) (made plant) (made-told plant) refl (record { number = refl; place = refl; step = refl }) buf
+maker-told plant form buf = left-told (9 ∷ plantNumbers) makerNumbers (length plant) (made plant form) (made-told plant form) refl (record { number = refl; place = refl; step = refl }) buf
 
 -- sheet to plant
 pub sheet-maker-told : (sheet buf : List ℕ) (e : Refusal) → madeLeft sheet buf .answer ≡ Written.Refused e
@@ -297,10 +297,10 @@ pub sheet-maker-shows : (sheet buf : List ℕ)
 sheet-maker-shows sheet buf =
     written-shows (SheetTelling sheetMakerNumbers (length sheet)) (telling-some sheetMakerNumbers (length sheet) refl) (madeLeft sheet buf .answer) (sheet-maker-told sheet buf)
 
-pub maker-shows : (plant buf : List ℕ)
-    → Showing ((m : ℕ) × (makerLeft plant buf .answer ≡ Written.Length m)) (Telling makerNumbers (length plant)) [] (writtenShown (makerLeft plant buf .answer))
-maker-shows plant buf =
-    written-shows (Telling makerNumbers (length plant)) (telling-some makerNumbers (length plant) refl) (makerLeft plant buf .answer) (maker-told plant buf)
+pub maker-shows : (plant : List ℕ) (form : ℕ) (buf : List ℕ)
+    → Showing ((m : ℕ) × (makerLeft plant form buf .answer ≡ Written.Length m)) (Telling makerNumbers (length plant)) [] (writtenShown (makerLeft plant form buf .answer))
+maker-shows plant form buf =
+    written-shows (Telling makerNumbers (length plant)) (telling-some makerNumbers (length plant) refl) (makerLeft plant form buf .answer) (maker-told plant form buf)
 
 pub checker-shows : (plant table : List ℕ)
     → Showing (checked plant table ≡ Verdict.Accepted) (Told plant table checkerNumbers) [] (verdictShown (checked plant table))

@@ -27,11 +27,13 @@ use Rattle.meaning.specs.Plants.{Plant, plantJudged, rootOf, safeOf}
 use Rattle.meaning.specs.Rules.{Rules}
 use Rattle.meaning.specs.Starts as S
 use Rattle.meaning.specs.Starts.{chainForm, above, held, boxRules, part, partsOf, startOf, tablesAt, startChecked}
+use Rattle.meaning.specs.Tables.{formOf}
 use Rattle.meaning.specs.Verdicts.{tableEnd, verdict}
 use Rattle.promises.specs.tables.Accept.{refused-accepted, accepted-end}
 use Rattle.promises.specs.files.Files.{writes-back}
 use Rattle.promises.specs.files.Judged.{judged-sound}
 use Rattle.promises.specs.files.Numbers.{was}
+use Rattle.promises.specs.tables.TableForms.{form-known}
 use Rattle.promises.specs.tables.TableLengths.{over-box}
 use Rattle.promises.specs.tables.Walking.{walk-went}
 use Rattle.promises.specs.starts.Before.{plant-went, chain-went}
@@ -41,16 +43,16 @@ use Rattle.promises.specs.starts.Started.{Started}
 
 -- ---- the tables behind one another, from box i's on
 
-record Tables (r : ℕ → Rules) (s : List ℕ) (m i at : ℕ) : Type 0 where
+record Tables (r : ℕ → ℕ → Rules) (s : List ℕ) (m i at : ℕ) : Type 0 where
   tables : List (List ℕ)
   count : length tables ≡ m
-  each : (k : ℕ) → k < length tables → verdict (r (i + k)) (getD tables k []) ≡ Verdict.Accepted
+  each : (k : ℕ) → k < length tables → verdict (r (i + k) (formOf (getD tables k []))) (getD tables k []) ≡ Verdict.Accepted
   stand : Stands s at (partsOf tables) (length s)
 
-module _ (r : ℕ → Rules) (s : List ℕ) where
+module _ (r : ℕ → ℕ → Rules) (s : List ℕ) where
   -- a length, the table that it counts, and the others
   first-table : (m i at first size : ℕ) → numberAt s at ≡ Number.Value size first → first + size ≤ length s
-      → tableEnd (r i) (part s first size) ≡ Walk.Next size → Tables r s m (suc i) (first + size) → Tables r s (suc m) i at
+      → tableEnd (r i (formOf (part s first size))) (part s first size) ≡ Walk.Next size → Tables r s m (suc i) (first + size) → Tables r s (suc m) i at
   unfolding S.partsOf
   first-table m i at first size q l e t =
       let z = part-size s first size l in
@@ -58,12 +60,12 @@ module _ (r : ℕ → Rules) (s : List ℕ) where
       record {
         tables = part s first size ∷ t .tables;
         count = ap suc (t .count);
-        each = each (accepted-end (r i) (part s first size) .1 (rw z e));
+        each = each (accepted-end (r i (formOf (part s first size))) (part s first size) .1 (rw z e));
         stand = stand-join number (stand-join (part-stands s first size l) (t .stand));
       }
     where
-      each : verdict (r i) (part s first size) ≡ Verdict.Accepted → (k : ℕ) → k < suc (length (t .tables))
-          → verdict (r (i + k)) (getD (part s first size ∷ t .tables) k []) ≡ Verdict.Accepted
+      each : verdict (r i (formOf (part s first size))) (part s first size) ≡ Verdict.Accepted → (k : ℕ) → k < suc (length (t .tables))
+          → verdict (r (i + k) (formOf (getD (part s first size ∷ t .tables) k []))) (getD (part s first size ∷ t .tables) k []) ≡ Verdict.Accepted
       each a zero h = let z : i + 0 ≡ i = omega arith in rw z a
       each a (suc k) h = let z : i + suc k ≡ suc i + k = omega arith in rw z (t .each k (omega arith))
 
@@ -75,19 +77,19 @@ module _ (r : ℕ → Rules) (s : List ℕ) where
       record { tables = []; count = refl; each = λ k l. absurd (omega arith); stand = rw q (stand-nil s at) }
   tables-were (suc m) i at e =
       let l = length-read s at Verdict.Refused _ (λ _. refused-accepted) e in
-      let w = walk-went (tableEnd (r i) (part s (l .0) (l .1))) _ _ (λ _. refused-accepted) (l .4) in
+      let w = walk-went (tableEnd (r i (formOf (part s (l .0) (l .1)))) (part s (l .0) (l .1))) _ _ (λ _. refused-accepted) (l .4) in
       let g = guard-passed (eqb (w .0) (l .1)) _ refused-accepted (w .2) in
       let end = w .1 ∙ ap (λ (k : ℕ). Walk.Next k) (eqb-true (w .0) (l .1) (g .0)) in
       first-table m i at (l .0) (l .1) (l .2) (l .3) end (tables-were m (suc i) (l .0 + l .1) (g .1))
 
-  tables-pass : (ts : List (List ℕ)) (i at : ℕ) → Every Short ts → ((k : ℕ) → k < length ts → verdict (r (i + k)) (getD ts k []) ≡ Verdict.Accepted)
+  tables-pass : (ts : List (List ℕ)) (i at : ℕ) → Every Short ts → ((k : ℕ) → k < length ts → verdict (r (i + k) (formOf (getD ts k []))) (getD ts k []) ≡ Verdict.Accepted)
       → Stands s at (partsOf ts) (length s) → tablesAt r s (length ts) i at ≡ Verdict.Accepted
   unfolding S.tablesAt S.partsOf E.Every
   tables-pass [] i at short each h = simp (eq-eqb at (length s) (omega (arith, h .end)))
   tables-pass (t ∷ ts) i at short each h =
       let f = front s at t ts (length s) (short .0) h in
       let z : i + 0 ≡ i = omega arith in
-      let end = accepted-end (r i) t .0 (rw z at (each 0 (omega arith))) in
+      let end = accepted-end (r i (formOf t)) t .0 (rw z at (each 0 (omega arith))) in
       simp (f .size, le-leb (f .first + length t) (length s) (f .inside), f .is, end, eq-eqb (length t) (length t) refl)
       (tables-pass ts (suc i) (f .first + length t) (short .1) (λ k l. let q : suc i + k ≡ i + suc k = omega arith in rw q (each (suc k) (omega arith))) (f .behind))
 
@@ -101,8 +103,8 @@ shorts (t ∷ ts) h = (h 0 (omega arith), shorts ts (λ k l. h (suc k) (omega ar
 
 module _ (plant start : List ℕ) where
   module _ (t : Started plant start) where
-    pub table-short : (i : ℕ) → i < length (t .tables) → length (getD (t .tables) i []) ≤ 54_615
-    table-short i h = over-box (t .p) (judged-sound plant (t .p) (t .judged)) _ _ (box-size (t .p) (t .vs) i) (getD (t .tables) i []) (t .each i h)
+    pub table-short : (i : ℕ) → i < length (t .tables) → length (getD (t .tables) i []) ≤ 57_345
+    table-short i h = let table = getD (t .tables) i [] in over-box (formOf table) (form-known table) (t .p) (judged-sound plant (t .p) (t .judged)) _ _ (box-size (t .p) (t .vs) i) (getD (t .tables) i []) (t .each i h)
 
     pub tables-short : Every Short (t .tables)
     tables-short = shorts (t .tables) (λ i h. omega (arith, table-short i h))

@@ -24,7 +24,7 @@ use Rattle.meaning.specs.Plants.{rootOf}
 use Rattle.meaning.specs.Refusals.{refusal, outside, badState, atByte}
 use Rattle.meaning.specs.Rules.{Rules, rule, holds, missed}
 use Rattle.meaning.specs.Starts.{above, chosen, isIdle, startIdle, answerIn, startControlled}
-use Rattle.meaning.specs.Tables.{controlled}
+use Rattle.meaning.specs.Tables.{formOf, controlled}
 use Rattle.meaning.specs.Trees.{tableOf}
 use Rattle.meaning.specs.Verdicts.{onNumber, header, verdict}
 use Rattle.promises.specs.tables.Accept.{accepted-exactly}
@@ -33,6 +33,7 @@ use Rattle.promises.specs.tables.Laws.{Sizes, Splits}
 use Rattle.promises.specs.tables.Layouts.{headed, table-header}
 use Rattle.promises.specs.tables.PlantRules.{controlled-as}
 use Rattle.promises.specs.tables.Shapes.{Good}
+use Rattle.promises.specs.tables.TableForms.{form-known}
 use Rattle.promises.specs.starts.Calls.{rulesAt, tableAt, firstAt, holdsAt, running, Chose, chose, outside-last, index-over}
 use Rattle.promises.specs.starts.Chains.{box-sizes, box-splits}
 use Rattle.promises.specs.starts.Reaching.{idle-is}
@@ -49,7 +50,7 @@ pub data Plain : Answer → Type 0 where
 
 module _ (r : Rules) (sizes : Sizes r) (splits : Splits r) (s : List ℕ) (a : verdict r s ≡ Verdict.Accepted) (x : r .Reading) where
   -- the header is passed
-  head : header (r .n) s ≡ Walk.Next (headed (r .n))
+  head : header (r .form) (r .n) s ≡ Walk.Next (headed (r .form) (r .n))
   head = let t = accepted-exactly r sizes s .0 a in table-header r sizes s [] (t .0) (t .2 ∙ sym (append-nil (tableOf r (t .0))))
 
   pub idle-outside : holds r (r .root) x ≡ false → call r s idle x ≡ Answer.Refused (outside (missed r (r .root) x))
@@ -57,7 +58,7 @@ module _ (r : Rules) (sizes : Sizes r) (splits : Splits r) (s : List ℕ) (a : v
   idle-outside h = simp (head, h)
 
   -- in the box a tile is found, and its first mode answered
-  idle-inside : holds r (r .root) x ≡ true → Plain (onFound s (find r (r .D) s (headed (r .n)) (r .root) x))
+  idle-inside : holds r (r .root) x ≡ true → Plain (onFound s (find r (r .D) s (headed (r .form) (r .n)) (r .root) x))
   unfolding C.call
   idle-inside h =
       let t = accepted-exactly r sizes s .0 a in
@@ -70,7 +71,7 @@ module _ (r : Rules) (sizes : Sizes r) (splits : Splits r) (s : List ℕ) (a : v
   accepted-plain st = rw head (go (st .place) (st .left))
     where
       idling : (b h : Bool) → holds r (r .root) x ≡ h
-          → Plain (guard b (Answer.Refused badState) λ _. guard h (Answer.Refused (outside (missed r (r .root) x))) λ _. onFound s (find r (r .D) s (headed (r .n)) (r .root) x))
+          → Plain (guard b (Answer.Refused badState) λ _. guard h (Answer.Refused (outside (missed r (r .root) x))) λ _. onFound s (find r (r .D) s (headed (r .form) (r .n)) (r .root) x))
       idling false h e = twelve
       idling true false e = eleven (missed r (r .root) x)
       idling true true e = idle-inside e
@@ -82,7 +83,7 @@ module _ (r : Rules) (sizes : Sizes r) (splits : Splits r) (s : List ℕ) (a : v
       runs true true place m Number.Broken = twelve
       runs true true place m (Number.Value u next) = mode u (stateAt next m)
 
-      go : (place left : ℕ) → Plain (stateCall r s (headed (r .n)) place left x)
+      go : (place left : ℕ) → Plain (stateCall r s (headed (r .form) (r .n)) place left x)
       go place zero = idling (eqb place 0) (holds r (r .root) x) refl
       go place (suc m) = runs (canRun (r .K) (r .N) s place (suc m)) (holds r (r .safe) x) place m (numberAt s place)
 
@@ -114,7 +115,7 @@ answer-bare (Answer.Refused e) = go (atByte (e .number))
 module _ {plant start : List ℕ} (w : Started plant start) (alone : above (w .vs) ≡ 0) where
   plain : (st : State) (x : List ℤ) → Plain (call (rulesAt w 0) (tableAt w 0) st x)
   plain st x =
-      accepted-plain (rulesAt w 0) (box-sizes (w .p) (sound w) (w .vs) 0) (box-splits (w .p) (sound w) (w .vs) 0) (tableAt w 0) (w .each 0 (omega (arith, w .count))) x st
+      accepted-plain (rulesAt w 0) (box-sizes (w .p) (sound w) (w .vs) 0 (formOf (tableAt w 0)) (form-known (tableAt w 0))) (box-splits (w .p) (sound w) (w .vs) 0 (formOf (tableAt w 0))) (tableAt w 0) (w .each 0 (omega (arith, w .count))) x st
 
   idle-bare : (x : List ℤ) → startControlled plant start startIdle x ≡ answerIn 0 0 (call (rulesAt w 0) (tableAt w 0) idle x)
   idle-bare x = go (holdsAt w 0 x) refl
@@ -127,7 +128,7 @@ module _ {plant start : List ℕ} (w : Started plant start) (alone : above (w .v
           k .answers ∙ unmoved 0 (firstAt w 0) (call (rulesAt w 0) (tableAt w 0) idle x) (plain idle x)
       go false e =
           outside-last w x (rw alone e)
-          ∙ rw (idle-outside (rulesAt w 0) (box-sizes (w .p) (sound w) (w .vs) 0) (box-splits (w .p) (sound w) (w .vs) 0) (tableAt w 0) (w .each 0 (omega (arith, w .count))) x e, alone) refl
+          ∙ rw (idle-outside (rulesAt w 0) (box-sizes (w .p) (sound w) (w .vs) 0 (formOf (tableAt w 0)) (form-known (tableAt w 0))) (box-splits (w .p) (sound w) (w .vs) 0 (formOf (tableAt w 0))) (tableAt w 0) (w .each 0 (omega (arith, w .count))) x e, alone) refl
 
   pub bare : (st : State) (x : List ℤ) → startControlled plant start (record { index = 0; state = st }) x ≡ answerIn 0 0 (controlled plant (tableAt w 0) st x)
   bare st x = rw (controlled-as plant (w .p) (w .judged) (tableAt w 0) st x) (go (isIdle st) refl)

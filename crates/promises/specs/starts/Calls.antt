@@ -23,6 +23,7 @@ use Rattle.meaning.specs.Refusals.{outside, badState}
 use Rattle.meaning.specs.Rules.{Rules, holds, missed}
 use Rattle.meaning.specs.Starts as S
 use Rattle.meaning.specs.Starts.{above, boxRules, chosen, part, isIdle, startIdle, answerIn, canIndex, startControlled}
+use Rattle.meaning.specs.Tables.{formOf}
 use Rattle.promises.specs.files.Firsts.{FirstOf, first-exactly}
 use Rattle.promises.specs.starts.Accepted.{tables-short, tables-stand}
 use Rattle.promises.specs.starts.Places.{TableAt, placeOf, laid}
@@ -77,12 +78,12 @@ module _ (t : ℕ → Bool) (m : ℕ) (last : t m ≡ true) where
   first-least j l = let e = entry j (omega (arith, first-few)) in not-true (t j) (rw e at (first-of .before j l))
 
 module _ {plant start : List ℕ} (w : Started plant start) where
-  -- Ri's rules and table, and the table's place in the file
-  abbrev pub rulesAt : ℕ → Rules
-  rulesAt i = boxRules (w .p) (w .vs) i
-
+  -- Ri's table and, by the form that it says, its rules; and the table's place in the file
   abbrev pub tableAt : ℕ → List ℕ
   tableAt i = getD (w .tables) i []
+
+  abbrev pub rulesAt : ℕ → Rules
+  rulesAt i = boxRules (w .p) (w .vs) i (formOf (tableAt i))
 
   abbrev pub firstAt : ℕ → ℕ
   firstAt i = placeOf (w .tables) (w .next) i

@@ -20,7 +20,7 @@ use Rattle.meaning.specs.Plants.{Plant, edgeLimit, span, rootOf, safeOf, stepOf
 use Rattle.meaning.specs.Rules.{holds}
 use Rattle.meaning.specs.Starts as S
 use Rattle.meaning.specs.Starts.{chainForm, above, chainSide, boxAt, boxBelow, held, boxRules}
-use Rattle.meaning.specs.Tables.{readingOf}
+use Rattle.meaning.specs.Tables.{knownForm, readingOf}
 use Rattle.promises.specs.tables.Boxes.{within-itself, within-trans, within-fits}
 use Rattle.promises.specs.files.Forms as F
 use Rattle.promises.specs.files.Forms.{Right, values-right, times-right}
@@ -102,10 +102,10 @@ module _ (p : Plant) (vs : List ℤ) (c : Chained p vs) where
 
   -- so of a reading
   pub held-above : (i j : ℕ) (x : List ℤ) → i ≤ j → j ≤ above vs
-      → holds (boxRules p vs i) (boxOf p vs i) x ≡ true → holds (boxRules p vs j) (boxOf p vs j) x ≡ true
+      → holds (boxRules p vs i 1) (boxOf p vs i) x ≡ true → holds (boxRules p vs j 1) (boxOf p vs j) x ≡ true
   held-above i j x l h e = within-fits (boxOf p vs i) (boxOf p vs j) (readingOf (p .n) x) (in-above i j l h) e
 
-  pub held-safe : (i : ℕ) (x : List ℤ) → i ≤ above vs → holds (boxRules p vs i) (boxOf p vs i) x ≡ true → holds (boxRules p vs i) (safeOf p) x ≡ true
+  pub held-safe : (i : ℕ) (x : List ℤ) → i ≤ above vs → holds (boxRules p vs i 1) (boxOf p vs i) x ≡ true → holds (boxRules p vs i 1) (safeOf p) x ≡ true
   held-safe i x h e = within-fits (boxOf p vs i) (safeOf p) (readingOf (p .n) x) (c .in-safe i h) e
 
   -- the box that patterns end in
@@ -113,15 +113,15 @@ module _ (p : Plant) (vs : List ℤ) (c : Chained p vs) where
   below-inside zero h = within-itself (rootOf p)
   below-inside (suc i) h = c .in-next i h
 
--- ---- the rules of each box's table
+-- ---- the rules of each box's table, of each form
 
-module _ (p : Plant) (sound : Sound p) (vs : List ℤ) (i : ℕ) where
-  pub box-sizes : Sizes (boxRules p vs i)
-  box-sizes = sizes-over p sound (boxOf p vs i) (boxBelow (p .n) (rootOf p) vs i)
+module _ (p : Plant) (sound : Sound p) (vs : List ℤ) (i form : ℕ) where
+  pub box-sizes : knownForm form ≡ true → Sizes (boxRules p vs i form)
+  box-sizes known = sizes-over form known p sound (boxOf p vs i) (boxBelow (p .n) (rootOf p) vs i)
 
-  pub box-splits : Splits (boxRules p vs i)
-  box-splits = splits-from (p .n) (p .modes) (p .k) (p .d) (boxOf p vs i) (boxBelow (p .n) (rootOf p) vs i) (safeOf p) (stepOf p)
+  pub box-splits : Splits (boxRules p vs i form)
+  box-splits = splits-from form (p .n) (p .modes) (p .k) (p .d) (boxOf p vs i) (boxBelow (p .n) (rootOf p) vs i) (safeOf p) (stepOf p)
 
-  pub box-motion : Chained p vs → i ≤ above vs → Motion (boxRules p vs i)
+  pub box-motion : Chained p vs → i ≤ above vs → Motion (boxRules p vs i form)
   box-motion c h =
-      motion-from (p .n) (p .modes) (p .k) (p .d) (boxOf p vs i) (boxBelow (p .n) (rootOf p) vs i) (safeOf p) (stepOf p) (λ u. sound .ranges .q-low) (c .in-safe i h)
+      motion-from form (p .n) (p .modes) (p .k) (p .d) (boxOf p vs i) (boxBelow (p .n) (rootOf p) vs i) (safeOf p) (stepOf p) (λ u. sound .ranges .q-low) (c .in-safe i h)

@@ -12,12 +12,13 @@ use Rattle.meaning.specs.declared.StartState.{StartState}
 use Rattle.meaning.specs.Control.{idle, call}
 use Rattle.meaning.specs.Runs as U
 use Rattle.meaning.specs.Starts.{isIdle, startIdle, stateIn, answerIn, startControlled, startGives, StartRun, StartSamples}
-use Rattle.meaning.specs.Tables.{rulesOf, controlled, startsIn, gives, TableRun, TableSamples}
+use Rattle.meaning.specs.Tables.{formOf, rulesOf, controlled, startsIn, gives, TableRun, TableSamples}
 use Rattle.meaning.specs.Trees.{longest}
 use Rattle.promises.specs.tables.Demand.{tree-demand}
 use Rattle.promises.specs.tables.PlantMotion.{splits, motion, returns}
 use Rattle.promises.specs.tables.PlantRules.{sizes, controlled-as}
 use Rattle.promises.specs.tables.Promise.{Promised, promised}
+use Rattle.promises.specs.tables.TableForms.{form-known}
 use Rattle.promises.specs.starts.Calls.{rulesAt, tableAt, firstAt, holdsAt, running, Chose}
 use Rattle.promises.specs.starts.Journeys.{box-held, starts-is, nearest}
 use Rattle.promises.specs.starts.Passes.{runs-on}
@@ -46,8 +47,9 @@ module _ {plant start : List ℕ} (w : Started plant start) (t : Trees w) where
   demanded =
       let p = w .p in
       let s = sound w in
+      let f = formOf table in
       promised plant table p (w .judged) (longest (t .tree 0)) s
-      (tree-demand (rulesOf p) (sizes p s) (splits p) (motion p s) (returns p) table (t .tree 0) (t .works 0 (omega arith)) (t .is 0 (omega arith)))
+      (tree-demand (rulesOf f p) (sizes f (form-known table) p s) (splits f p) (motion f p s) (returns f p) table (t .tree 0) (t .works 0 (omega arith)) (t .is 0 (omega arith)))
 
   -- of a reading in R the chosen box is R
   chose-root : (x : List ℤ) → holdsAt w 0 x ≡ true → Chose w 0 x

@@ -3,7 +3,7 @@
 -- to a reading in R within the longest patterns of tables 1..i together. Relies on page Calls for which table is called, on TableTrips for its trip, and
 -- on Trips and Passes for trips behind one another. What is called from R on is page Home.
 use Prim.Native.Nat.{ℕ, zero, suc, _+_, _≤_, _<_}
-use mathlib.Core.Path.{_≡_, refl, sym, ap, _∙_}
+use mathlib.Core.Path.{_≡_, refl, sym, ap, subst, _∙_}
 use mathlib.Core.Bool.{Bool, true, false, _&&_, cond}
 use mathlib.Core.List.{List}
 use native.Mathlib.Omega.{arith}
@@ -19,10 +19,11 @@ use Rattle.meaning.specs.Control.{idle}
 use Rattle.meaning.specs.Plants.{rootOf}
 use Rattle.meaning.specs.Rules.{holds}
 use Rattle.meaning.specs.Starts.{above, chosen, isIdle, startIdle, stateIn, inBox, startGives}
-use Rattle.meaning.specs.Tables.{startsIn, safeIn, mayFollow}
+use Rattle.meaning.specs.Tables.{formOf, startsIn, safeIn, mayFollow}
 use Rattle.meaning.specs.Trees.{longest, tableOf}
-use Rattle.promises.specs.tables.TableTrips.{Gives, table-trips}
+use Rattle.promises.specs.tables.TableTrips.{Gives, TripOn, table-trips}
 use Rattle.promises.specs.tables.Trips.{Trip, Carried, trip-carried, Repeated, repeated}
+use Rattle.promises.specs.tables.TableForms.{form-known}
 use Rattle.promises.specs.starts.Calls.{rulesAt, tableAt, holdsAt, running, Chose, chose}
 use Rattle.promises.specs.starts.Chains.{held-above, box-sizes, box-splits, box-motion}
 use Rattle.promises.specs.starts.Passes.{Passes, passes-here, passes-behind}
@@ -98,11 +99,11 @@ module _ {plant start : List ℕ} (w : Started plant start) where
         → (m : ℕ) × (m ≤ longest (t .tree c)) × Trip startIdle (startGives plant start) (mayFollow plant) (safeIn plant) goal m x
     trip goal c x h wide =
         let r = rulesAt w c in
-        let k = table-trips r (box-sizes (w .p) (sound w) (w .vs) c) (box-splits (w .p) (sound w) (w .vs) c) (box-motion (w .p) (sound w) (w .vs) c (chained w) (h .few))
+        let k = table-trips r (box-sizes (w .p) (sound w) (w .vs) c (formOf (tableAt w c)) (form-known (tableAt w c))) (box-splits (w .p) (sound w) (w .vs) c (formOf (tableAt w c))) (box-motion (w .p) (sound w) (w .vs) c (formOf (tableAt w c)) (chained w) (h .few))
         (t .tree c) (t .works c (h .few)) x (h .holds-it) in
         let q : tableAt w c ≡ tableOf r (t .tree c) = t .is c (h .few) in
         let m = length (k .the .modes) in
-        (m, k .short, trip-carried (carried goal c (h .few) wide) m x (λ u then g. h .answers ∙ rw g refl) (rw q (k .trip)))
+        (m, k .short, trip-carried (carried goal c (h .few) wide) m x (λ u then g. h .answers ∙ rw g refl) (subst (λ (s : List ℕ). TripOn r s m x) (sym q) (k .trip)))
 
     -- ---- trips from box to box
 

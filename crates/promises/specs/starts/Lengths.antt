@@ -1,8 +1,9 @@
--- How long a start file may be: one that is accepted, and so one that is made, has at most 491,660 bytes. Form and m take a byte each, an edge 3, a table's length 3.
--- The longest tables have n 2 and D 6; with n 3 and 4 the edges are more, the tables shorter by more than that. Relies on pages Accepted, Maker and TableLengths;
--- that some file is so long is left out.
+-- How long a start file may be: one that is accepted, and so one that is made, has at most 516,326 bytes, and one that is made of form 1 at most 491,660. Form and
+-- m take a byte each, an edge 3, a table's length 3. Of form 1 the longest tables have n 2 and D 6; with n 3 and 4 the edges are more, the tables shorter by more
+-- than that. Of form 3 they are as long with any n that reaches n·D = 12, so n 4 has the longest file. Relies on pages Accepted, Maker and TableLengths; that
+-- some file is so long is left out.
 use Prim.Native.Nat.{ℕ, zero, suc, _+_, _*_, _^_, _≤_, _<_}
-use mathlib.Core.Path.{_≡_, ap}
+use mathlib.Core.Path.{_≡_, refl, ap, subst}
 use mathlib.Core.List.{List, [], _∷_, _++_}
 use native.Mathlib.Omega.{arith}
 use native.Mathlib.Nat.{mul-le-mul, le-refl}
@@ -15,16 +16,18 @@ use Rattle.meaning.specs.Numbers.{bytesOf}
 use Rattle.meaning.specs.Plants.{edgeLimit, from}
 use Rattle.meaning.specs.Refusals as R
 use Rattle.meaning.specs.Starts as S
-use Rattle.meaning.specs.Starts.{chainForm, partsOf, startChecked, startMade, startLeft}
+use Rattle.meaning.specs.Tables.{formOf}
+use Rattle.meaning.specs.Verdicts.{verdict}
+use Rattle.meaning.specs.Starts.{chainForm, boxRules, partsOf, startChecked, startMade, startLeft}
 use Rattle.promises.specs.files.Files.{writes-back}
 use Rattle.promises.specs.files.Headers.{most-of}
 use Rattle.promises.specs.files.Judged.{judged-sound}
 use Rattle.promises.specs.files.Lengths.{short, Longest, longer, end-longest, field-longest, counted-longest, span-adds, times-adds}
 use Rattle.promises.specs.tables.TableLengths as L
 use Rattle.promises.specs.tables.TableLengths.{most, most-grows, tileBytes, tile-most, over-most}
-use Rattle.promises.specs.starts.Accepted.{start-checked-exactly}
+use Rattle.promises.specs.starts.Accepted.{table-short, start-checked-exactly}
 use Rattle.promises.specs.starts.Chains.{chain-few, box-size}
-use Rattle.promises.specs.starts.Maker.{start-made-accepted, start-maker-ten}
+use Rattle.promises.specs.starts.Maker.{start-made-exactly, defined-form, defined-started, start-made-accepted, start-maker-ten}
 use Rattle.promises.specs.starts.Started.{Started}
 
 -- ---- the chain
@@ -64,15 +67,12 @@ cap m (suc (suc (suc (suc (suc n))))) d l h k e = absurd (omega arith)
 
 -- ---- the file
 
-started-length : (plant start : List ℕ) → Started plant start → length start ≤ 491_660
-started-length plant start t =
+-- with tables of at most b bytes
+started-length : (plant start : List ℕ) (t : Started plant start) (b : ℕ) → b < 2 ^ 21 → ((i : ℕ) → i < length (t .tables) → length (getD (t .tables) i []) ≤ b)
+    → length start ≤ 2 + 48 * t .p .n + 9 * (3 + b)
+started-length plant start t b small each =
     let p = t .p in
-    let s = judged-sound plant p (t .judged) in
     let form = chainForm (p .n) in
-    let m = tileBytes (p .modes) in
-    let b = 2 + most (2 ^ p .n) m (p .d) in
-    let each : (i : ℕ) → i < length (t .tables) → length (getD (t .tables) i []) ≤ b = λ i l. over-most p s _ _ (box-size p (t .vs) i) (getD (t .tables) i []) (t .each i l) in
-    let small : b < 2 ^ 21 = omega (arith, tile-most (p .modes), L.cap m (p .n) (p .d) (s .ranges .n-low) (s .ranges .n-high) (s .ranges .d-high) (s .ranges .nd-high)) in
     let nine : length (t .tables) ≤ 9 = omega (arith, t .count, chain-few (p .n) (t .vs) start (t .next) (t .chain)) in
     omega (
       arith,
@@ -82,16 +82,44 @@ started-length plant start t =
       chain-longest (p .n) .most start 0 (t .chain),
       parts-length b small (t .tables) each,
       mul-le-mul nine (le-refl (3 + b)),
+    )
+
+-- whatever the forms of its tables
+pub accepted-length : (plant start : List ℕ) → startChecked plant start ≡ Verdict.Accepted → length start ≤ 516_326
+accepted-length plant start e =
+    let t = start-checked-exactly plant start .0 e in
+    omega (arith, started-length plant start t 57_345 (omega arith) (table-short plant start t), judged-sound plant (t .p) (t .judged) .ranges .n-high)
+
+pub made-length : (plant chain : List ℕ) (form : ℕ) (bytes : List ℕ) → startMade plant chain form ≡ good bytes → length bytes ≤ 516_326
+made-length plant chain form bytes e = accepted-length plant bytes (start-made-accepted plant chain form bytes e)
+
+-- of tables of form 1 alone
+pub accepted-length-one : (plant start : List ℕ) (t : Started plant start) → ((i : ℕ) → i < length (t .tables) → formOf (getD (t .tables) i []) ≡ 1) → length start ≤ 491_660
+accepted-length-one plant start t ones =
+    let p = t .p in
+    let s = judged-sound plant p (t .judged) in
+    let m = tileBytes (p .modes) in
+    let b = 2 + most (2 ^ p .n) m (p .d) in
+    let each : (i : ℕ) → i < length (t .tables) → length (getD (t .tables) i []) ≤ b = λ i l.
+    over-most 1 refl p s _ _ (box-size p (t .vs) i) (getD (t .tables) i [])
+    (subst (λ (form : ℕ). verdict (boxRules p (t .vs) i form) (getD (t .tables) i []) ≡ Verdict.Accepted) (ones i l) (t .each i l)) in
+    let small : b < 2 ^ 21 = omega (arith, tile-most (p .modes), L.cap m (p .n) (p .d) (s .ranges .n-low) (s .ranges .n-high) (s .ranges .d-high) (s .ranges .nd-high)) in
+    omega (
+      arith,
+      started-length plant start t b small each,
       tile-most (p .modes),
       cap m (p .n) (p .d) (s .ranges .n-low) (s .ranges .n-high) (s .ranges .d-high) (s .ranges .nd-high),
     )
 
-pub accepted-length : (plant start : List ℕ) → startChecked plant start ≡ Verdict.Accepted → length start ≤ 491_660
-accepted-length plant start e = started-length plant start (start-checked-exactly plant start .0 e)
-
-pub made-length : (plant chain bytes : List ℕ) → startMade plant chain ≡ good bytes → length bytes ≤ 491_660
-made-length plant chain bytes e = accepted-length plant bytes (start-made-accepted plant chain bytes e)
+pub made-length-one : (plant chain bytes : List ℕ) → startMade plant chain 1 ≡ good bytes → length bytes ≤ 491_660
+unfolding defined-started
+made-length-one plant chain bytes e =
+    let d = start-made-exactly plant chain 1 bytes .0 e in
+    accepted-length-one plant bytes (defined-started plant chain 1 bytes d) (λ i l. defined-form plant chain 1 bytes d i l)
 
 -- a buffer of so many is long enough for any
-pub start-maker-fits : (plant chain buf : List ℕ) → 491_660 ≤ length buf → startLeft plant chain buf .answer ≡ Written.Refused R.short → ⊥
-start-maker-fits plant chain buf l e = let w = start-maker-ten plant chain buf .0 e in omega (arith, w .2, made-length plant chain (w .0) (w .1))
+pub start-maker-fits : (plant chain : List ℕ) (form : ℕ) (buf : List ℕ) → 516_326 ≤ length buf → startLeft plant chain form buf .answer ≡ Written.Refused R.short → ⊥
+start-maker-fits plant chain form buf l e = let w = start-maker-ten plant chain form buf .0 e in omega (arith, w .2, made-length plant chain form (w .0) (w .1))
+
+pub start-maker-fits-one : (plant chain buf : List ℕ) → 491_660 ≤ length buf → startLeft plant chain 1 buf .answer ≡ Written.Refused R.short → ⊥
+start-maker-fits-one plant chain buf l e = let w = start-maker-ten plant chain 1 buf .0 e in omega (arith, w .2, made-length-one plant chain (w .0) (w .1))

@@ -4,7 +4,7 @@
 -- tables, and all that stands behind the tile, do not count. Of every file, kept or not. Relies on page Local within the table, on Agreeing and Reaching.
 -- What a refused call reads is left out, but for one that is refused before any length, and a running one whose modes left can be read.
 use Prim.Native.Nat.{ℕ, zero, suc, _+_, _-_, _≤_, _<_}
-use mathlib.Core.Path.{_≡_, refl, sym, _∙_}
+use mathlib.Core.Path.{_≡_, refl, sym, ap, _∙_}
 use mathlib.Core.Bool.{true, false, _&&_}
 use mathlib.Core.Logic.{_⊎_, inl, inr}
 use mathlib.Core.List.{List, [], _∷_, _++_}
@@ -30,6 +30,7 @@ use Rattle.meaning.specs.Plants.{Plant, plantJudged, rootOf, safeOf}
 use Rattle.meaning.specs.Rules.{Rules, holds}
 use Rattle.meaning.specs.Starts as S
 use Rattle.meaning.specs.Starts.{chainForm, above, boxAt, held, boxRules, part, isIdle, startIdle, answerIn, canIndex, startCall, startControlled}
+use Rattle.meaning.specs.Tables.{formOf}
 use Rattle.meaning.specs.Trees.{modesBytes}
 use Rattle.meaning.specs.Verdicts.{modesAt, header}
 use Rattle.promises.specs.files.Bytes.{bytes-some}
@@ -41,6 +42,7 @@ use Rattle.promises.specs.tables.Local.{Unseen, unseen}
 use Rattle.promises.specs.tables.Modes.{refused-mode}
 use Rattle.promises.specs.tables.PlantRules.{header-size}
 use Rattle.promises.specs.files.Sound.{Sound}
+use Rattle.promises.specs.tables.TableForms.{form-known, header-form}
 use Rattle.promises.specs.tables.Walking.{walk-went}
 use Rattle.promises.specs.starts.Agreeing.{part-byte, LengthByte, Same, stand-same, values-same, table-behind, table-same, part-same}
 use Rattle.promises.specs.starts.Chains.{box-sizes}
@@ -64,7 +66,8 @@ others s k b P n j h = getD-set-other s k j b 0 (λ (e : j ≡ k). n (rw e at h)
 module _ {plant start : List ℕ} {st : StartState} {x : List ℤ} (way : Reaching plant start st x) (other : List ℕ) (long : way .place + way .size ≤ length other) (T : ℕ → Type 0)
     (same : (k : ℕ) → Sees start (boxOn way) (way .next) (way .place) T k → getD other k 0 ≡ getD start k 0) where
   -- the other file's call comes to a table at the same place
-  way-same : startControlled plant other st x ≡ answerIn (boxOn way) (way .place) (call (rulesOn way) (part other (way .place) (way .size)) (st .state) x)
+  way-same : startControlled plant other st x
+      ≡ answerIn (boxOn way) (way .place) (call (boxRules (way .p) (way .vs) (boxOn way) (formOf (part other (way .place) (way .size)))) (part other (way .place) (way .size)) (st .state) x)
   way-same = reached plant other st x (record {
     p = way .p;
     judged = way .judged;
@@ -84,10 +87,14 @@ module _ {plant start : List ℕ} {st : StartState} {x : List ℤ} (way : Reachi
   table-bytes from to l in-T k g h =
       part-byte other (way .place) (way .size) k (omega arith) ∙ same (way .place + k) (of-table k (in-T k g h)) ∙ sym (part-byte start (way .place) (way .size) k (omega arith))
 
-  -- so the answer is the same where the table's is
-  call-same : call (rulesOn way) (part other (way .place) (way .size)) (st .state) x ≡ call (rulesOn way) (tableOn way) (st .state) x
+  -- so the answer is the same where the form that the table says and its answer are
+  call-same : formOf (part other (way .place) (way .size)) ≡ formOf (tableOn way)
+      → call (rulesOn way) (part other (way .place) (way .size)) (st .state) x ≡ call (rulesOn way) (tableOn way) (st .state) x
       → startControlled plant other st x ≡ startControlled plant start st x
-  call-same e = way-same ∙ rw e (sym (reached plant start st x way))
+  call-same q e =
+      way-same
+      ∙ ap (λ (f : ℕ). answerIn (boxOn way) (way .place) (call (boxRules (way .p) (way .vs) (boxOn way) f) (part other (way .place) (way .size)) (st .state) x)) q
+      ∙ rw e (sym (reached plant start st x way))
 
 -- ---- idle
 
@@ -96,7 +103,7 @@ pub record IdleUnread (plant start : List ℕ) (x : List ℤ) (u : ℕ) (then : 
   pub way : Reaching plant start startIdle x
   pub from : ℕ
   pub modes : List ℕ
-  pub found : find (rulesOn way) (way .p .d) (tableOn way) 2 (rulesOn way .root) x ≡ Found.Tile from (length modes)
+  pub found : find (rulesOn way) (rulesOn way .D) (tableOn way) 2 (rulesOn way .root) x ≡ Found.Tile from (length modes)
   pub end : ℕ
   pub are : modesAt (way .p .modes) (length modes) (tableOn way) from ≡ read modes end
   -- the same on every file with the same bytes in chain, lengths and table up to there
@@ -112,7 +119,7 @@ idle-unread plant start x u then a =
     of way (judged-sound plant (way .p) (way .judged)) (went (rulesOn way) (tableOn way) x u (t .0) (t .1))
   where
     by-tile : (way : Reaching plant start startIdle x) (from k : ℕ) (z : Unseen (rulesOn way) x (tableOn way) from k)
-        → find (rulesOn way) (way .p .d) (tableOn way) 2 (rulesOn way .root) x ≡ Found.Tile from k → IdleUnread plant start x u then
+        → find (rulesOn way) (rulesOn way .D) (tableOn way) 2 (rulesOn way .root) x ≡ Found.Tile from k → IdleUnread plant start x u then
     by-tile way from k z found =
         let count : length (z .modes) ≡ k = modes-stand (way .p .modes) k (tableOn way) from (z .modes) (z .end) (z .are) .count in
         record {
@@ -123,9 +130,10 @@ idle-unread plant start x u then a =
           end = z .end;
           are = rw count (z .are);
           same = λ other long same.
-              call-same way other long (λ j. j < z .end) same
-              (z .same (part other (way .place) (way .size)) (part-same start other (way .place) (way .size) (z .end) (table-inside start (way .there)) long (bytes way (z .end) other same)))
-              ∙ a;
+              let t = part other (way .place) (way .size) in
+              let q = part-same start other (way .place) (way .size) (z .end) (table-inside start (way .there)) long (bytes way (z .end) other same) in
+              let h = z .head t q in
+              call-same way other long (λ j. j < z .end) same (header-form (formOf (tableOn way)) (way .p .n) (form-known (tableOn way)) t (h .0) (h .1)) (z .same t q) ∙ a;
         }
       where
         bytes : (way : Reaching plant start startIdle x) (end : ℕ) (other : List ℕ)
@@ -134,8 +142,8 @@ idle-unread plant start x u then a =
 
     of : (way : Reaching plant start startIdle x) → Sound (way .p) → Went (rulesOn way) (tableOn way) x → IdleUnread plant start x u then
     of way sound w =
-        let begin : w .at ≡ 2 = omega (arith, header-stands (way .p .n) (tableOn way) (w .at) (w .head) .end, header-size (way .p) sound) in
-        by-tile way (w .from) (w .k) (unseen (rulesOn way) (box-sizes (way .p) sound (way .vs) (boxOn way)) x (tableOn way) (w .at) (w .from) (w .k) (w .head) (w .found))
+        let begin : w .at ≡ 2 = omega (arith, header-stands (formOf (tableOn way)) (way .p .n) (tableOn way) (w .at) (w .head) .end, header-size (formOf (tableOn way)) (form-known (tableOn way)) (way .p) sound) in
+        by-tile way (w .from) (w .k) (unseen (rulesOn way) (box-sizes (way .p) sound (way .vs) (boxOn way) (formOf (tableOn way)) (form-known (tableOn way))) x (tableOn way) (w .at) (w .from) (w .k) (w .head) (w .found))
         (rw begin at (w .found))
 
 -- so a byte that it does not read may be any other
@@ -148,8 +156,9 @@ idle-byte {start = start} w k b n =
 -- ---- running
 
 -- what was read is inside the table
-header-inside : (n : ℕ) (s : List ℕ) (at : ℕ) → header n s ≡ Walk.Next at → at ≤ length s
-header-inside n s at h = stand-within s (bytesOf 1 ++ bytesOf n) 0 at (header-stands n s at h) (omega (arith, length-append (bytesOf 1) (bytesOf n), bytes-some 1))
+header-inside : (form n : ℕ) (s : List ℕ) (at : ℕ) → header form n s ≡ Walk.Next at → at ≤ length s
+header-inside form n s at h =
+    stand-within s (bytesOf form ++ bytesOf n) 0 at (header-stands form n s at h) (omega (arith, length-append (bytesOf form) (bytesOf n), bytes-some form))
 
 modes-inside : (s : List ℕ) (at u : ℕ) (us : List ℕ) (end : ℕ) → Stands s at (modesBytes (u ∷ us)) end → end ≤ length s
 unfolding modesBytes
@@ -162,14 +171,20 @@ read-inside N s at left us end l e = go us (modes-stand N left s at us end e)
     go [] w = absurd (omega (arith, w .count))
     go (u ∷ us) w = modes-inside s at u us end (w .stand)
 
+-- two tables of one length with the same bytes in the header
+header-same : (r : Rules) → Sizes r → (s z : List ℕ) → length z ≡ length s → (at : ℕ) → header (r .form) (r .n) s ≡ Walk.Next at → Same s z 0 at → header (r .form) (r .n) z ≡ Walk.Next at
+header-same r sizes s z long at h a =
+    let i = header-inside (r .form) (r .n) s at h in
+    header-read (r .form) (r .n) (sizes .forms) (sizes .dimensions) z at
+    (stand-same s z (bytesOf (r .form) ++ bytesOf (r .n)) 0 at (omega arith) a (header-stands (r .form) (r .n) s at h))
+
 -- a call on two tables of one length that have the same header and the same modes left from the state's place on
 module _ (r : Rules) (sizes : Sizes r) (s z : List ℕ) (long : length z ≡ length s) (st : State) (x : r .Reading) where
-  run-same : (at : ℕ) (us : List ℕ) (end : ℕ) → 1 ≤ st .left → header (r .n) s ≡ Walk.Next at → modesAt (r .N) (st .left) s (st .place) ≡ read us end
+  run-same : (at : ℕ) (us : List ℕ) (end : ℕ) → 1 ≤ st .left → header (r .form) (r .n) s ≡ Walk.Next at → modesAt (r .N) (st .left) s (st .place) ≡ read us end
       → Same s z 0 at → Same s z (st .place) end → call r z st x ≡ call r s st x
   unfolding C.call
   run-same at us end l h n a b =
-      let i = header-inside (r .n) s at h in
-      let hz = header-read (r .n) (sizes .dimensions) z at (stand-same s z (bytesOf 1 ++ bytesOf (r .n)) 0 at (omega arith) a (header-stands (r .n) s at h)) in
+      let hz = header-same r sizes s z long at h a in
       rw (h, hz) (go (st .left) l us (modes-stand (r .N) (st .left) s (st .place) us end n))
     where
       go : (left : ℕ) → 1 ≤ left → (us : List ℕ) → ModesStand (r .N) left s (st .place) us end → stateCall r z at (st .place) left x ≡ stateCall r s at (st .place) left x
@@ -192,18 +207,19 @@ HeaderOrModes place end j = (j < 2) ⊎ ((place ≤ j) × (j < end))
 
 -- The header was read, and so are the modes left, of which there are some: whatever is answered, no other byte of the table is read.
 pub running-same : (plant start : List ℕ) (st : StartState) (x : List ℤ) (way : Reaching plant start st x) (us : List ℕ) (end : ℕ) → 1 ≤ st .state .left
-    → header (way .p .n) (tableOn way) ≡ Walk.Next 2 → modesAt (way .p .modes) (st .state .left) (tableOn way) (st .state .place) ≡ read us end
+    → header (formOf (tableOn way)) (way .p .n) (tableOn way) ≡ Walk.Next 2 → modesAt (way .p .modes) (st .state .left) (tableOn way) (st .state .place) ≡ read us end
     → (other : List ℕ) → way .place + way .size ≤ length other
     → ((k : ℕ) → Sees start (boxOn way) (way .next) (way .place) (HeaderOrModes (st .state .place) end) k → getD other k 0 ≡ getD start k 0)
     → startControlled plant other st x ≡ startControlled plant start st x
 running-same plant start st x way us end l h n other long same =
     let T = HeaderOrModes (st .state .place) end in
     let size = part-size start (way .place) (way .size) (table-inside start (way .there)) in
-    let sizes = box-sizes (way .p) (judged-sound plant (way .p) (way .judged)) (way .vs) (boxOn way) in
+    let sizes = box-sizes (way .p) (judged-sound plant (way .p) (way .judged)) (way .vs) (boxOn way) (formOf (tableOn way)) (form-known (tableOn way)) in
     let e : length (part other (way .place) (way .size)) ≡ length (tableOn way) = omega (arith, size, part-size other (way .place) (way .size) long) in
-    let i = header-inside (way .p .n) (tableOn way) 2 h in
+    let i = header-inside (formOf (tableOn way)) (way .p .n) (tableOn way) 2 h in
     let j = read-inside (way .p .modes) (tableOn way) (st .state .place) (st .state .left) us end l n in
-    call-same way other long T same
+    let hz = header-same (rulesOn way) sizes (tableOn way) (part other (way .place) (way .size)) e 2 h (table-bytes way other long T same 0 2 (omega arith) (λ k _ g. inl g)) in
+    call-same way other long T same (header-form (formOf (tableOn way)) (way .p .n) (form-known (tableOn way)) (part other (way .place) (way .size)) 2 hz)
     (run-same (rulesOn way) sizes (tableOn way) (part other (way .place) (way .size)) e (st .state) x 2 us end l h n
     (table-bytes way other long T same 0 2 (omega arith) (λ k _ g. inl g))
     (table-bytes way other long T same (st .state .place) end (omega arith) (λ k g f. inr (g, f))))
@@ -211,7 +227,7 @@ running-same plant start st x way us end l h n other long same =
 -- such is a call that was answered
 record RunWas (r : Rules) (s : List ℕ) (st : State) : Type 0 where
   at : ℕ
-  head : header (r .n) s ≡ Walk.Next at
+  head : header (r .form) (r .n) s ≡ Walk.Next at
   some : 1 ≤ st .left
   modes : List ℕ
   end : ℕ
@@ -224,7 +240,7 @@ were-read (read us end) h = (us, end, refl)
 run-was : (r : Rules) (s : List ℕ) (st : State) (x : r .Reading) {u : ℕ} {then : State} → isIdle st ≡ false → call r s st x ≡ Answer.Mode u then → RunWas r s st
 unfolding C.call
 run-was r s st x {u} {then} n e =
-    let w = walk-went (header (r .n) s) Answer.Refused (λ at. stateCall r s at (st .place) (st .left) x) (λ _. refused-mode) e in
+    let w = walk-went (header (r .form) (r .n) s) Answer.Refused (λ at. stateCall r s at (st .place) (st .left) x) (λ _. refused-mode) e in
     let k = go (w .0) (st .place) (st .left) n (w .2) in
     record { at = w .0; head = w .1; some = k .0; modes = k .1; end = k .2; are = k .3 }
   where
@@ -256,7 +272,7 @@ running-unread plant start st x u then n a =
   where
     of : (way : Reaching plant start st x) → Sound (way .p) → RunWas (rulesOn way) (tableOn way) (st .state) → RunningUnread plant start st x u then
     of way sound w =
-        let begin : w .at ≡ 2 = omega (arith, header-stands (way .p .n) (tableOn way) (w .at) (w .head) .end, header-size (way .p) sound) in
+        let begin : w .at ≡ 2 = omega (arith, header-stands (formOf (tableOn way)) (way .p .n) (tableOn way) (w .at) (w .head) .end, header-size (formOf (tableOn way)) (form-known (tableOn way)) (way .p) sound) in
         let i : boxOn way ≡ st .index = rw n refl in
         record {
           way = way;
@@ -277,13 +293,13 @@ running-byte {start = start} {st = st} w k b n =
 -- such a call reads no more than the chain
 pub early-same : (plant start : List ℕ) (st : StartState) (x : List ℤ) (p : Plant) → plantJudged plant ≡ good p → (vs : List ℤ) (next : ℕ)
     → valuesAt (chainForm (p .n)) start 0 ≡ read vs next → all (tab (held (p .n) (rootOf p) vs (safeOf p)) (above vs) 0) ≡ true
-    → (canIndex p vs start next (st .index) (st .state) ≡ false) ⊎ ((isIdle (st .state) ≡ true) × (holds (boxRules p vs (above vs)) (boxAt (p .n) (rootOf p) vs (above vs)) x ≡ false))
+    → (canIndex p vs start next (st .index) (st .state) ≡ false) ⊎ ((isIdle (st .state) ≡ true) × (holds (boxRules p vs (above vs) 1) (boxAt (p .n) (rootOf p) vs (above vs)) x ≡ false))
     → (other : List ℕ) → next ≤ length other → Same start other 0 next → startControlled plant other st x ≡ startControlled plant start st x
 unfolding S.startControlled
 early-same plant start st x p judged vs next chain kept why other long same =
     rw (judged, chain, values-same start other (chainForm (p .n)) vs next long same chain, kept) (go why)
   where
-    go : (canIndex p vs start next (st .index) (st .state) ≡ false) ⊎ ((isIdle (st .state) ≡ true) × (holds (boxRules p vs (above vs)) (boxAt (p .n) (rootOf p) vs (above vs)) x ≡ false))
+    go : (canIndex p vs start next (st .index) (st .state) ≡ false) ⊎ ((isIdle (st .state) ≡ true) × (holds (boxRules p vs (above vs) 1) (boxAt (p .n) (rootOf p) vs (above vs)) x ≡ false))
         → startCall p vs other next st x ≡ startCall p vs start next st x
     go (inl e) = rw e refl
     go (inr e) = rw (e .0, e .1) refl

@@ -23,8 +23,10 @@ use Rattle.meaning.specs.Plants.{Plant, plantJudged, rootOf, safeOf}
 use Rattle.meaning.specs.Rules.{Rules, holds}
 use Rattle.meaning.specs.Starts as S
 use Rattle.meaning.specs.Starts.{chainForm, above, boxAt, held, chosen, onStart, boxRules, part, isIdle, stateIn, answerIn, callIn, chosenCall, canIndex, startCall, startControlled}
+use Rattle.meaning.specs.Tables.{formOf}
 use Rattle.promises.specs.files.Judged.{judged-sound}
 use Rattle.promises.specs.tables.Modes.{isMode, call-below}
+use Rattle.promises.specs.tables.TableForms.{form-known}
 use Rattle.promises.specs.starts.Before.{plant-went, chain-went}
 use Rattle.promises.specs.starts.Chains.{box-sizes}
 use Rattle.promises.specs.starts.Places.{TableAt, on-part, part-went}
@@ -70,7 +72,7 @@ module _ (plant start : List ℕ) (st : StartState) (x : List ℤ) where
     pub chain : valuesAt (chainForm (p .n)) start 0 ≡ read vs next
     pub kept : all (tab (held (p .n) (rootOf p) vs (safeOf p)) (above vs) 0) ≡ true
     pub index : canIndex p vs start next (st .index) (st .state) ≡ true
-    pub inside : isIdle (st .state) ≡ true → holds (boxRules p vs (above vs)) (boxAt (p .n) (rootOf p) vs (above vs)) x ≡ true
+    pub inside : isIdle (st .state) ≡ true → holds (boxRules p vs (above vs) 1) (boxAt (p .n) (rootOf p) vs (above vs)) x ≡ true
     -- where the table is, and how many bytes it has
     pub place : ℕ
     pub size : ℕ
@@ -81,11 +83,12 @@ module _ {plant start : List ℕ} {st : StartState} {x : List ℤ} (r : Reaching
   abbrev pub boxOn : ℕ
   boxOn = boxCalled (r .p) (r .vs) st x
 
-  abbrev pub rulesOn : Rules
-  rulesOn = boxRules (r .p) (r .vs) boxOn
-
   abbrev pub tableOn : List ℕ
   tableOn = part start (r .place) (r .size)
+
+  -- by the form that the table says
+  abbrev pub rulesOn : Rules
+  rulesOn = boxRules (r .p) (r .vs) boxOn (formOf tableOn)
 
 module _ (plant start : List ℕ) (st : StartState) (x : List ℤ) where
   -- it is the call on that table
@@ -93,10 +96,10 @@ module _ (plant start : List ℕ) (st : StartState) (x : List ℤ) where
   unfolding S.startControlled
   reached r = rw (r .judged, r .chain, r .kept, r .index) (go (isIdle (st .state)) refl (r .inside) (r .there))
     where
-      go : (b : Bool) → isIdle (st .state) ≡ b → (b ≡ true → holds (boxRules (r .p) (r .vs) (above (r .vs))) (boxAt (r .p .n) (rootOf (r .p)) (r .vs) (above (r .vs))) x ≡ true)
+      go : (b : Bool) → isIdle (st .state) ≡ b → (b ≡ true → holds (boxRules (r .p) (r .vs) (above (r .vs)) 1) (boxAt (r .p .n) (rootOf (r .p)) (r .vs) (above (r .vs))) x ≡ true)
           → TableAt start (cond b (chosen (r .p .n) (rootOf (r .p)) (r .vs) x) (st .index)) (r .next) (r .place) (r .size)
           → choose b (λ _. chosenCall (r .p) (r .vs) start (r .next) x) (λ _. callIn (r .p) (r .vs) start (r .next) (st .index) (st .state) x)
-          ≡ answerIn (cond b (chosen (r .p .n) (rootOf (r .p)) (r .vs) x) (st .index)) (r .place) (call (boxRules (r .p) (r .vs) (cond b (chosen (r .p .n) (rootOf (r .p)) (r .vs) x) (st .index))) (part start (r .place) (r .size)) (st .state) x)
+          ≡ answerIn (cond b (chosen (r .p .n) (rootOf (r .p)) (r .vs) x) (st .index)) (r .place) (call (boxRules (r .p) (r .vs) (cond b (chosen (r .p .n) (rootOf (r .p)) (r .vs) x) (st .index)) (formOf (part start (r .place) (r .size)))) (part start (r .place) (r .size)) (st .state) x)
       go true e inside there = rw (inside refl, idle-is (st .state) e) (on-part start StartAnswer.Refused _ there)
       go false e inside there = on-part start StartAnswer.Refused _ there
 
@@ -111,10 +114,10 @@ module _ (plant start : List ℕ) (st : StartState) (x : List ℤ) where
     where
       way : (p : Plant) (vs : List ℤ) (next : ℕ) (b : Bool)
           → choose b (λ _. chosenCall p vs start next x) (λ _. callIn p vs start next (st .index) (st .state) x) ≡ StartAnswer.Mode u then
-          → (b ≡ true → holds (boxRules p vs (above vs)) (boxAt (p .n) (rootOf p) vs (above vs)) x ≡ true)
+          → (b ≡ true → holds (boxRules p vs (above vs) 1) (boxAt (p .n) (rootOf p) vs (above vs)) x ≡ true)
           × (place size : ℕ) × TableAt start (cond b (chosen (p .n) (rootOf p) vs x) (st .index)) next place size
       way p vs next true e =
-          let g = guard-passed (holds (boxRules p vs (above vs)) (boxAt (p .n) (rootOf p) vs (above vs)) x) _ refused-start e in
+          let g = guard-passed (holds (boxRules p vs (above vs) 1) (boxAt (p .n) (rootOf p) vs (above vs)) x) _ refused-start e in
           let t = part-went start StartAnswer.Refused (λ _. refused-start) (chosen (p .n) (rootOf p) vs x) next _ (g .1) in
           (λ _. g .0, t .0, t .1, t .2)
       way p vs next false e =
@@ -139,4 +142,4 @@ module _ (plant start : List ℕ) (st : StartState) (x : List ℤ) where
       let r = answered-reaching e in
       let a = table-answered r e in
       rw (r .judged)
-      (lt-ltb u (r .p .modes) (call-below (rulesOn r) (box-sizes (r .p) (judged-sound plant (r .p) (r .judged)) (r .vs) (boxOn r)) (tableOn r) (st .state) x (a .1)))
+      (lt-ltb u (r .p .modes) (call-below (rulesOn r) (box-sizes (r .p) (judged-sound plant (r .p) (r .judged)) (r .vs) (boxOn r) (formOf (tableOn r)) (form-known (tableOn r))) (tableOn r) (st .state) x (a .1)))

@@ -29,7 +29,7 @@ use Rattle.meaning.specs.Refusals.{broken, unfit, badState, moved, verdictShown
 use Rattle.meaning.specs.Rules.{Rules, holds}
 use Rattle.meaning.specs.Starts as S
 use Rattle.meaning.specs.Starts.{chainForm, above, onStart, boxRules, part, tablesAt, startChecked, startMade, startLeft, isIdle, answerIn, onPart, callIn, chosenCall, canIndex, startCall, startControlled}
-use Rattle.meaning.specs.Tables.{readingOf, onPlant}
+use Rattle.meaning.specs.Tables.{readingOf, formOf, onPlant}
 use Rattle.meaning.specs.Verdicts.{tableEnd}
 use Rattle.promises.specs.sheets.Faults.{dimension-in, plant-told}
 use Rattle.promises.specs.files.Judged.{judged-sound}
@@ -119,15 +119,15 @@ module _ (s : List ℕ) where
   abbrev Judges : Verdict → Type 0
   Judges = VerdictIs (StartTelling startCheckerNumbers (length s))
 
-  module _ (r : ℕ → Rules) (most : (i : ℕ) → r i .K ≤ 6) where
+  module _ (r : ℕ → ℕ → Rules) (most : (i form : ℕ) → r i form .K ≤ 6) where
     tables-tell : (m i at : ℕ) → at ≤ length s → Judges (tablesAt r s m i at)
     unfolding S.tablesAt
     tables-tell zero i at l =
         guard-keeps Judges (eqb at (length s)) (λ _. Verdict.Accepted) (λ _. unfit-told startCheckerNumbers refl at l) (λ _. tt)
     tables-tell (suc m) i at l =
         length-keeps Judges s at Verdict.Refused _ (broken-told startCheckerNumbers refl at l) (unfit-told startCheckerNumbers refl at l)
-        (λ first size h. walk-keeps checkerNumbers (length (part s first size)) Judges (tableEnd (r i) (part s first size)) _ _
-        (end-tells (r i) (part s first size) (most i)) (checker-moved first size h)
+        (λ first size h. walk-keeps checkerNumbers (length (part s first size)) Judges (tableEnd (r i (formOf (part s first size))) (part s first size)) _ _
+        (end-tells (r i (formOf (part s first size))) (part s first size) (most i (formOf (part s first size)))) (checker-moved first size h)
         (λ next _. guard-keeps Judges (eqb next size) _ (λ _. unfit-told startCheckerNumbers refl at l)
         (λ _. tables-tell m (suc i) (first + size) h)))
 
@@ -153,7 +153,7 @@ module _ (s : List ℕ) where
 
     call-in-tells : (i : ℕ) (st : State) → Answers (callIn p vs s at i st x)
     call-in-tells i st =
-        part-keeps _ (λ first size h. answer-tells (boxRules p vs i) i first size h (call (boxRules p vs i) (part s first size) st x) (call-tells (boxRules p vs i) (part s first size)
+        part-keeps _ (λ first size h. let t = part s first size in let r = boxRules p vs i (formOf t) in answer-tells r i first size h (call r t st x) (call-tells r t
         (λ y. (few (boxOf p vs i) (box-size p vs i) y, few (safeOf p) (length-tab (sideAt (p .slo) (p .shi)) (p .n) 0) y)) x st)) i at inside
 
     state-told : StartTelling startControllerNumbers (length s) badState
@@ -162,7 +162,7 @@ module _ (s : List ℕ) where
     idle-tells : Answers (chosenCall p vs s at x)
     idle-tells =
         let b = boxOf p vs (above vs) in
-        guard-keeps Answers (holds (boxRules p vs (above vs)) b x) _
+        guard-keeps Answers (holds (boxRules p vs (above vs) 1) b x) _
         (λ e. record { number = refl; place = dimension-in (fits b (readingOf (p .n) x)) (few b (box-size p vs (above vs)) x) e; step = refl })
         (λ _. call-in-tells _ idle)
 
@@ -186,13 +186,13 @@ start-checker-told plant start e q = of (startChecked plant start) q tells
     tells : VerdictIs (StartTold plant start startCheckerNumbers) (startChecked plant start)
     tells =
         begin-keeps (VerdictIs (StartTold plant start startCheckerNumbers)) Verdict.Refused plant start startCheckerNumbers refl (λ e t. t) (λ p vs next. tablesAt (boxRules p vs) start (above vs + 1) 0 next)
-        (λ p j vs next l. verdict-more (λ e t. of-start p j t) (tablesAt (boxRules p vs) start (above vs + 1) 0 next) (tables-tell start (boxRules p vs) (λ _. judged-sound plant p j .ranges .k-high) (above vs + 1) 0 next l))
+        (λ p j vs next l. verdict-more (λ e t. of-start p j t) (tablesAt (boxRules p vs) start (above vs + 1) 0 next) (tables-tell start (boxRules p vs) (λ _ _. judged-sound plant p j .ranges .k-high) (above vs + 1) 0 next l))
 
-pub start-maker-told : (plant chain buf : List ℕ) (e : Refusal) → startLeft plant chain buf .answer ≡ Written.Refused e → StartTold plant chain startMakerNumbers e
+pub start-maker-told : (plant chain : List ℕ) (form : ℕ) (buf : List ℕ) (e : Refusal) → startLeft plant chain form buf .answer ≡ Written.Refused e → StartTold plant chain startMakerNumbers e
 unfolding S.startLeft
-start-maker-told plant chain buf =
-    left-refused (StartTold plant chain startMakerNumbers) (startMade plant chain) (λ e q. start-more startMakerNumbers refl (start-made-told plant chain e q))
-    (λ bytes q. let g = start-made-exactly plant chain bytes .0 q .given in of-start (g .p) (g .judged) (record { number = refl; place = refl; step = refl })) buf
+start-maker-told plant chain form buf =
+    left-refused (StartTold plant chain startMakerNumbers) (startMade plant chain form) (λ e q. start-more startMakerNumbers refl (start-made-told plant chain form e q))
+    (λ bytes q. let g = start-made-exactly plant chain form bytes .0 q .given in of-start (g .p) (g .judged) (record { number = refl; place = refl; step = refl })) buf
 
 pub start-controller-told : (plant start : List ℕ) (st : StartState) (x : List ℤ) (e : Refusal) → startControlled plant start st x ≡ StartAnswer.Refused e
     → StartTold plant start startControllerNumbers e
@@ -218,10 +218,10 @@ pub start-checker-shows : (plant start : List ℕ)
 start-checker-shows plant start =
     verdict-shows (StartTold plant start startCheckerNumbers) (start-some plant start startCheckerNumbers refl) (startChecked plant start) (start-checker-told plant start)
 
-pub start-maker-shows : (plant chain buf : List ℕ)
-    → Showing ((m : ℕ) × (startLeft plant chain buf .answer ≡ Written.Length m)) (StartTold plant chain startMakerNumbers) [] (writtenShown (startLeft plant chain buf .answer))
-start-maker-shows plant chain buf =
-    written-shows (StartTold plant chain startMakerNumbers) (start-some plant chain startMakerNumbers refl) (startLeft plant chain buf .answer) (start-maker-told plant chain buf)
+pub start-maker-shows : (plant chain : List ℕ) (form : ℕ) (buf : List ℕ)
+    → Showing ((m : ℕ) × (startLeft plant chain form buf .answer ≡ Written.Length m)) (StartTold plant chain startMakerNumbers) [] (writtenShown (startLeft plant chain form buf .answer))
+start-maker-shows plant chain form buf =
+    written-shows (StartTold plant chain startMakerNumbers) (start-some plant chain startMakerNumbers refl) (startLeft plant chain form buf .answer) (start-maker-told plant chain form buf)
 
 -- no mode and idle
 abbrev pub noStartMode : List ℤ

@@ -7,16 +7,18 @@ use native.Mathlib.Omega.{arith}
 use native.Mathlib.Decide.{decLt}
 use lib.ListN.{length}
 use Rattle.meaning.specs.Starts.{above}
+use Rattle.meaning.specs.Tables.{formOf}
 use Rattle.meaning.specs.Trees.{Tree, tile, longest, tableOf}
 use Rattle.promises.specs.tables.Accept.{accepted-exactly}
 use Rattle.promises.specs.files.Judged.{judged-sound}
 use Rattle.promises.specs.tables.Shapes.{Working}
 use Rattle.promises.specs.files.Sound.{Sound}
+use Rattle.promises.specs.tables.TableForms.{form-known}
 use Rattle.promises.specs.starts.Calls.{rulesAt, tableAt}
 use Rattle.promises.specs.starts.Chains.{Chained, read-chained, box-sizes}
 use Rattle.promises.specs.starts.Started.{Started}
 
--- Each table is that of a tree over its box, of sound shape, whose tiles all keep the tile rule.
+-- Each table is that of a tree over its box, of sound shape by the form that it says, whose tiles all keep the tile rule.
 pub record Trees {plant start : List ℕ} (w : Started plant start) : Type 0 where
   pub tree : ℕ → Tree
   pub works : (i : ℕ) → i ≤ above (w .vs) → Working (rulesAt w i) (tree i)
@@ -30,7 +32,7 @@ module _ {plant start : List ℕ} (w : Started plant start) where
   chained = read-chained (w .p) sound (w .vs) (w .kept) start (w .next) (w .chain)
 
   tree-of : (i : ℕ) → i < length (w .tables) → (t : Tree) × Working (rulesAt w i) t × (tableAt w i ≡ tableOf (rulesAt w i) t)
-  tree-of i l = accepted-exactly (rulesAt w i) (box-sizes (w .p) sound (w .vs) i) (tableAt w i) .0 (w .each i l)
+  tree-of i l = accepted-exactly (rulesAt w i) (box-sizes (w .p) sound (w .vs) i (formOf (tableAt w i)) (form-known (tableAt w i))) (tableAt w i) .0 (w .each i l)
 
   -- behind the last, any
   tree-at : (i : ℕ) → Dec (i < length (w .tables)) → Tree

@@ -28,13 +28,13 @@ pub refused-accepted : {e : Refusal} → Verdict.Refused e ≡ Verdict.Accepted 
 refused-accepted e = never cc
 
 module _ (r : Rules) where
-  open Rules r using (root, n, D)
+  open Rules r using (root, form, n, D)
 
   -- a header and a tree that fill the file
-  filled : (s : List ℕ) (at : ℕ) (t : Tree) → Stands s 0 (bytesOf 1 ++ bytesOf n) at → Stands s at (layout t) (length s) → s ≡ tableOf r t
+  filled : (s : List ℕ) (at : ℕ) (t : Tree) → Stands s 0 (bytesOf form ++ bytesOf n) at → Stands s at (layout t) (length s) → s ≡ tableOf r t
   filled s at t h p =
-      let head = bytesOf 1 ++ bytesOf n in
-      stand-join h p .bytes ∙ rw (drop-length s, append-nil (head ++ layout t)) (append-assoc (bytesOf 1) (bytesOf n) (layout t))
+      let head = bytesOf form ++ bytesOf n in
+      stand-join h p .bytes ∙ rw (drop-length s, append-nil (head ++ layout t)) (append-assoc (bytesOf form) (bytesOf n) (layout t))
 
   -- a table is accepted exactly where it ends with its file
   pub accepted-end : (s : List ℕ) → (verdict r s ≡ Verdict.Accepted) ↔ (tableEnd r s ≡ Walk.Next (length s))
@@ -52,9 +52,9 @@ module _ (r : Rules) where
 
   accepted-is : (s : List ℕ) → verdict r s ≡ Verdict.Accepted → (t : Tree) × Working r t × (s ≡ tableOf r t)
   accepted-is s e =
-      let h = walk-went (header n s) Walk.Refused (λ at. walk r (rule r) D s at root) (λ _ z. never cc) (accepted-end s .0 e) in
+      let h = walk-went (header form n s) Walk.Refused (λ at. walk r (rule r) D s at root) (λ _ z. never cc) (accepted-end s .0 e) in
       let t = walk-stands r (rule r) D s (h .0) root (length s) (h .2) in
-      (t .tree, t .over, filled s (h .0) (t .tree) (header-stands n s (h .0) (h .1)) (t .stand))
+      (t .tree, t .over, filled s (h .0) (t .tree) (header-stands form n s (h .0) (h .1)) (t .stand))
 
   module _ (sizes : Sizes r) where
     is-accepted : (t : Tree) → Working r t → verdict r (tableOf r t) ≡ Verdict.Accepted
@@ -62,7 +62,7 @@ module _ (r : Rules) where
     is-accepted t o =
         let s = tableOf r t in
         let is = sym (append-nil s) in
-        let w = walk-reads r sizes (rule r) t D s (headed n) root (length s) o (table-stands r s [] t is .1) in
+        let w = walk-reads r sizes (rule r) t D s (headed form n) root (length s) o (table-stands r s [] t is .1) in
         simp (table-header r sizes s [] t is, w, eq-eqb (length s) (length s) refl)
 
     pub accepted-exactly : (s : List ℕ) → (verdict r s ≡ Verdict.Accepted) ↔ ((t : Tree) × Working r t × (s ≡ tableOf r t))

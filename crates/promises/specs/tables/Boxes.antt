@@ -33,7 +33,7 @@ covers-trans u t s e f =
     let high : s .hi ≤ℤ u .hi = omega (zarith, c, d) in
     ordered low high
 
-covers-itself : (s : Side) → covers s s ≡ true
+pub covers-itself : (s : Side) → covers s s ≡ true
 covers-itself s =
     let low : s .lo ≤ℤ s .lo = omega zarith in
     let high : s .hi ≤ℤ s .hi = omega zarith in

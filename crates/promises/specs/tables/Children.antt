@@ -1,4 +1,4 @@
--- S4, split: each child of a box lies in it, is smaller, and has no empty side where the box has none.
+-- S4, form 1's split: each child of a box lies in it, is smaller, and has no empty side where the box has none.
 -- Relies on meaning's page Boxes and the law of the middle. Any number of dimensions.
 use Prim.Native.Nat.{ℕ, _+_, _≤_, _<_}
 use mathlib.Core.Path.{_≡_, refl}
@@ -25,12 +25,12 @@ unfoldable pub extent : List Side → ℕ
 extent [] = 0
 extent (s ∷ b) = width s + extent b
 
-record Half (s h : Side) : Type 0 where
-  inside : covers s h ≡ true
-  shorter : width h + bit (long s) ≤ width s
-  filled : s .lo ≤ℤ s .hi → h .lo ≤ℤ h .hi
+pub record Half (s h : Side) : Type 0 where
+  pub inside : covers s h ≡ true
+  pub shorter : width h + bit (long s) ≤ width s
+  pub filled : s .lo ≤ℤ s .hi → h .lo ≤ℤ h .hi
 
-halves-are : (s : Side) → Every (Half s) (halves s)
+pub halves-are : (s : Side) → Every (Half s) (halves s)
 unfolding E.Every
 halves-are s = go (long s) refl
   where

@@ -2,7 +2,7 @@
 -- mode; and of every table, accepted or not, an idle call that is answered reads nothing behind the last mode of the tile that it chose.
 -- Relies on pages Finds and Local at document 01's rules.
 use Prim.Native.Nat.{ℕ}
-use mathlib.Core.Path.{_≡_, refl, sym, subst, _∙_}
+use mathlib.Core.Path.{_≡_, refl, sym, ap, subst, _∙_}
 use mathlib.Core.Bool.{true}
 use mathlib.Core.List.{List, [], _∷_, append-nil}
 use native.Mathlib.Omega.{arith}
@@ -20,7 +20,7 @@ use Rattle.meaning.specs.Files.{Judged, good, bad, read}
 use Rattle.meaning.specs.Plants.{Plant, plantJudged, rootOf}
 use Rattle.meaning.specs.Rules.{Rules, rule, holds}
 use Rattle.meaning.specs.Tables as T
-use Rattle.meaning.specs.Tables.{rulesOf, onPlant, controlled, startsIn}
+use Rattle.meaning.specs.Tables.{depthBy, formOf, rulesOf, onPlant, controlled, startsIn}
 use Rattle.meaning.specs.Trees as Y
 use Rattle.meaning.specs.Trees.{tableOf, Tile, tilesOf, having}
 use Rattle.meaning.specs.Verdicts.{modesAt, header}
@@ -32,25 +32,26 @@ use Rattle.promises.specs.tables.Local.{unseen}
 use Rattle.promises.specs.tables.PlantMotion.{splits}
 use Rattle.promises.specs.tables.PlantRules.{sizes, header-size, controlled-as}
 use Rattle.promises.specs.tables.Shapes.{Good}
+use Rattle.promises.specs.tables.TableForms.{form-known, header-form}
 use Rattle.promises.specs.tables.Walking.{walk-went}
 
 -- ---- of an accepted table
 
 -- The tile chosen in the table of a tree, the header being two bytes.
 pub record Chosen (plant table : List ℕ) (t : Tiled plant table) (x : List ℤ) : Type 0 where
-  pub the : Tile (rulesOf (t .p))
+  pub the : Tile (rulesOf (formOf table) (t .p))
   -- of all tiles it alone holds the reading
-  pub only : having (rulesOf (t .p)) x (tilesOf (rulesOf (t .p)) (t .tree) (rootOf (t .p)) 2) ≡ the ∷ []
-  pub holds-it : holds (rulesOf (t .p)) (the .box) x ≡ true
+  pub only : having (rulesOf (formOf table) (t .p)) x (tilesOf (rulesOf (formOf table) (t .p)) (t .tree) (rootOf (t .p)) 2) ≡ the ∷ []
+  pub holds-it : holds (rulesOf (formOf table) (t .p)) (the .box) x ≡ true
   -- it is the one found, the first of its modes standing behind their number
-  pub found : find (rulesOf (t .p)) (t .p .d) table 2 (rootOf (t .p)) x ≡ Found.Tile (firstPlace (rulesOf (t .p)) the) (length (the .modes))
+  pub found : find (rulesOf (formOf table) (t .p)) (depthBy (formOf table) (t .p .n) (t .p .d)) table 2 (rootOf (t .p)) x ≡ Found.Tile (firstPlace (rulesOf (formOf table) (t .p)) the) (length (the .modes))
   -- its first mode is answered, and those to come are left, the next of them behind it
   pub first : ℕ
   pub later : List ℕ
   pub modes-are : the .modes ≡ first ∷ later
-  pub answered : controlled plant table idle x ≡ Answer.Mode first (stateWith later (nextPlace (firstPlace (rulesOf (t .p)) the) first))
+  pub answered : controlled plant table idle x ≡ Answer.Mode first (stateWith later (nextPlace (firstPlace (rulesOf (formOf table) (t .p)) the) first))
   -- and the answer is the same on every table that agrees with this one up to the tile's last mode
-  pub unread : (other : List ℕ) → take (endPlace (rulesOf (t .p)) the) table ≡ take (endPlace (rulesOf (t .p)) the) other
+  pub unread : (other : List ℕ) → take (endPlace (rulesOf (formOf table) (t .p)) the) table ≡ take (endPlace (rulesOf (formOf table) (t .p)) the) other
       → controlled plant other idle x ≡ controlled plant table idle x
 
 -- S8, of a reading in R and a table that is that of a tree
@@ -58,28 +59,31 @@ pub chosen : (plant table : List ℕ) (t : Tiled plant table) (x : List ℤ) →
 unfolding Y.layout
 chosen plant table t x h =
     let p = t .p in
-    let r = rulesOf p in
+    let form = formOf table in
+    let known = form-known table in
+    let r = rulesOf form p in
     let s = judged-sound plant p (t .judged) in
-    let z = sizes p s in
+    let z = sizes form known p s in
     let held : holds r (rootOf p) x ≡ true = rw (t .judged) at h in
     let is = t .is ∙ sym (append-nil (tableOf r (t .tree))) in
-    let f = finds r z (splits p) (Good r (rule r)) (λ b us g. g .shape) table [] (t .tree) is (t .works) x held in
+    let f = finds r z (splits form p) (Good r (rule r)) (λ b us g. g .shape) table [] (t .tree) is (t .works) x held in
     let us = f .first ∷ f .later in
-    let w = unseen r z x table (headed (p .n)) (firstPlace r (the r f)) (length us) (table-header r z table [] (t .tree) is) (f .told) in
+    let w = unseen r z x table (headed form (p .n)) (firstPlace r (the r f)) (length us) (table-header r z table [] (t .tree) is) (f .told) in
     let same : w .end ≡ f .end = cc (tile-read r z us table (f .place) (f .end) (f .known .shape) (f .stand) .1, w .are) in
-    let end : w .end ≡ endPlace r (the r f) = same ∙ f .stand .end in
+    let end : w .end ≡ endPlace r (the r f) = _∙_ {c = endPlace r (the r f)} same (f .stand .end) in
     record {
       the = the r f;
-      only = subst (λ (m : ℕ). having r x (tilesOf r (t .tree) (rootOf p) m) ≡ the r f ∷ []) (header-size p s) (f .only);
+      only = subst (λ (m : ℕ). having r x (tilesOf r (t .tree) (rootOf p) m) ≡ the r f ∷ []) (header-size form known p s) (f .only);
       holds-it = f .holds-it;
-      found = subst (λ (m : ℕ). find r (p .d) table m (rootOf p) x ≡ Found.Tile (firstPlace r (the r f)) (length us)) (header-size p s) (f .told);
+      found = subst (λ (m : ℕ). find r (depthBy form (p .n) (p .d)) table m (rootOf p) x ≡ Found.Tile (firstPlace r (the r f)) (length us)) (header-size form known p s) (f .told);
       first = f .first;
       later = f .later;
       modes-are = refl;
       answered = controlled-as plant p (t .judged) table idle x
-          ∙ call-finds r z (splits p) (Good r (rule r)) (λ b us g. g .shape) table [] (t .tree) is (t .works) x held;
+          ∙ call-finds r z (splits form p) (Good r (rule r)) (λ b us g. g .shape) table [] (t .tree) is (t .works) x held;
       unread = λ other q.
           controlled-as plant p (t .judged) other idle x
+          ∙ ap (λ (k : ℕ). call (rulesOf k p) other idle x) (header-form form (p .n) known other (w .head other (subst (λ (m : ℕ). take m table ≡ take m other) (sym end) q) .0) (w .head other (subst (λ (m : ℕ). take m table ≡ take m other) (sym end) q) .1))
           ∙ w .same other (subst (λ (m : ℕ). take m table ≡ take m other) (sym end) q)
           ∙ sym (controlled-as plant p (t .judged) table idle x);
     }
@@ -92,7 +96,7 @@ pub record Unread (plant table : List ℕ) (x : List ℤ) (u : ℕ) (then : Stat
   pub judged : plantJudged plant ≡ good p
   pub from : ℕ
   pub modes : List ℕ
-  pub found : find (rulesOf p) (p .d) table 2 (rootOf p) x ≡ Found.Tile from (length modes)
+  pub found : find (rulesOf (formOf table) p) (depthBy (formOf table) (p .n) (p .d)) table 2 (rootOf p) x ≡ Found.Tile from (length modes)
   pub end : ℕ
   pub are : modesAt (p .modes) (length modes) table from ≡ read modes end
   pub same : (other : List ℕ) → take end table ≡ take end other → controlled plant other idle x ≡ Answer.Mode u then
@@ -109,13 +113,13 @@ pub record Went (r : Rules) (table : List ℕ) (x : r .Reading) : Type 0 where
   pub at : ℕ
   pub from : ℕ
   pub k : ℕ
-  pub head : header (r .n) table ≡ Walk.Next at
+  pub head : header (r .form) (r .n) table ≡ Walk.Next at
   pub found : find r (r .D) table at (r .root) x ≡ Found.Tile from k
 
 pub went : (r : Rules) (table : List ℕ) (x : r .Reading) (u : ℕ) (then : State) → call r table idle x ≡ Answer.Mode u then → Went r table x
 unfolding C.call
 went r table x u then a =
-    let w = walk-went (header (r .n) table) Answer.Refused (λ at. idleCall r table at 0 x) (λ _. refused-mode) a in
+    let w = walk-went (header (r .form) (r .n) table) Answer.Refused (λ at. idleCall r table at 0 x) (λ _. refused-mode) a in
     let g = guard-passed (holds r (r .root) x) (λ _. onFound table (find r (r .D) table (w .0) (r .root) x)) refused-mode (w .2) in
     let f = found-tile table (find r (r .D) table (w .0) (r .root) x) u then (g .1) in
     record { at = w .0; from = f .0; k = f .1; head = w .1; found = f .2 }
@@ -124,14 +128,16 @@ pub unread : (plant table : List ℕ) (x : List ℤ) (u : ℕ) (then : State) �
 unfolding T.controlled
 unread plant table x u then = go (plantJudged plant) refl
   where
-    of : (p : Plant) → plantJudged plant ≡ good p → call (rulesOf p) table idle x ≡ Answer.Mode u then → Went (rulesOf p) table x → Unread plant table x u then
+    of : (p : Plant) → plantJudged plant ≡ good p → call (rulesOf (formOf table) p) table idle x ≡ Answer.Mode u then → Went (rulesOf (formOf table) p) table x → Unread plant table x u then
     of p e a w =
-        let r = rulesOf p in
+        let form = formOf table in
+        let known = form-known table in
+        let r = rulesOf form p in
         let s = judged-sound plant p e in
-        let z = unseen r (sizes p s) x table (w .at) (w .from) (w .k) (w .head) (w .found) in
+        let z = unseen r (sizes form known p s) x table (w .at) (w .from) (w .k) (w .head) (w .found) in
         let m = modes-stand (p .modes) (w .k) table (w .from) (z .modes) (z .end) (z .are) in
         let count : length (z .modes) ≡ w .k = m .count in
-        let begin : w .at ≡ 2 = omega (arith, header-stands (p .n) table (w .at) (w .head) .end, header-size p s) in
+        let begin : w .at ≡ 2 = omega (arith, header-stands form (p .n) table (w .at) (w .head) .end, header-size form known p s) in
         record {
           p = p;
           judged = e;
@@ -140,10 +146,13 @@ unread plant table x u then = go (plantJudged plant) refl
           found = rw count (rw begin at (w .found));
           end = z .end;
           are = rw count (z .are);
-          same = λ other q. controlled-as plant p e other idle x ∙ z .same other q ∙ a;
+          same = λ other q.
+              controlled-as plant p e other idle x
+              ∙ ap (λ (k : ℕ). call (rulesOf k p) other idle x) (header-form form (p .n) known other (z .head other q .0) (z .head other q .1))
+              ∙ z .same other q ∙ a;
         }
 
-    go : (j : Judged Plant) → plantJudged plant ≡ j → onPlant j Answer.Refused (λ p. call (rulesOf p) table idle x) ≡ Answer.Mode u then
+    go : (j : Judged Plant) → plantJudged plant ≡ j → onPlant j Answer.Refused (λ p. call (rulesOf (formOf table) p) table idle x) ≡ Answer.Mode u then
         → Unread plant table x u then
     go (bad e) q a = absurd (refused-mode a)
-    go (good p) q a = of p q a (went (rulesOf p) table x u then a)
+    go (good p) q a = of p q a (went (rulesOf (formOf table) p) table x u then a)

@@ -181,8 +181,8 @@ module _ (r : Rules) where
 
 module _ (r : Rules) (sizes : Sizes r) (splits : Splits r) (P : r .Box → List ℕ → Type 0) (shape : (b : r .Box) (us : List ℕ) → P b us → Pattern (r .K) (r .N) us)
     (s rest : List ℕ) (t : Tree) (is : s ≡ tableOf r t ++ rest) (over : Over r P t (r .D) (r .root)) (x : r .Reading) (held : holds r (r .root) x ≡ true) where
-  pub finds : OneTile r P x s (headed (r .n)) (tilesOf r t (r .root) (headed (r .n))) (find r (r .D) s (headed (r .n)) (r .root) x)
-  finds = tree-finds r sizes splits P shape x t (r .D) s (headed (r .n)) (r .root) (length (tableOf r t)) over (table-stands r s rest t is .1) held
+  pub finds : OneTile r P x s (headed (r .form) (r .n)) (tilesOf r t (r .root) (headed (r .form) (r .n))) (find r (r .D) s (headed (r .form) (r .n)) (r .root) x)
+  finds = tree-finds r sizes splits P shape x t (r .D) s (headed (r .form) (r .n)) (r .root) (length (tableOf r t)) over (table-stands r s rest t is .1) held
 
   -- and a call, idle, answers that tile's first mode
   pub call-finds : call r s idle x ≡ Answer.Mode (finds .first) (stateWith (finds .later) (nextPlace (firstPlace r (the r finds)) (finds .first)))

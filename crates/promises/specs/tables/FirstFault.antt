@@ -33,7 +33,7 @@ use Rattle.promises.specs.tables.Shapes.{Good, Shaped, Working}
 use Rattle.promises.specs.tables.Walking.{walk-split, walk-tile}
 
 module _ (r : Rules) where
-  open Rules r using (Box, Kept, children, within, begin, image, kept, root, goal, safe, n, D, K, N)
+  open Rules r using (Box, Kept, children, within, begin, image, kept, root, goal, safe, form, n, D, K, N)
 
   -- ---- what is wrong with a pattern
 
@@ -180,7 +180,7 @@ module _ (r : Rules) where
   pub record FirstBad (t : Tree) (one : Tile r) : Type 0 where
     pub front : List (Tile r)
     pub back : List (Tile r)
-    pub are : tilesOf r t root (headed n) ≡ front ++ one ∷ back
+    pub are : tilesOf r t root (headed form n) ≡ front ++ one ∷ back
     pub work : Every TileWorks front
 
   -- what a table that keeps the file's rules comes to: its tiles all work, or there is a first that does not
@@ -207,11 +207,11 @@ module _ (r : Rules) where
         (tree-works t d b at (o .0) (w .0), forest-works f d bs (at + length (layout t)) (o .1) (w .1))
 
   -- the tiles behind those of a front that work
-  comes-from : (t : Tree) → Shaped r t → (front rest : List (Tile r)) → tilesOf r t root (headed n) ≡ front ++ rest → Every TileWorks front → Comes t
+  comes-from : (t : Tree) → Shaped r t → (front rest : List (Tile r)) → tilesOf r t root (headed form n) ≡ front ++ rest → Every TileWorks front → Comes t
   unfolding E.Every
   comes-from t shape front [] e h =
-      let q : tilesOf r t root (headed n) ≡ front = e ∙ append-nil front in
-      working (tree-works t D root (headed n) shape (rw q h))
+      let q : tilesOf r t root (headed form n) ≡ front = e ∙ append-nil front in
+      working (tree-works t D root (headed form n) shape (rw q h))
   comes-from t shape front (one ∷ rest) e h =
       go (outcome (one .modes) (begin (one .box)))
       (λ w. comes-from t shape (front ++ one ∷ []) rest (e ∙ sym (append-assoc front (one ∷ []) rest)) (every-append TileWorks front (one ∷ []) h (w, tt)))
@@ -226,7 +226,7 @@ module _ (r : Rules) where
 
   pub comes : (t : Tree) → Shaped r t → Comes t
   unfolding E.Every
-  comes t shape = comes-from t shape [] (tilesOf r t root (headed n)) refl tt
+  comes t shape = comes-from t shape [] (tilesOf r t root (headed form n)) refl tt
 
   module _ (sizes : Sizes r) (t : Tree) (shape : Shaped r t) (one : Tile r) (bad : FirstBad t one) where
     bad-told : (e : Refusal) → toldOf (rule r) one ≡ Walk.Refused e → verdict r (tableOf r t) ≡ Verdict.Refused e
@@ -234,8 +234,8 @@ module _ (r : Rules) where
     bad-told e q =
         let s = tableOf r t in
         let is = sym (append-nil s) in
-        let w : walk r (rule r) D s (headed n) root ≡ Walk.Refused e =
-        walk-judges (rule r) sizes t D s (headed n) root (length s) shape (table-stands r s [] t is .1)
+        let w : walk r (rule r) D s (headed form n) root ≡ Walk.Refused e =
+        walk-judges (rule r) sizes t D s (headed form n) root (length s) shape (table-stands r s [] t is .1)
         ∙ rw (bad .are) (judged-first (rule r) (bad .front) one (bad .back) (length s) e (bad .work) q) in
         simp (table-header r sizes s [] t is, w)
 

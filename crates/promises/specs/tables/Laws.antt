@@ -8,10 +8,11 @@ use Rattle.laws.specs.Counting.{bit, count}
 use Rattle.meaning.specs.Rules.{Rules, holds}
 
 module _ (r : Rules) where
-  open Rules r using (Box, Reading, Kept, children, within, begin, image, kept, root, goal, safe, n, K, N, follows)
+  open Rules r using (Box, Reading, Kept, children, within, begin, image, kept, root, goal, safe, form, n, K, N, follows)
 
-  -- n, each node and each mode are numbers of at most five bytes
+  -- the form, n, each node and each mode are numbers of at most five bytes
   pub record Sizes : Type 0 where
+    pub forms : form < 2 ^ 35
     pub dimensions : n < 2 ^ 35
     pub nodes : K < 2 ^ 35
     pub modes : N ≤ 2 ^ 35

@@ -82,42 +82,42 @@ module _ (N : ℕ) where
 
 -- ---- the header
 
-module _ (n : ℕ) where
+module _ (form n : ℕ) where
   -- the place behind it
   abbrev pub headed : ℕ
-  headed = length (bytesOf 1 ++ bytesOf n)
+  headed = length (bytesOf form ++ bytesOf n)
 
-  pub header-stands : (s : List ℕ) (at : ℕ) → header n s ≡ Walk.Next at → Stands s 0 (bytesOf 1 ++ bytesOf n) at
+  pub header-stands : (s : List ℕ) (at : ℕ) → header form n s ≡ Walk.Next at → Stands s 0 (bytesOf form ++ bytesOf n) at
   unfolding header
   header-stands s at e =
-      let f = number-read (numberAt s 0) (λ form p. guard (eqb form 1) (Walk.Refused wrongForm) λ _. second p) refused-next e in
-      let form = f .0 in
+      let f = number-read (numberAt s 0) (λ told p. guard (eqb told form) (Walk.Refused wrongForm) λ _. second p) refused-next e in
+      let told = f .0 in
       let p = f .1 in
-      let one = guard-passed (eqb form 1) (λ _. second p) refused-next (f .3) in
+      let one = guard-passed (eqb told form) (λ _. second p) refused-next (f .3) in
       let g = number-read (numberAt s p) (λ m next. guard (eqb m n) (Walk.Refused (badTable p)) λ _. Walk.Next next) refused-next (one .1) in
       let m = g .0 in
       let next = g .1 in
       let same = guard-passed (eqb m n) (λ _. Walk.Next next) refused-next (g .3) in
-      let a : form ≡ 1 = eqb-true form 1 (one .0) in
+      let a : told ≡ form = eqb-true told form (one .0) in
       let b : m ≡ n = eqb-true m n (same .0) in
       let c : next ≡ at = cc (same .1) in
-      stand-join (rw a at (was form 0 p s (f .2) .1)) (rw (b, c) at (was m p next s (g .2) .1))
+      stand-join (rw a at (was told 0 p s (f .2) .1)) (rw (b, c) at (was m p next s (g .2) .1))
     where
       -- the header's second number, at p
       second : ℕ → Walk
       second p = onNumber (numberAt s p) (Walk.Refused (broken p)) λ m next. guard (eqb m n) (Walk.Refused (badTable p)) λ _. Walk.Next next
 
-  pub header-read : n < 2 ^ 35 → (s : List ℕ) (at : ℕ) → Stands s 0 (bytesOf 1 ++ bytesOf n) at → header n s ≡ Walk.Next at
+  pub header-read : form < 2 ^ 35 → n < 2 ^ 35 → (s : List ℕ) (at : ℕ) → Stands s 0 (bytesOf form ++ bytesOf n) at → header form n s ≡ Walk.Next at
   unfolding header
-  header-read small s at p =
-      let a = reads 1 0 (0 + length (bytesOf 1)) s (omega arith) (stand-front (bytesOf 1) (bytesOf n) p) in
-      let b = reads n (0 + length (bytesOf 1)) at s small (stand-back (bytesOf 1) (bytesOf n) p) in
-      simp (a, b, eq-eqb n n refl)
+  header-read fit small s at p =
+      let a = reads form 0 (0 + length (bytesOf form)) s fit (stand-front (bytesOf form) (bytesOf n) p) in
+      let b = reads n (0 + length (bytesOf form)) at s small (stand-back (bytesOf form) (bytesOf n) p) in
+      simp (a, b, eq-eqb form form refl, eq-eqb n n refl)
 
 -- ---- a tree
 
 module _ (r : Rules) where
-  open Rules r using (Box, children, n, K, N)
+  open Rules r using (Box, children, form, n, K, N)
 
   -- a tree over the box, its layout from `at` up to m; a forest over the boxes
   pub record TreeStands (judge : Box → List ℕ → Tried) (d : ℕ) (s : List ℕ) (at : ℕ) (b : Box) (m : ℕ) : Type 0 where
@@ -201,16 +201,16 @@ module _ (r : Rules) where
 
   -- a table with any bytes behind it: its header, and its tree
   pub table-stands : (s rest : List ℕ) (t : Tree) → s ≡ tableOf r t ++ rest
-      → Stands s 0 (bytesOf 1 ++ bytesOf n) (headed n) × Stands s (headed n) (layout t) (length (tableOf r t))
+      → Stands s 0 (bytesOf form ++ bytesOf n) (headed form n) × Stands s (headed form n) (layout t) (length (tableOf r t))
   table-stands s rest t e =
-      let q = append-assoc (bytesOf 1) (bytesOf n) (layout t) in
-      let p : Stands s 0 ((bytesOf 1 ++ bytesOf n) ++ layout t) (length (tableOf r t)) =
+      let q = append-assoc (bytesOf form) (bytesOf n) (layout t) in
+      let p : Stands s 0 ((bytesOf form ++ bytesOf n) ++ layout t) (length (tableOf r t)) =
       rw (q, e) (record { end = omega arith; bytes = ap (λ (l : List ℕ). tableOf r t ++ l) (sym (drop-append-seam (tableOf r t) rest)) }) in
-      (rw zero-add at (stand-front (bytesOf 1 ++ bytesOf n) (layout t) p), rw zero-add at (stand-back (bytesOf 1 ++ bytesOf n) (layout t) p))
+      (rw zero-add at (stand-front (bytesOf form ++ bytesOf n) (layout t) p), rw zero-add at (stand-back (bytesOf form ++ bytesOf n) (layout t) p))
 
   module _ (sizes : Sizes r) where
-    pub table-header : (s rest : List ℕ) (t : Tree) → s ≡ tableOf r t ++ rest → header n s ≡ Walk.Next (headed n)
-    table-header s rest t e = header-read n (sizes .dimensions) s (headed n) (table-stands s rest t e .0)
+    pub table-header : (s rest : List ℕ) (t : Tree) → s ≡ tableOf r t ++ rest → header form n s ≡ Walk.Next (headed form n)
+    table-header s rest t e = header-read form n (sizes .forms) (sizes .dimensions) s (headed form n) (table-stands s rest t e .0)
 
     -- a tile's number, and its modes behind it
     pub tile-read : (us s : List ℕ) (at m : ℕ) → Pattern K N us → Stands s at (bytesOf (length us) ++ modesBytes us) m

@@ -45,7 +45,7 @@ mode-agreed N small (u ∷ us) s z from k m w t =
     rw (e, q, number-agreed u from (from + length (bytesOf u)) m s z q l t) refl
 
 module _ (r : Rules) where
-  open Rules r using (Box, Reading, children, n, K, N)
+  open Rules r using (Box, Reading, children, form, n, K, N)
 
   -- a tile was found whose k modes stand in s from `from` up to `end`, and so it is in every list that agrees up to there
   pub record Reach (look : List ℕ → Found) (s : List ℕ) (at from k : ℕ) : Type 0 where
@@ -73,6 +73,8 @@ module _ (r : Rules) where
     pub modes : List ℕ
     pub end : ℕ
     pub are : modesAt N k s from ≡ read modes end
+    -- the header is among what is read
+    pub head : (z : List ℕ) → take end s ≡ take end z → (at : ℕ) × (header form n z ≡ Walk.Next at)
     pub same : (z : List ℕ) → take end s ≡ take end z → call r z idle x ≡ call r s idle x
 
   module _ (sizes : Sizes r) where
@@ -87,8 +89,8 @@ module _ (r : Rules) where
         let w = walk-stands r judge d s i b m q in
         walk-reads r sizes judge (w .tree) d z i b m (w .over) (stand-agreed s z (layout (w .tree)) i m e (w .stand) l t)
 
-    header-agreed : (s z : List ℕ) (at e : ℕ) → header n s ≡ Walk.Next at → at ≤ e → take e s ≡ take e z → header n z ≡ Walk.Next at
-    header-agreed s z at e q l t = header-read n (sizes .dimensions) z at (stand-agreed s z (bytesOf 1 ++ bytesOf n) 0 at e (header-stands n s at q) l t)
+    header-agreed : (s z : List ℕ) (at e : ℕ) → header form n s ≡ Walk.Next at → at ≤ e → take e s ≡ take e z → header form n z ≡ Walk.Next at
+    header-agreed s z at e q l t = header-read form n (sizes .forms) (sizes .dimensions) z at (stand-agreed s z (bytesOf form ++ bytesOf n) 0 at e (header-stands form n s at q) l t)
 
     module _ (x : Reading) where
       tile-reach : (d : ℕ) (s : List ℕ) (at : ℕ) (b : Box) (size next from k : ℕ) → numberAt s at ≡ Number.Value size next → 1 ≤ size → size ≤ K
@@ -167,7 +169,7 @@ module _ (r : Rules) where
 
 -- ---- S8, second half
 
-pub unseen : (r : Rules) → Sizes r → (x : r .Reading) (s : List ℕ) (at from k : ℕ) → header (r .n) s ≡ Walk.Next at
+pub unseen : (r : Rules) → Sizes r → (x : r .Reading) (s : List ℕ) (at from k : ℕ) → header (r .form) (r .n) s ≡ Walk.Next at
     → find r (r .D) s at (r .root) x ≡ Found.Tile from k
     → Unseen r x s from k
 unfolding call
@@ -178,6 +180,7 @@ unseen r sizes x s at from k h e =
       modes = w .modes;
       end = w .end;
       are = w .are;
+      head = λ z t. (at, header-agreed r sizes s z at (w .end) h (omega (arith, w .order)) t);
       same = λ z t.
           let o : at ≤ w .end = omega (arith, w .order) in
           let q = header-agreed r sizes s z at (w .end) h o t in

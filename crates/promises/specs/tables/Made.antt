@@ -1,5 +1,5 @@
--- S7 over bytes: what is made of a plant that was judged good is the defined table, which the checker accepts, or 9 exactly where it accepts no table at
--- all; and the maker, lent a buffer, answers 9 and 10 exactly as that and the buffer's length say. Relies on page Exists at document 01's rules, and on
+-- S7 over bytes, for each known form: what is made of a plant that was judged good is the form's defined table, which the checker accepts, or 9 exactly where
+-- it accepts no table at all of that form; 2 where the form is not known; and the maker, lent a buffer, answers 9 and 10 exactly as that and the buffer's length say. Relies on page Exists at document 01's rules, and on
 -- page Faults: a plant is never refused by 9 or 10. That the function `make` does what `makerLeft` says is its contract; that each pattern of the
 -- defined table is the first that works is page First. What is said of one table over any rules, and of a buffer lent for any bytes, serves start files too.
 use Prim.Native.Nat.{ℕ, _≤_, _<_}
@@ -18,21 +18,22 @@ use Rattle.laws.specs.Tests.{never}
 use Rattle.meaning.specs.declared.Refusal.{Refusal}
 use Rattle.meaning.specs.declared.Verdict.{Verdict}
 use Rattle.meaning.specs.declared.Written.{Written}
-use Rattle.meaning.specs.Refusals.{noTable, short}
+use Rattle.meaning.specs.Refusals.{wrongForm, noTable, short}
 use Rattle.meaning.specs.Buffers.{Left, refusedWith, left}
 use Rattle.meaning.specs.Defined.{definedTree}
 use Rattle.meaning.specs.Files.{Judged, good, bad}
 use Rattle.meaning.specs.Plants.{Plant, plantJudged}
 use Rattle.meaning.specs.Rules.{Rules}
 use Rattle.meaning.specs.Tables as T
-use Rattle.meaning.specs.Tables.{rulesOf, onPlant, checked, tableBytes, definedTable, made, makerLeft}
+use Rattle.meaning.specs.Tables.{knownForm, formOf, rulesOf, onPlant, checked, tableBytes, definedTable, made, makerLeft}
 use Rattle.meaning.specs.Trees.{Tree, tableOf}
 use Rattle.meaning.specs.Verdicts.{verdict}
 use Rattle.promises.specs.files.Buffers.{wrote, left-fits, left-short}
+use Rattle.promises.specs.tables.Checked.{accepted-form}
 use Rattle.promises.specs.tables.Exists.{defined-accepted, no-table-exactly}
 use Rattle.promises.specs.sheets.Faults.{plantNumbers, plant-told}
 use Rattle.promises.specs.tables.Laws.{Sizes}
-use Rattle.promises.specs.tables.PlantRules.{judged-sizes, checked-as, made-as}
+use Rattle.promises.specs.tables.PlantRules.{judged-sizes, made-as, made-unknown}
 use Rattle.promises.specs.tables.TableLengths as L
 use Rattle.promises.specs.files.Telling.{Telling, told-more, not-told}
 
@@ -119,79 +120,112 @@ module _ (buf : List ℕ) where
 
 -- ---- S7
 
--- what is made is accepted
-pub made-accepted : (plant bytes : List ℕ) → made plant ≡ good bytes → checked plant bytes ≡ Verdict.Accepted
+-- what the maker goes by once the plant was judged: the form, then the defined table
+abbrev byForm : Plant → ℕ → Bool → Judged (List ℕ)
+byForm p form c = guard c (bad wrongForm) λ _. definedTable 0 (rulesOf form p)
+
+-- what is made is accepted, says its form, and was asked for in a known one
+pub made-accepted : (plant : List ℕ) (form : ℕ) (bytes : List ℕ) → made plant form ≡ good bytes
+    → (checked plant bytes ≡ Verdict.Accepted) × (formOf bytes ≡ form) × (knownForm form ≡ true)
 unfolding T.made
-made-accepted plant bytes = go (plantJudged plant) refl
+made-accepted plant form bytes = go (plantJudged plant) refl
   where
-    go : (j : Judged Plant) → plantJudged plant ≡ j → onPlant j bad (λ p. definedTable 0 (rulesOf p)) ≡ good bytes
-        → checked plant bytes ≡ Verdict.Accepted
+    of : (p : Plant) → plantJudged plant ≡ good p → (c : Bool) → knownForm form ≡ c → byForm p form c ≡ good bytes
+        → (checked plant bytes ≡ Verdict.Accepted) × (formOf bytes ≡ form) × (knownForm form ≡ true)
+    of p e false q a = never cc
+    of p e true q a =
+        let w = accepted-form plant bytes p e form q .0 (table-accepted 0 (rulesOf form p) (judged-sizes plant p e form q) bytes a) in
+        (w .1, w .0, q)
+
+    go : (j : Judged Plant) → plantJudged plant ≡ j → onPlant j bad (λ p. byForm p form (knownForm form)) ≡ good bytes
+        → (checked plant bytes ≡ Verdict.Accepted) × (formOf bytes ≡ form) × (knownForm form ≡ true)
     go (bad f) e a = never cc
-    go (good p) e a = checked-as plant p e bytes ∙ table-accepted 0 (rulesOf p) (judged-sizes plant p e) bytes a
+    go (good p) e a = of p e (knownForm form) refl a
 
-module _ (plant : List ℕ) (p : Plant) (e : plantJudged plant ≡ good p) where
-  -- what is made is the defined table
-  pub made-exactly : (bytes : List ℕ) → (made plant ≡ good bytes) ↔ ((t : Tree) × (definedTree (rulesOf p) ≡ some t) × (bytes ≡ tableOf (rulesOf p) t))
+module _ (plant : List ℕ) (p : Plant) (e : plantJudged plant ≡ good p) (form : ℕ) (known : knownForm form ≡ true) where
+  -- what is made is the form's defined table
+  pub made-exactly : (bytes : List ℕ)
+      → (made plant form ≡ good bytes) ↔ ((t : Tree) × (definedTree (rulesOf form p) ≡ some t) × (bytes ≡ tableOf (rulesOf form p) t))
   made-exactly bytes =
-      let w = some-bytes 0 (rulesOf p) (definedTree (rulesOf p)) bytes in
-      (λ a. w .0 (sym (made-as plant p e) ∙ a), λ t. made-as plant p e ∙ w .1 t)
+      let w = some-bytes 0 (rulesOf form p) (definedTree (rulesOf form p)) bytes in
+      (λ a. w .0 (sym (made-as plant p e form known) ∙ a), λ t. made-as plant p e form known ∙ w .1 t)
 
-  -- and 9 exactly where no table at all is accepted
-  pub nine-exactly : (made plant ≡ bad (noTable 0)) ↔ ((table : List ℕ) → checked plant table ≡ Verdict.Accepted → ⊥)
+  -- and 9 exactly where no table at all of that form is accepted
+  pub nine-exactly : (made plant form ≡ bad (noTable 0)) ↔ ((table : List ℕ) → formOf table ≡ form → checked plant table ≡ Verdict.Accepted → ⊥)
   nine-exactly =
-      let w = table-nine 0 (rulesOf p) (judged-sizes plant p e) in (
-        λ a table c. w .0 (sym (made-as plant p e) ∙ a) table (sym (checked-as plant p e table) ∙ c),
-        λ h. made-as plant p e ∙ w .1 (λ table c. h table (checked-as plant p e table ∙ c)),
+      let w = table-nine 0 (rulesOf form p) (judged-sizes plant p e form known) in (
+        λ a table q c. w .0 (sym (made-as plant p e form known) ∙ a) table (accepted-form plant table p e form known .1 (q, c)),
+        λ h. made-as plant p e form known ∙ w .1 (λ table c. let k = accepted-form plant table p e form known .0 c in h table (k .0) (k .1)),
       )
 
 -- ---- the maker, of all plants, judged good or not
 
--- Maker: plant, 9, 10. What is not made is refused by the plant's own number, or by 9.
-pub made-told : (plant : List ℕ) (f : Refusal) → made plant ≡ bad f → Telling (9 ∷ plantNumbers) (length plant) f
+-- Maker: plant, 2, 9, 10. What is not made is refused by the plant's own number, by 2 for the form, or by 9.
+pub made-told : (plant : List ℕ) (form : ℕ) (f : Refusal) → made plant form ≡ bad f → Telling (9 ∷ plantNumbers) (length plant) f
 unfolding T.made
-made-told plant f = go (plantJudged plant) refl
+made-told plant form f = go (plantJudged plant) refl
   where
-    go : (j : Judged Plant) → plantJudged plant ≡ j → onPlant j bad (λ p. definedTable 0 (rulesOf p)) ≡ bad f → Telling (9 ∷ plantNumbers) (length plant) f
+    of : (p : Plant) (c : Bool) → byForm p form c ≡ bad f → Telling (9 ∷ plantNumbers) (length plant) f
+    of p false a = let z : f ≡ wrongForm = cc in rw z (record { number = refl; place = refl; step = refl })
+    of p true a = rw (only-nine 0 (rulesOf form p) f a) (record { number = refl; place = refl; step = refl })
+
+    go : (j : Judged Plant) → plantJudged plant ≡ j → onPlant j bad (λ p. byForm p form (knownForm form)) ≡ bad f → Telling (9 ∷ plantNumbers) (length plant) f
     go (bad e) q a = let z : f ≡ e = cc in rw z (told-more (plant-told plant e q) (9 ∷ plantNumbers) refl)
-    go (good p) q a = rw (only-nine 0 (rulesOf p) f a) (record { number = refl; place = refl; step = refl })
+    go (good p) q a = of p (knownForm form) a
 
--- 9 is said of a plant that was judged good
-nine-judged : (plant : List ℕ) → made plant ≡ bad (noTable 0) → (p : Plant) × (plantJudged plant ≡ good p)
+-- 9 is said of a plant that was judged good, and of a known form
+nine-judged : (plant : List ℕ) (form : ℕ) → made plant form ≡ bad (noTable 0) → (p : Plant) × (plantJudged plant ≡ good p) × (knownForm form ≡ true)
 unfolding T.made
-nine-judged plant = go (plantJudged plant) refl
+nine-judged plant form = go (plantJudged plant) refl
   where
-    go : (j : Judged Plant) → plantJudged plant ≡ j → onPlant j bad (λ p. definedTable 0 (rulesOf p)) ≡ bad (noTable 0)
-        → (p : Plant) × (plantJudged plant ≡ good p)
-    go (bad e) q a = let z : e .number ≡ 9 = cc in absurd (not-told (plant-told plant e q) 9 refl z)
-    go (good p) q a = (p, q)
+    of : (p : Plant) (c : Bool) → byForm p form c ≡ bad (noTable 0) → c ≡ true
+    of p true a = refl
+    of p false a = let z : wrongForm .number ≡ 9 = (let k : wrongForm ≡ noTable 0 = cc in ap (λ (g : Refusal). g .number) k) in absurd (omega (arith, z))
 
-module _ (plant buf : List ℕ) where
-  -- 9 exactly where the plant is good and no table at all is accepted
-  pub maker-nine : (makerLeft plant buf .answer ≡ Written.Refused (noTable 0))
-      ↔ ((p : Plant) × (plantJudged plant ≡ good p) × ((table : List ℕ) → checked plant table ≡ Verdict.Accepted → ⊥))
+    go : (j : Judged Plant) → plantJudged plant ≡ j → onPlant j bad (λ p. byForm p form (knownForm form)) ≡ bad (noTable 0)
+        → (p : Plant) × (plantJudged plant ≡ good p) × (knownForm form ≡ true)
+    go (bad e) q a = let z : e .number ≡ 9 = cc in absurd (not-told (plant-told plant e q) 9 refl z)
+    go (good p) q a = (p, q, of p (knownForm form) a)
+
+module _ (plant : List ℕ) (form : ℕ) (buf : List ℕ) where
+  -- 9 exactly where the plant is good, the form is known and no table at all of that form is accepted
+  pub maker-nine : (makerLeft plant form buf .answer ≡ Written.Refused (noTable 0))
+      ↔ ((p : Plant) × (plantJudged plant ≡ good p) × (knownForm form ≡ true) × ((table : List ℕ) → formOf table ≡ form → checked plant table ≡ Verdict.Accepted → ⊥))
   unfolding T.makerLeft
   maker-nine =
-      let w = nine-answered buf 0 (made plant) in (
-        λ a. let q = w .0 a in let j = nine-judged plant q in (j .0, j .1, nine-exactly plant (j .0) (j .1) .0 q),
-        λ h. w .1 (nine-exactly plant (h .0) (h .1) .1 (h .2)),
+      let w = nine-answered buf 0 (made plant form) in (
+        λ a. let q = w .0 a in let j = nine-judged plant form q in (j .0, j .1, j .2, nine-exactly plant (j .0) (j .1) form (j .2) .0 q),
+        λ h. w .1 (nine-exactly plant (h .0) (h .1) form (h .2) .1 (h .3)),
       )
 
-  -- 10 exactly where there is a table, and the buffer is shorter
-  pub maker-ten : (makerLeft plant buf .answer ≡ Written.Refused short) ↔ ((bytes : List ℕ) × (made plant ≡ good bytes) × (length buf < length bytes))
+  -- 2 at 0 where the plant is good and the form is not known
+  pub maker-two : (p : Plant) → plantJudged plant ≡ good p → knownForm form ≡ false → makerLeft plant form buf .answer ≡ Written.Refused wrongForm
   unfolding T.makerLeft
-  maker-ten = ten-answered buf (made plant) (λ f q. not-told (made-told plant f q) 10 refl)
+  maker-two p e other = rw (made-unknown plant p e form other) refl
+
+  -- 10 exactly where there is a table, and the buffer is shorter
+  pub maker-ten : (makerLeft plant form buf .answer ≡ Written.Refused short) ↔ ((bytes : List ℕ) × (made plant form ≡ good bytes) × (length buf < length bytes))
+  unfolding T.makerLeft
+  maker-ten = ten-answered buf (made plant form) (λ f q. not-told (made-told plant form f q) 10 refl)
 
   -- and where there is one that fits, it is written in front, and the rest of the buffer is as it was
-  pub maker-writes : (bytes : List ℕ) → made plant ≡ good bytes → length bytes ≤ length buf → makerLeft plant buf ≡ wrote bytes buf
+  pub maker-writes : (bytes : List ℕ) → made plant form ≡ good bytes → length bytes ≤ length buf → makerLeft plant form buf ≡ wrote bytes buf
   unfolding T.makerLeft
   maker-writes bytes a l = rw a (left-fits bytes buf l)
 
   -- a length is answered exactly then, and is the table's
-  pub maker-length : (m : ℕ) → (makerLeft plant buf .answer ≡ Written.Length m)
-      ↔ ((bytes : List ℕ) × (made plant ≡ good bytes) × (length bytes ≤ length buf) × (m ≡ length bytes))
+  pub maker-length : (m : ℕ) → (makerLeft plant form buf .answer ≡ Written.Length m)
+      ↔ ((bytes : List ℕ) × (made plant form ≡ good bytes) × (length bytes ≤ length buf) × (m ≡ length bytes))
   unfolding T.makerLeft
-  maker-length = length-answered buf (made plant)
+  maker-length = length-answered buf (made plant form)
 
-  -- a buffer of 54,615 bytes is long enough for any
-  pub maker-fits : 54_615 ≤ length buf → makerLeft plant buf .answer ≡ Written.Refused short → ⊥
-  maker-fits l a = let w = maker-ten .0 a in omega (arith, w .2, L.at-most plant (w .0) (made-accepted plant (w .0) (w .1)))
+  -- a buffer of 57,345 bytes is long enough for any
+  pub maker-fits : 57_345 ≤ length buf → makerLeft plant form buf .answer ≡ Written.Refused short → ⊥
+  maker-fits l a = let w = maker-ten .0 a in omega (arith, w .2, L.at-most plant (w .0) (made-accepted plant form (w .0) (w .1) .0))
+
+  -- and of form 1 one of so many is
+  pub maker-fits-one : form ≡ 1 → 54_615 ≤ length buf → makerLeft plant form buf .answer ≡ Written.Refused short → ⊥
+  maker-fits-one one l a =
+      let w = maker-ten .0 a in
+      let m = made-accepted plant form (w .0) (w .1) in
+      omega (arith, w .2, L.at-most-one plant (w .0) (m .0) (m .1 ∙ one))

@@ -26,7 +26,7 @@ use Rattle.meaning.specs.Plants.{Plant, plantJudged}
 use Rattle.meaning.specs.Refusals.{answerShown}
 use Rattle.meaning.specs.Rules.{Rules, holds}
 use Rattle.meaning.specs.Tables as T
-use Rattle.meaning.specs.Tables.{rulesOf, onPlant, controlled}
+use Rattle.meaning.specs.Tables.{formOf, rulesOf, onPlant, controlled}
 use Rattle.meaning.specs.Trees as Y
 use Rattle.meaning.specs.Verdicts.{modesAt, header}
 use Rattle.promises.specs.files.Judged.{judged-sound}
@@ -34,6 +34,7 @@ use Rattle.promises.specs.tables.Laws.{Sizes}
 use Rattle.promises.specs.tables.Layouts.{ModesStand, modes-stand, first-read}
 use Rattle.promises.specs.tables.Local.{find-reach}
 use Rattle.promises.specs.tables.PlantRules.{judged-sizes}
+use Rattle.promises.specs.tables.TableForms.{form-known}
 use Rattle.promises.specs.tables.Walking.{walk-went}
 
 -- whether u is one of the plant's N modes, 0..N−1: none where the plant is refused
@@ -108,7 +109,7 @@ module _ {u : ℕ} {then : State} where
     pub call-below : (st : State) (x : r .Reading) → call r s st x ≡ Answer.Mode u then → u < r .N
     unfolding C.call
     call-below st x e =
-        let w = walk-went (header (r .n) s) Answer.Refused (λ at. stateCall r s at (st .place) (st .left) x) (λ _. refused-mode) e in
+        let w = walk-went (header (r .form) (r .n) s) Answer.Refused (λ at. stateCall r s at (st .place) (st .left) x) (λ _. refused-mode) e in
         state-below (w .0) x (st .place) (st .left) (w .2)
 
   -- of every plant, table, state and reading
@@ -117,10 +118,10 @@ module _ {u : ℕ} {then : State} where
   unfolding T.controlled
   answered-mode plant table st x = go (plantJudged plant) refl
     where
-      go : (j : Judged Plant) → plantJudged plant ≡ j → onPlant j Answer.Refused (λ p. call (rulesOf p) table st x) ≡ Answer.Mode u then
+      go : (j : Judged Plant) → plantJudged plant ≡ j → onPlant j Answer.Refused (λ p. call (rulesOf (formOf table) p) table st x) ≡ Answer.Mode u then
           → (p : Plant) × (plantJudged plant ≡ good p) × (u < p .modes)
       go (bad f) q e = absurd (refused-mode e)
-      go (good p) q e = (p, q, call-below (rulesOf p) (judged-sizes plant p q) table st x e)
+      go (good p) q e = (p, q, call-below (rulesOf (formOf table) p) (judged-sizes plant p q (formOf table) (form-known table)) table st x e)
 
   -- the same, as a test on the plant's bytes
   pub answered-is-mode : (plant table : List ℕ) (st : State) (x : List ℤ) → controlled plant table st x ≡ Answer.Mode u then → isMode plant u ≡ true

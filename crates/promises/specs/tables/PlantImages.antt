@@ -17,17 +17,18 @@ use Rattle.laws.specs.Lists.{at, tab, all}
 use Rattle.laws.specs.Tabs.{length-tab, getD-tab, map-tab}
 use Rattle.laws.specs.Tests.{never, first, second, both, orders}
 use Rattle.meaning.specs.Boxes as B
-use Rattle.meaning.specs.Boxes.{Side, side, sideAt, has, fits, covers, lies, within, children}
+use Rattle.meaning.specs.Boxes.{Side, side, sideAt, has, fits, covers, lies, within}
 use Rattle.meaning.specs.Files.{good}
 use Rattle.meaning.specs.Images as I
 use Rattle.meaning.specs.Images.{Row, Step, reached, reachedAll, imageSide}
 use Rattle.meaning.specs.Plants.{Plant, plantJudged, rootOf, rowOf, stepOf}
 use Rattle.meaning.specs.Rules.{holds}
-use Rattle.meaning.specs.Tables.{rulesOf}
+use Rattle.meaning.specs.Tables.{childrenBy, rulesOf}
 use Rattle.meaning.specs.Trees as Y
 use Rattle.meaning.specs.Trees.{below}
 use Rattle.promises.specs.tables.Boxes.{Nonempty, points, points-fit}
-use Rattle.promises.specs.tables.Children.{Child, children-are}
+use Rattle.promises.specs.tables.Children.{Child}
+use Rattle.promises.specs.tables.Halving.{children-by-are}
 use Rattle.promises.specs.tables.Images.{image-holds}
 use Rattle.promises.specs.files.Judged.{judged-sound}
 use Rattle.promises.specs.tables.Patterns as T
@@ -48,22 +49,22 @@ sideIn b i = getD b i (side (pos 0) (pos 0))
 -- some reading of the box may be followed in mode u by one that has count y in dimension i
 pub record CanFollow (p : Plant) (u : ℕ) (b : List Side) (i : ℕ) (y : ℤ) : Type 0 where
   pub point : List ℤ
-  pub held : holds (rulesOf p) b point ≡ true
+  pub held : holds (rulesOf 1 p) b point ≡ true
   pub reading : List ℤ
-  pub follows : rulesOf p .follows u point reading ≡ true
+  pub follows : rulesOf 1 p .follows u point reading ≡ true
   pub count : at reading i ≡ y
 
 -- the image of a box in mode u: no side is empty, and each edge is reached from the box
 pub record ImageReached (p : Plant) (u : ℕ) (b : List Side) : Type 0 where
-  pub boxed : Boxed (p .n) (rulesOf p .image u b)
-  pub low : (i : ℕ) → i < p .n → CanFollow p u b i (sideIn (rulesOf p .image u b) i .lo)
-  pub high : (i : ℕ) → i < p .n → CanFollow p u b i (sideIn (rulesOf p .image u b) i .hi)
+  pub boxed : Boxed (p .n) (rulesOf 1 p .image u b)
+  pub low : (i : ℕ) → i < p .n → CanFollow p u b i (sideIn (rulesOf 1 p .image u b) i .lo)
+  pub high : (i : ℕ) → i < p .n → CanFollow p u b i (sideIn (rulesOf 1 p .image u b) i .hi)
 
 -- the successive images of a box along a pattern, each reached from the one before
 pub data Along (p : Plant) : List Side → List ℕ → List (List Side) → Type 0 where
   done : {b : List Side} → Along p b [] []
   goes : {b : List Side} {u : ℕ} {us : List ℕ} {cs : List (List Side)}
-      → ImageReached p u b → Along p (rulesOf p .image u b) us cs → Along p b (u ∷ us) (rulesOf p .image u b ∷ cs)
+      → ImageReached p u b → Along p (rulesOf 1 p .image u b) us cs → Along p b (u ∷ us) (rulesOf 1 p .image u b ∷ cs)
 
 -- ---- one dimension
 
@@ -110,14 +111,14 @@ module _ (p : Plant) (s : Sound p) (u : ℕ) (m : u < p .modes) (b : List Side) 
   abbrev sideBy : ℕ → Side
   sideBy i = imageSide (p .q) b (rowOf p u i)
 
-  image-sides : rulesOf p .image u b ≡ tab sideBy (p .n) 0
+  image-sides : rulesOf 1 p .image u b ≡ tab sideBy (p .n) 0
   unfolding I.image
   image-sides = map-tab (imageSide (p .q) b) (rowOf p u) (p .n) 0
 
-  image-side : (i : ℕ) → i < p .n → sideIn (rulesOf p .image u b) i ≡ sideBy i
+  image-side : (i : ℕ) → i < p .n → sideIn (rulesOf 1 p .image u b) i ≡ sideBy i
   image-side i l = rw image-sides (getD-tab sideBy (side (pos 0) (pos 0)) (p .n) 0 i l ∙ rw zero-add refl)
 
-  image-boxed : Boxed (p .n) (rulesOf p .image u b)
+  image-boxed : Boxed (p .n) (rulesOf 1 p .image u b)
   image-boxed = rw image-sides (record {
     sides = length-tab sideBy (p .n) 0;
     filled = every-tab (λ t. t .lo ≤ℤ t .hi) sideBy (p .n) 0 (λ i a c. side-filled (p .q) b (rowOf p u i) (s .ranges .q-low) (s .wide u i m (omega arith)) (h .filled));
@@ -142,15 +143,16 @@ module _ (p : Plant) (s : Sound p) (u : ℕ) (m : u < p .modes) (b : List Side) 
       edges : (i : ℕ) → i < p .n → Reached (p .q) b (rowOf p u i) (sideBy i .lo) × Reached (p .q) b (rowOf p u i) (sideBy i .hi)
       edges i l = edges-reached (p .q) b (rowOf p u i) (s .ranges .q-low) (s .wide u i m l) (h .filled)
 
-sound-along : (p : Plant) → Sound p → (us : List ℕ) → below (p .modes) us → (b : List Side) → Boxed (p .n) b → Along p b us (images (rulesOf p) b us)
+sound-along : (form : ℕ) (p : Plant) → Sound p → (us : List ℕ) → below (p .modes) us → (b : List Side) → Boxed (p .n) b → Along p b us (images (rulesOf form p) b us)
 unfolding T.images Y.below
-sound-along p s [] m b h = done
-sound-along p s (u ∷ us) m b h = let k = sound-reached p s u (m .0) b h in goes k (sound-along p s us (m .1) (rulesOf p .image u b) (k .boxed))
+sound-along form p s [] m b h = done
+sound-along form p s (u ∷ us) m b h = let k = sound-reached p s u (m .0) b h in goes k (sound-along form p s us (m .1) (rulesOf 1 p .image u b) (k .boxed))
 
 -- ---- where such boxes come from: R, and the children of one
 
-pub children-boxed : (n : ℕ) (b : List Side) → Boxed n b → Every (Boxed n) (children b)
-children-boxed n b h = every-map (Child b) (Boxed n) (λ c k. record { sides = within-size c b (k .inside) ∙ h .sides; filled = k .filled (h .filled) }) (children b) (children-are b)
+pub children-boxed : (form n : ℕ) (b : List Side) → Boxed n b → Every (Boxed n) (childrenBy form b)
+children-boxed form n b h =
+    every-map (Child b) (Boxed n) (λ c k. record { sides = within-size c b (k .inside) ∙ h .sides; filled = k .filled (h .filled) }) (childrenBy form b) (children-by-are form b)
 
 -- ---- S3, of a plant that was judged good
 
@@ -165,6 +167,6 @@ module _ (plant : List ℕ) (p : Plant) (e : plantJudged plant ≡ good p) where
   pub image-reached : (u : ℕ) → u < p .modes → (b : List Side) → Boxed (p .n) b → ImageReached p u b
   image-reached = sound-reached p (judged-sound plant p e)
 
-  -- and along every pattern
-  pub images-reached : (us : List ℕ) → below (p .modes) us → (b : List Side) → Boxed (p .n) b → Along p b us (images (rulesOf p) b us)
-  images-reached = sound-along p (judged-sound plant p e)
+  -- and along every pattern, whatever the table's form
+  pub images-reached : (form : ℕ) (us : List ℕ) → below (p .modes) us → (b : List Side) → Boxed (p .n) b → Along p b us (images (rulesOf form p) b us)
+  images-reached form = sound-along form p (judged-sound plant p e)

@@ -1,8 +1,9 @@
--- Document 01's rules of a plant that was judged good: its numbers meet what page Laws asks of numbers, and a table's header takes two bytes; and the
+-- Document 01's rules of a plant that was judged good, of each known form: its numbers meet what page Laws asks of numbers, and a table's header takes two bytes; and the
 -- answers about tables over bytes are those of its rules. How a plant was judged is told by its reader's verdict; a bad one is told first. That they split well and that their patterns keep their word is page PlantMotion.
 -- Relies on the ranges of page Sound.
 use Prim.Native.Nat.{ℕ, _+_}
 use mathlib.Core.Path.{_≡_, refl, ap}
+use mathlib.Core.Bool.{true, false}
 use mathlib.Core.List.{List, _++_}
 use native.Mathlib.Omega.{arith}
 use lib.ListN.{length, length-append}
@@ -19,43 +20,45 @@ use Rattle.meaning.specs.Control.{call}
 use Rattle.meaning.specs.Defined.{definedTree}
 use Rattle.meaning.specs.Files.{Judged, good, bad}
 use Rattle.meaning.specs.Numbers.{bytesOf}
+use Rattle.meaning.specs.Refusals.{wrongForm}
 use Rattle.meaning.specs.Plants.{Plant, rootOf, plantJudged, outlineOf, readOf}
 use Rattle.meaning.specs.Tables as T
-use Rattle.meaning.specs.Tables.{tableRules, rulesOf, checked, definedTable, made, controlled}
+use Rattle.meaning.specs.Tables.{knownForm, formOf, tableRules, rulesOf, checked, definedTable, made, controlled}
 use Rattle.meaning.specs.Trees.{Tree, layout, tableOf}
 use Rattle.meaning.specs.Verdicts.{verdict}
 use Rattle.promises.specs.files.Bytes.{one-byte}
 use Rattle.promises.specs.files.Judged.{judged-sound}
 use Rattle.promises.specs.tables.Laws.{Sizes}
 use Rattle.promises.specs.tables.Layouts.{headed}
+use Rattle.promises.specs.tables.TableForms.{form-small, form-byte}
 use Rattle.promises.specs.files.Sound.{Sound}
 
-module _ (p : Plant) (s : Sound p) where
-  -- n is at most 4, K at most 6, N at most 256: numbers of five bytes hold them, whatever is tiled and wherever patterns end
-  pub sizes-over : (root goal : List Side) → Sizes (tableRules p root goal)
-  sizes-over root goal = record { dimensions = omega (arith, s .ranges .n-high); nodes = omega (arith, s .ranges .k-high); modes = omega (arith, s .ranges .m-high) }
+module _ (form : ℕ) (known : knownForm form ≡ true) (p : Plant) (s : Sound p) where
+  -- the form is 1 or 3, n at most 4, K at most 6, N at most 256: numbers of five bytes hold them, whatever is tiled and wherever patterns end
+  pub sizes-over : (root goal : List Side) → Sizes (tableRules form p root goal)
+  sizes-over root goal = record { forms = omega (arith, form-small form known); dimensions = omega (arith, s .ranges .n-high); nodes = omega (arith, s .ranges .k-high); modes = omega (arith, s .ranges .m-high) }
 
-  pub sizes : Sizes (rulesOf p)
+  pub sizes : Sizes (rulesOf form p)
   sizes = sizes-over (rootOf p) (rootOf p)
 
   -- and form and n take a byte each
-  pub header-size : headed (p .n) ≡ 2
+  pub header-size : headed form (p .n) ≡ 2
   header-size =
       omega (
         arith,
-        length-append (bytesOf 1) (bytesOf (p .n)),
-        ap length (one-byte 1 (omega arith)),
+        length-append (bytesOf form) (bytesOf (p .n)),
+        form-byte form known,
         ap length (one-byte (p .n) (omega (arith, s .ranges .n-high))),
       )
 
-  pub table-size : (t : Tree) → length (tableOf (rulesOf p) t) ≡ 2 + length (layout t)
+  pub table-size : (t : Tree) → length (tableOf (rulesOf form p) t) ≡ 2 + length (layout t)
   table-size t =
       omega (
         arith,
         header-size,
-        length-append (bytesOf 1) (bytesOf (p .n) ++ layout t),
+        length-append (bytesOf form) (bytesOf (p .n) ++ layout t),
         length-append (bytesOf (p .n)) (layout t),
-        length-append (bytesOf 1) (bytesOf (p .n)),
+        length-append (bytesOf form) (bytesOf (p .n)),
       )
 
 -- a plant that was judged good, and its outline
@@ -90,18 +93,23 @@ module _ (plant : List ℕ) (r : Refusal) (e : plantJudged plant ≡ bad r) wher
   controlled-bad table st x = rw e refl
 
 module _ (plant : List ℕ) (p : Plant) (e : plantJudged plant ≡ good p) where
-  pub judged-sizes : Sizes (rulesOf p)
-  judged-sizes = sizes p (judged-sound plant p e)
+  pub judged-sizes : (form : ℕ) → knownForm form ≡ true → Sizes (rulesOf form p)
+  judged-sizes form known = sizes form known p (judged-sound plant p e)
 
-  -- the checker's verdict, what is made, and the controller's answer
-  pub checked-as : (table : List ℕ) → checked plant table ≡ verdict (rulesOf p) table
+  -- the checker's verdict, what is made of a known form, and the controller's answer: a table's form is the one that it says
+  pub checked-as : (table : List ℕ) → checked plant table ≡ verdict (rulesOf (formOf table) p) table
   unfolding T.checked
   checked-as table = rw e refl
 
-  pub made-as : made plant ≡ definedTable 0 (rulesOf p)
+  pub made-as : (form : ℕ) → knownForm form ≡ true → made plant form ≡ definedTable 0 (rulesOf form p)
   unfolding T.made
-  made-as = rw e refl
+  made-as form known = rw (e, known) refl
 
-  pub controlled-as : (table : List ℕ) (st : State) (x : List ℤ) → controlled plant table st x ≡ call (rulesOf p) table st x
+  -- any other form is 2
+  pub made-unknown : (form : ℕ) → knownForm form ≡ false → made plant form ≡ bad wrongForm
+  unfolding T.made
+  made-unknown form other = rw (e, other) refl
+
+  pub controlled-as : (table : List ℕ) (st : State) (x : List ℤ) → controlled plant table st x ≡ call (rulesOf (formOf table) p) table st x
   unfolding T.controlled
   controlled-as table st x = rw e refl

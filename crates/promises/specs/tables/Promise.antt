@@ -15,7 +15,7 @@ use Rattle.meaning.specs.Control.{idle}
 use Rattle.meaning.specs.Files.{good}
 use Rattle.meaning.specs.Plants.{Plant, plantJudged}
 use Rattle.meaning.specs.Tables as T
-use Rattle.meaning.specs.Tables.{rulesOf, checked, controlled, startsIn, safeIn, mayFollow, gives, TableRun, TableSamples}
+use Rattle.meaning.specs.Tables.{formOf, rulesOf, checked, controlled, startsIn, safeIn, mayFollow, gives, TableRun, TableSamples}
 use Rattle.meaning.specs.Trees.{longest}
 use Rattle.promises.specs.tables.Checked.{Tiled, accepted-judged}
 use Rattle.promises.specs.tables.Demand.{Demand, demand}
@@ -24,6 +24,7 @@ use Rattle.promises.specs.tables.Modes.{isMode, answered-is-mode}
 use Rattle.promises.specs.tables.PlantMotion.{splits, motion, returns, plant-follows}
 use Rattle.promises.specs.tables.PlantRules.{sizes, checked-as}
 use Rattle.promises.specs.files.Sound.{Sound}
+use Rattle.promises.specs.tables.TableForms.{form-known}
 use Rattle.promises.specs.tables.Trips.{Repeated}
 
 -- What demand 3 says of a plant and a table whose longest pattern has so many modes. A tile is chosen where the controller is idle.
@@ -42,7 +43,7 @@ pub record Promised (plant table : List ℕ) (most : ℕ) : Type 0 where
   pub goes-on : (u : ℕ) → isMode plant u ≡ true → (x : List ℤ) → (y : List ℤ) × (mayFollow plant u x y ≡ true)
 
 -- runs over bytes are runs over the rules of the plant that was judged good
-pub promised : (plant table : List ℕ) (p : Plant) → plantJudged plant ≡ good p → (most : ℕ) → Sound p → Demand (rulesOf p) table most → Promised plant table most
+pub promised : (plant table : List ℕ) (p : Plant) → plantJudged plant ≡ good p → (most : ℕ) → Sound p → Demand (rulesOf (formOf table) p) table most → Promised plant table most
 unfolding T.controlled
 promised plant table p e most s d =
     let b : Repeated idle (λ st x u then. gives plant table st x u then) (λ u x y. mayFollow plant u x y) (λ x. safeIn plant x) (λ x. startsIn plant x) (λ x. startsIn plant x) most = rw e d in
@@ -61,5 +62,6 @@ promise plant table a =
     let p = w .0 in
     let e = w .1 in
     let s = judged-sound plant p e in
-    let d = demand (rulesOf p) (sizes p s) (splits p) (motion p s) (returns p) table (sym (checked-as plant p e table) ∙ a) in
+    let f = formOf table in
+    let d = demand (rulesOf f p) (sizes f (form-known table) p s) (splits f p) (motion f p s) (returns f p) table (sym (checked-as plant p e table) ∙ a) in
     (record { p = p; judged = e; tree = d .0; works = d .1; is = d .2 }, promised plant table p e (longest (d .0)) s (d .3))

@@ -1,4 +1,4 @@
--- S4, split, as a count: each reading is held by exactly one child of a box that holds it, and by none of a box that does not; so children
+-- S4, form 1's split, as a count: each reading is held by exactly one child of a box that holds it, and by none of a box that does not; so children
 -- cover their box and do not meet. What each child is by itself is page Children.
 -- Relies on meaning's page Boxes and the law of the middle. Any number of dimensions, any readings.
 use Prim.Native.Nat.{_+_, _*_}
@@ -45,7 +45,7 @@ two-halves a m b x h k = go (leZ x m) refl
         let in-a : a ≤ℤ x = omega zarith in
         simp (e, true-leZ past) (after (true-leZ in-a) (leZ x b) refl)
 
-count-halves : (s : Side) (x : ℤ) → count (λ h. has h x) (halves s) ≡ bit (has s x)
+pub count-halves : (s : Side) (x : ℤ) → count (λ h. has h x) (halves s) ≡ bit (has s x)
 unfolding C.count
 count-halves s x = go (long s) refl
   where
@@ -56,10 +56,10 @@ count-halves s x = go (long s) refl
 -- ---- by boxes
 
 module _ (x : ℤ) (xs : List ℤ) where
-  abbrev holdsAll : List Side → Bool
+  abbrev pub holdsAll : List Side → Bool
   holdsAll b = all (fits b (x ∷ xs))
 
-  count-heads : (hs c : List Side) → count holdsAll (map (λ h. h ∷ c) hs) ≡ count (λ h. has h x) hs * bit (all (fits c xs))
+  pub count-heads : (hs c : List Side) → count holdsAll (map (λ h. h ∷ c) hs) ≡ count (λ h. has h x) hs * bit (all (fits c xs))
   unfolding C.count B.fits L.all
   count-heads [] c = sym (zero-mul (bit (all (fits c xs))))
   count-heads (h ∷ hs) c = rw (bit-and (has h x) (all (fits c xs)), count-heads hs c) (sym (add-mul (bit (has h x)) (count (λ h. has h x) hs) (bit (all (fits c xs)))))

@@ -12,18 +12,18 @@ use Rattle.meaning.specs.declared.Walk.{Walk}
 use Rattle.meaning.specs.declared.Found.{Found}
 use Rattle.meaning.specs.declared.State.{State}
 use Rattle.meaning.specs.declared.Answer.{Answer}
-use Rattle.meaning.specs.Boxes.{Side, children}
+use Rattle.meaning.specs.Boxes.{Side}
 use Rattle.meaning.specs.Control.{tileFound, among, onFound, find, inside, stateCall, call}
 use Rattle.meaning.specs.Images.{Step}
 use Rattle.meaning.specs.Refusals.{badTable, badState}
 use Rattle.meaning.specs.Rules.{Rules, holds}
-use Rattle.meaning.specs.Tables.{rulesFrom}
+use Rattle.meaning.specs.Tables.{childrenBy, depthBy, rulesFrom}
 use Rattle.meaning.specs.Verdicts.{onWalk, onModes, each, splitAt, modesAt, nodeAt, walk, header}
 
 -- two plants that differ at most in what their modes do
-module _ (n N K D : ℕ) (root goal safe : List Side) (step step′ : ℕ → Step) where
+module _ (form n N K D : ℕ) (root goal safe : List Side) (step step′ : ℕ → Step) where
   abbrev by : (ℕ → Step) → Rules
-  by t = rulesFrom n N K D root goal safe t
+  by t = rulesFrom form n N K D root goal safe t
 
   -- a walk with the same judge
   pub walk-same : (judge : List Side → List ℕ → Tried) (d : ℕ) (s : List ℕ) (at : ℕ) (b : List Side) → walk (by step) judge d s at b ≡ walk (by step′) judge d s at b
@@ -33,7 +33,7 @@ module _ (n N K D : ℕ) (root goal safe : List Side) (step step′ : ℕ → St
     where
       node : (ℕ → List Side → Walk) → Walk
       node one = nodeAt K s at Walk.Refused
-          (λ next. splitAt (children b) (Walk.Refused (badTable at)) λ cs. each one cs next)
+          (λ next. splitAt (childrenBy form b) (Walk.Refused (badTable at)) λ cs. each one cs next)
           (λ k next. onModes (modesAt N k s next) at (judge b))
 
   -- the tile that holds a reading
@@ -49,15 +49,15 @@ module _ (n N K D : ℕ) (root goal safe : List Side) (step step′ : ℕ → St
 
       node : (ℕ → List Side → Found) → (ℕ → List Side → Walk) → Found
       node enter over = nodeAt K s at Found.Refused
-          (λ next. splitAt (children b) (Found.Refused (badTable at)) λ cs. among (λ c. holds (by step) c x) enter over at cs next)
+          (λ next. splitAt (childrenBy form b) (Found.Refused (badTable at)) λ cs. among (λ c. holds (by step) c x) enter over at cs next)
           (λ k next. tileFound (modesAt N k s next) next k)
 
   state-same : (s : List ℕ) (at place left : ℕ) (x : List ℤ) → stateCall (by step) s at place left x ≡ stateCall (by step′) s at place left x
   state-same s at place zero x =
-      ap (λ (o : Found). guard (eqb place 0) (Answer.Refused badState) λ _. inside (by step) root x λ _. onFound s o) (find-same D s at root x)
+      ap (λ (o : Found). guard (eqb place 0) (Answer.Refused badState) λ _. inside (by step) root x λ _. onFound s o) (find-same (depthBy form n D) s at root x)
   state-same s at place (suc m) x = refl
 
   -- the controller's call
   pub call-same : (s : List ℕ) (st : State) (x : List ℤ) → call (by step) s st x ≡ call (by step′) s st x
   unfolding call
-  call-same s st x = ap (λ (rest : ℕ → Answer). onWalk (header n s) Answer.Refused rest) (fun-ext (λ at. state-same s at (st .place) (st .left) x))
+  call-same s st x = ap (λ (rest : ℕ → Answer). onWalk (header form n s) Answer.Refused rest) (fun-ext (λ at. state-same s at (st .place) (st .left) x))

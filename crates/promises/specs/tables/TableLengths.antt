@@ -1,9 +1,11 @@
--- How long a table may be (document 01, "Table file": at most 30,039 bytes, which holds while N ≤ 128; request 2026-08: at most 54,615). A tree of depth d
--- whose splits have at most c children and whose tiles have at most m bytes has at most c^d tiles, and one byte for each split above them; a plant has c = 2^n,
--- m = 7, or 13 where modes may take two bytes, and n·D ≤ 12, and the header two bytes. Relies on pages Accept and Children. That 30,039 is reached is page
--- LongestTable; that 54,615 is, is tested.
-use Prim.Native.Nat.{ℕ, zero, suc, _+_, _-_, _*_, _^_, _≤_}
-use mathlib.Core.Path.{_≡_, refl, sym, ap, _∙_}
+-- How long a table may be (document 01, "Table file": at most 30,039 bytes, which holds while N ≤ 128; request 2026-08: at most 54,615; request 2026-06, of
+-- form 3: at most 32,769 and 57,345). A tree of depth d
+-- whose splits have at most c children and whose tiles have at most m bytes has at most c^d tiles (page TileCounts), and one byte for each split above them; a plant has c = 2^n
+-- and depth D, in form 3 c = 2 and depth n·D,
+-- m = 7, or 13 where modes may take two bytes, and n·D ≤ 12, and the header two bytes. Relies on pages Accept, Children and Halving. That 30,039 and 32,769 are reached is page
+-- LongestTable; that 54,615 and 57,345 are, is tested.
+use Prim.Native.Nat.{ℕ, zero, suc, _+_, _-_, _*_, _^_, _≤_, _<_}
+use mathlib.Core.Path.{_≡_, refl, sym, ap, subst, _∙_}
 use mathlib.Core.Bool.{Bool, true, false, cond}
 use mathlib.Core.List.{List, [], _∷_, _++_, map}
 use native.Mathlib.Omega.{arith}
@@ -11,7 +13,8 @@ use native.Mathlib.Nat.{mul-le-mul, le-refl, lt-of-lt-of-le, one-le-pow}
 use borrow.Author.Tests.{le-leb, leb-true}
 use lib.Dec.{leb}
 use lib.ListN.{length, length-append, length-map}
-use lib.IntN.{pos, _+ℤ_}
+use lib.IntN.{ℤ, pos, _+ℤ_}
+use lib.Signed.{leZ}
 use Rattle.laws.specs.Every as E
 use Rattle.laws.specs.Every.{Every, every-map}
 use Rattle.laws.specs.Lists as L
@@ -20,7 +23,7 @@ use Rattle.laws.specs.Tabs.{length-tab}
 use Rattle.laws.specs.Tests.{never, second}
 use Rattle.meaning.specs.declared.Verdict.{Verdict}
 use Rattle.meaning.specs.Boxes as B
-use Rattle.meaning.specs.Boxes.{Side, side, sideAt, covers, lies, within, long, middle, halves, inFront, pieces, anyLong, children}
+use Rattle.meaning.specs.Boxes.{Side, side, sideAt, covers, lies, within, long, middle, halves, inFront, pieces, anyLong, children, reach, furthest, halved, longestHalved}
 use Rattle.meaning.specs.Images.{Step}
 use Rattle.meaning.specs.Numbers.{bytesOf}
 use Rattle.meaning.specs.Files.{good}
@@ -28,17 +31,19 @@ use Rattle.meaning.specs.Plants.{Plant, plantJudged, rootOf, safeOf, stepOf}
 use Rattle.meaning.specs.Rules.{Rules, rule}
 use Rattle.meaning.specs.Trees as T
 use Rattle.meaning.specs.Trees.{Tree, Forest, split, tile, leaf, more, modesBytes, layout, layouts, below, tableOf, Over, Overs}
-use Rattle.meaning.specs.Tables.{rulesFrom, tableRules, rulesOf, checked}
+use Rattle.meaning.specs.Tables.{oneSide, knownForm, childrenBy, depthBy, formOf, rulesFrom, tableRules, rulesOf, checked}
 use Rattle.meaning.specs.Verdicts.{verdict}
 use Rattle.promises.specs.files.Bytes.{one-byte}
 use Rattle.promises.specs.files.Lengths.{short}
 use Rattle.promises.specs.tables.Accept.{accepted-exactly}
 use Rattle.promises.specs.tables.Checked.{accepted-judged}
-use Rattle.promises.specs.tables.Children.{Child, children-are}
+use Rattle.promises.specs.tables.Children.{Child}
+use Rattle.promises.specs.tables.Halving.{children-by-are}
 use Rattle.promises.specs.files.Judged.{judged-sound}
 use Rattle.promises.specs.tables.PlantRules.{sizes-over, checked-as}
 use Rattle.promises.specs.tables.Shapes.{Good, Working, over-map}
 use Rattle.promises.specs.files.Sound.{Sound}
+use Rattle.promises.specs.tables.TableForms.{form-small, form-known}
 
 -- the most bytes of a tree of depth d
 unfoldable pub most : ℕ → ℕ → ℕ → ℕ
@@ -123,14 +128,49 @@ children-few b = go (anyLong b)
     go true = pieces-few b
     go false = omega arith
 
-within-size : (a b : List Side) → within a b ≡ true → length a ≡ length b
+pub within-size : (a b : List Side) → within a b ≡ true → length a ≡ length b
 unfolding B.lies L.all
 within-size [] [] e = refl
 within-size [] (t ∷ b) e = never e
 within-size (s ∷ a) [] e = never e
 within-size (s ∷ a) (t ∷ b) e = ap suc (within-size a b (second (covers t s) (all (lies a b)) e))
 
--- ---- document 01's rules, whatever is tiled and wherever patterns end
+halves-alone : (far : ℤ) (b : List Side) → length (halved far b) ≤ 2
+unfolding B.halved
+halves-alone far [] = omega arith
+halves-alone far (s ∷ b) = go (leZ far (reach s)) (halves-alone far b)
+  where
+    go : (t : Bool) → length (halved far b) ≤ 2 → length (cond t (map (λ h. h ∷ b) (halves s)) (map (λ c. s ∷ c) (halved far b))) ≤ 2
+    go true l = omega (arith, length-map (halves s) (λ h. h ∷ b), halves-few s)
+    go false l = omega (arith, length-map (halved far b) (λ c. s ∷ c))
+
+longest-few : (b : List Side) → length (longestHalved b) ≤ 2
+unfolding B.longestHalved
+longest-few b = go (anyLong b)
+  where
+    go : (t : Bool) → length (cond t (halved (furthest b) b) []) ≤ 2
+    go true = halves-alone (furthest b) b
+    go false = omega arith
+
+-- the most children of a box of n sides, by the form
+abbrev pub childrenMost : ℕ → ℕ → ℕ
+childrenMost form n = cond (oneSide form) 2 (2 ^ n)
+
+pub most-some : (form n : ℕ) → 1 ≤ childrenMost form n
+most-some form n = go (oneSide form)
+  where
+    go : (t : Bool) → 1 ≤ cond t 2 (2 ^ n)
+    go true = omega arith
+    go false = one-le-pow n 2 (omega arith)
+
+pub by-few : (form : ℕ) (b : List Side) → length (childrenBy form b) ≤ childrenMost form (length b)
+by-few form b = go (oneSide form)
+  where
+    go : (t : Bool) → length (cond t (longestHalved b) (children b)) ≤ cond t 2 (2 ^ length b)
+    go true = longest-few b
+    go false = children-few b
+
+-- ---- document 01's rules, of a form of one byte, whatever is tiled and wherever patterns end
 
 -- modes below 2^(7·(c + 1)) take c + 1 bytes each at the most
 modes-length : (c N : ℕ) (us : List ℕ) → N ≤ 2 ^ (7 * suc c) → below N us → length (modesBytes us) ≤ length us * suc c
@@ -145,9 +185,9 @@ modes-length c N (u ∷ us) l h =
 abbrev pub tileBytes : ℕ → ℕ
 tileBytes N = cond (leb N 128) 7 13
 
-module _ (n N K D : ℕ) (root goal safe : List Side) (step : ℕ → Step) (rooms : n ≤ 4) (modes : N ≤ 256) (longest : K ≤ 6) (sides : length root ≡ n) where
+module _ (form n N K D : ℕ) (root goal safe : List Side) (step : ℕ → Step) (small : form < 128) (rooms : n ≤ 4) (modes : N ≤ 256) (longest : K ≤ 6) (sides : length root ≡ n) where
   abbrev rules : Rules
-  rules = rulesFrom n N K D root goal safe step
+  rules = rulesFrom form n N K D root goal safe step
 
   abbrev Sided : List Side → Type 0
   Sided b = length b ≡ n
@@ -166,19 +206,19 @@ module _ (n N K D : ℕ) (root goal safe : List Side) (step : ℕ → Step) (roo
       go false e = omega (arith, few, tile-length, modes-length 1 N us (omega (arith, modes)) (g .shape .modes))
 
   -- the header has two bytes
-  pub table-length : (t : Tree) → Working rules t → length (tableOf rules t) ≤ 2 + most (2 ^ n) (tileBytes N) D
+  pub table-length : (t : Tree) → Working rules t → length (tableOf rules t) ≤ 2 + most (childrenMost form n) (tileBytes N) (depthBy form n D)
   table-length t o =
-      let brief-all = over-map rules (Good rules (rule rules)) (λ b us. length (bytesOf (length us) ++ modesBytes us) ≤ tileBytes N) brief t D root o in
-      let tree = tree-length rules (2 ^ n) (tileBytes N) (one-le-pow n 2 (omega arith)) Sided
-      (λ b z. let q : length b ≡ n = z in rw (← q) (children-few b))
-      (λ b z. every-map (Child b) Sided (λ a k. within-size a b (k .inside) ∙ z) (children b) (children-are b))
-      t D root sides brief-all in
+      let brief-all = over-map rules (Good rules (rule rules)) (λ b us. length (bytesOf (length us) ++ modesBytes us) ≤ tileBytes N) brief t (depthBy form n D) root o in
+      let tree = tree-length rules (childrenMost form n) (tileBytes N) (most-some form n) Sided
+      (λ b z. let q : length b ≡ n = z in rw (← q) (by-few form b))
+      (λ b z. every-map (Child b) Sided (λ a k. within-size a b (k .inside) ∙ z) (childrenBy form b) (children-by-are form b))
+      t (depthBy form n D) root sides brief-all in
       omega (
         arith,
         tree,
-        length-append (bytesOf 1) (bytesOf n ++ layout t),
+        length-append (bytesOf form) (bytesOf n ++ layout t),
         length-append (bytesOf n) (layout t),
-        ap length (one-byte 1 (omega arith)),
+        ap length (one-byte form small),
         ap length (one-byte n (omega arith)),
       )
 
@@ -202,7 +242,42 @@ cap-few m (suc (suc (suc zero))) d l h e = omega (arith, most-grows 8 m (omega a
 cap-few m (suc (suc (suc (suc zero)))) d l h e = omega (arith, most-grows 16 m (omega arith) d 1 (omega arith))
 cap-few m (suc (suc (suc (suc (suc n))))) d l h e = absurd (omega arith)
 
--- ---- the bound of a plant: an accepted table has at most 54,615 bytes, and at most 30,039 while N ≤ 128
+-- form 3: n·D ≤ 12 halvings have at most 4,096 tiles and 4,095 splits
+pub cap-halving : (m h : ℕ) → h ≤ 12 → most 2 m h ≤ 4096 * m + 4095
+unfolding most
+cap-halving m h l = omega (arith, most-grows 2 m (omega arith) h 12 l)
+
+pub cap-halving-few : (m h : ℕ) → h ≤ 4 → most 2 m h ≤ 16 * m + 15
+unfolding most
+cap-halving-few m h l = omega (arith, most-grows 2 m (omega arith) h 4 l)
+
+-- ---- the bound of a plant: an accepted table has at most 54,615 bytes, or 57,345 in form 3, and while N ≤ 128 at most 30,039, or 32,769 in form 3
+
+-- the splits of 4,096 tiles, by the form
+abbrev pub splitsMost : ℕ → ℕ
+splitsMost form = cond (oneSide form) 4095 1365
+
+pub splits-most : (form : ℕ) → splitsMost form ≤ 4095
+splits-most form = go (oneSide form)
+  where
+    go : (t : Bool) → cond t 4095 1365 ≤ 4095
+    go true = omega arith
+    go false = omega arith
+
+pub cap-by : (form m n d : ℕ) → 1 ≤ n → n ≤ 4 → d ≤ 6 → n * d ≤ 12 → most (childrenMost form n) m (depthBy form n d) ≤ 4096 * m + splitsMost form
+cap-by form m n d l h k e = go (oneSide form)
+  where
+    go : (t : Bool) → most (cond t 2 (2 ^ n)) m (cond t (n * d) d) ≤ 4096 * m + cond t 4095 1365
+    go true = cap-halving m (n * d) e
+    go false = cap m n d l h k e
+
+-- at most sixteen tiles, in either form
+pub cap-few-by : (form m n d : ℕ) → 1 ≤ n → n ≤ 4 → n * d ≤ 4 → most (childrenMost form n) m (depthBy form n d) ≤ 16 * m + 15
+cap-few-by form m n d l h e = go (oneSide form)
+  where
+    go : (t : Bool) → most (cond t 2 (2 ^ n)) m (cond t (n * d) d) ≤ 16 * m + 15
+    go true = cap-halving-few m (n * d) e
+    go false = cap-few m n d l h e
 
 -- a tile has at most 13 bytes
 pub tile-most : (N : ℕ) → tileBytes N ≤ 13
@@ -212,32 +287,56 @@ tile-most N = go (leb N 128)
     go true = omega arith
     go false = omega arith
 
--- of a plant's table over any box of n sides, into any goal
-module _ (p : Plant) (s : Sound p) (root goal : List Side) (sides : length root ≡ p .n) (table : List ℕ) (a : verdict (tableRules p root goal) table ≡ Verdict.Accepted) where
-  pub over-most : length table ≤ 2 + most (2 ^ p .n) (tileBytes (p .modes)) (p .d)
+-- of a plant's table of a known form over any box of n sides, into any goal
+module _ (form : ℕ) (known : knownForm form ≡ true) (p : Plant) (s : Sound p) (root goal : List Side) (sides : length root ≡ p .n)
+    (table : List ℕ) (a : verdict (tableRules form p root goal) table ≡ Verdict.Accepted) where
+  pub over-most : length table ≤ 2 + most (childrenMost form (p .n)) (tileBytes (p .modes)) (depthBy form (p .n) (p .d))
   over-most =
-      let t = accepted-exactly (tableRules p root goal) (sizes-over p s root goal) table .0 a in
-      rw (t .2) (table-length (p .n) (p .modes) (p .k) (p .d) root goal (safeOf p) (stepOf p) (s .ranges .n-high) (s .ranges .m-high) (s .ranges .k-high) sides (t .0) (t .1))
+      let t = accepted-exactly (tableRules form p root goal) (sizes-over form known p s root goal) table .0 a in
+      rw (t .2) (table-length form (p .n) (p .modes) (p .k) (p .d) root goal (safeOf p) (stepOf p) (form-small form known) (s .ranges .n-high) (s .ranges .m-high) (s .ranges .k-high) sides (t .0) (t .1))
 
-  capped : most (2 ^ p .n) (tileBytes (p .modes)) (p .d) ≤ 4096 * tileBytes (p .modes) + 1365
-  capped = cap (tileBytes (p .modes)) (p .n) (p .d) (s .ranges .n-low) (s .ranges .n-high) (s .ranges .d-high) (s .ranges .nd-high)
+  capped : most (childrenMost form (p .n)) (tileBytes (p .modes)) (depthBy form (p .n) (p .d)) ≤ 4096 * tileBytes (p .modes) + splitsMost form
+  capped = cap-by form (tileBytes (p .modes)) (p .n) (p .d) (s .ranges .n-low) (s .ranges .n-high) (s .ranges .d-high) (s .ranges .nd-high)
 
-  pub over-box : length table ≤ 54_615
-  over-box = omega (arith, over-most, capped, tile-most (p .modes))
+  -- 53,250 and the splits; while N ≤ 128, 28,674 and the splits
+  pub by-splits : length table ≤ 53_250 + splitsMost form
+  by-splits = omega (arith, over-most, capped, tile-most (p .modes))
 
-  pub over-box-few : p .modes ≤ 128 → length table ≤ 30_039
-  over-box-few l = let e : tileBytes (p .modes) ≡ 7 = simp (le-leb (p .modes) 128 l) in omega (arith, over-most, capped, e)
+  pub by-splits-few : p .modes ≤ 128 → length table ≤ 28_674 + splitsMost form
+  by-splits-few l = let e : tileBytes (p .modes) ≡ 7 = simp (le-leb (p .modes) 128 l) in omega (arith, over-most, capped, e)
+
+  -- over both forms
+  pub over-box : length table ≤ 57_345
+  over-box = omega (arith, by-splits, splits-most form)
+
+  pub over-box-few : p .modes ≤ 128 → length table ≤ 32_769
+  over-box-few l = omega (arith, by-splits-few l, splits-most form)
 
 module _ (plant table : List ℕ) (a : checked plant table ≡ Verdict.Accepted) where
-  w : (p : Plant) × (plantJudged plant ≡ good p) × (verdict (rulesOf p) table ≡ Verdict.Accepted)
+  w : (p : Plant) × (plantJudged plant ≡ good p) × (verdict (rulesOf (formOf table) p) table ≡ Verdict.Accepted)
   w = let v = accepted-judged plant table a in (v .0, v .1, sym (checked-as plant (v .0) (v .1) table) ∙ a)
 
   sided : (p : Plant) → length (rootOf p) ≡ p .n
   sided p = length-tab (sideAt (p .rlo) (p .rhi)) (p .n) 0
 
-  pub at-most : length table ≤ 54_615
-  at-most = over-box (w .0) (judged-sound plant (w .0) (w .1)) (rootOf (w .0)) (rootOf (w .0)) (sided (w .0)) table (w .2)
+  bounded : length table ≤ 53_250 + splitsMost (formOf table)
+  bounded = by-splits (formOf table) (form-known table) (w .0) (judged-sound plant (w .0) (w .1)) (rootOf (w .0)) (rootOf (w .0)) (sided (w .0)) table (w .2)
 
-  -- document 01's bound, with as many modes as a byte holds
-  pub at-most-few : (p : Plant) → plantJudged plant ≡ good p → p .modes ≤ 128 → length table ≤ 30_039
-  at-most-few p e l = over-box-few p (judged-sound plant p e) (rootOf p) (rootOf p) (sided p) table (sym (checked-as plant p e table) ∙ a) l
+  bounded-few : (p : Plant) → plantJudged plant ≡ good p → p .modes ≤ 128 → length table ≤ 28_674 + splitsMost (formOf table)
+  bounded-few p e l =
+      by-splits-few (formOf table) (form-known table) p (judged-sound plant p e) (rootOf p) (rootOf p) (sided p) table (sym (checked-as plant p e table) ∙ a) l
+
+  -- whatever its form
+  pub at-most : length table ≤ 57_345
+  at-most = omega (arith, bounded, splits-most (formOf table))
+
+  pub at-most-few : (p : Plant) → plantJudged plant ≡ good p → p .modes ≤ 128 → length table ≤ 32_769
+  at-most-few p e l = omega (arith, bounded-few p e l, splits-most (formOf table))
+
+  -- of form 1: request 2026-08's bound, and document 01's, with as many modes as a byte holds
+  pub at-most-one : formOf table ≡ 1 → length table ≤ 54_615
+  at-most-one q = let k : length table ≤ 53_250 + splitsMost 1 = subst (λ (f : ℕ). length table ≤ 53_250 + splitsMost f) q bounded in omega (arith, k)
+
+  pub at-most-one-few : formOf table ≡ 1 → (p : Plant) → plantJudged plant ≡ good p → p .modes ≤ 128 → length table ≤ 30_039
+  at-most-one-few q p e l =
+      let k : length table ≤ 28_674 + splitsMost 1 = subst (λ (f : ℕ). length table ≤ 28_674 + splitsMost f) q (bounded-few p e l) in omega (arith, k)

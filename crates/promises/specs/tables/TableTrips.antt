@@ -29,7 +29,7 @@ use Rattle.promises.specs.tables.Trips as W
 use Rattle.promises.specs.tables.Trips.{Sampled, ToGo, Trip}
 
 module _ (r : Rules) where
-  open Rules r using (Reading, root, goal, safe, n, follows)
+  open Rules r using (Reading, root, goal, safe, form, n, follows)
 
   -- a call on the table s gives a mode and the next state; a trip of so many samples; so many to go
   abbrev pub Gives : List ℕ → State → Reading → ℕ → State → Type 0
@@ -44,7 +44,7 @@ module _ (r : Rules) where
   -- the tile of a tree's table that alone holds the reading, and the trip that it makes
   pub record TileTrip (t : Tree) (x : Reading) : Type 0 where
     pub the : Tile r
-    pub only : having r x (tilesOf r t root (headed n)) ≡ the ∷ []
+    pub only : having r x (tilesOf r t root (headed form n)) ≡ the ∷ []
     pub short : length (the .modes) ≤ longest t
     pub trip : TripOn (tableOf r t) (length (the .modes)) x
 
@@ -60,7 +60,7 @@ record Ready (r : Rules) (motion : Motion r) (s us : List ℕ) (place : ℕ) (x 
   lands : Lands r kept us
 
 module _ (r : Rules) (sizes : Sizes r) (splits : Splits r) (motion : Motion r) (t : Tree) (works : Working r t) where
-  open Rules r using (Box, Reading, begin, image, kept, root, goal, safe, n, D, K, N, follows)
+  open Rules r using (Box, Reading, begin, image, kept, root, goal, safe, form, n, D, K, N, follows)
 
   abbrev table : List ℕ
   table = tableOf r t
@@ -144,7 +144,7 @@ module _ (r : Rules) (sizes : Sizes r) (splits : Splits r) (motion : Motion r) (
         kept = begin (f .box);
         modes = g .shape .modes;
         few = g .shape .few;
-        far = omega (arith, f .behind, length-append (bytesOf 1) (bytesOf n), bytes-some 1, bytes-some n);
+        far = omega (arith, f .behind, length-append (bytesOf form) (bytesOf n), bytes-some form, bytes-some n);
         end = f .end;
         stand = stand-back (bytesOf (suc (length us))) (modesBytes (u ∷ us)) (f .stand);
         here = motion .at-begin (f .box) x (f .holds-it);

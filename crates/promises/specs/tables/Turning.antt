@@ -1,6 +1,6 @@
--- A plant that turns: its one mode takes each reading of R out of R and back to itself in six samples, and spreads each box of R with long sides
--- farther than R is wide. So the first pattern of a box of one reading has six modes, and a box with long sides has none. Page LongestTable makes its
--- table. Relies on pages First and Patterns; the numbers are compared over ℤ, nothing but the plant's own numbers is computed.
+-- A plant that turns: its one mode takes each reading of R out of R and back to itself in six samples, and spreads each box of R whose second
+-- side is long farther than R is wide. So the first pattern of a box of one reading has six modes, and a box whose second side is long has none, whatever the
+-- table's form. Page LongestTable makes its tables. Relies on pages First and Patterns; the numbers are compared over ℤ, nothing but the plant's own numbers is computed.
 use Prim.Native.Nat.{ℕ, zero, suc, _+_, _-_, _*_, _/_, _≤_, _<_}
 use mathlib.Core.Path.{_≡_, refl, sym, ap, _∙_}
 use mathlib.Core.Bool.{true, _&&_}
@@ -90,8 +90,9 @@ turned a b c d lo hi lo2 hi2 e f g h =
       row2 b c hi2 h,
     ) refl
 
-abbrev pub r : Rules
-r = rulesOf p
+-- its rules, of a form
+abbrev pub r : ℕ → Rules
+r form = rulesOf form p
 
 -- there is one mode
 only-mode : (u : ℕ) → u < p .modes → u ≡ 0
@@ -147,21 +148,21 @@ too-wide v w box l s e =
     omega (zarith, h, s .first-side)
 
 -- so that no pattern works from there
-never-back : (us : List ℕ) (i v w : ℕ) (box : List Side) → 64 ≤ v → Spread v w box → below (p .modes) us → ruleFrom r i box us ≡ Works → ⊥
+never-back : (form : ℕ) (us : List ℕ) (i v w : ℕ) (box : List Side) → 64 ≤ v → Spread v w box → below (p .modes) us → ruleFrom (r form) i box us ≡ Works → ⊥
 unfolding R.ruleFrom Y.below
-never-back [] i v w box l s h e = too-wide v w box l s (goal-works (within box (rootOf p)) i .0 e)
-never-back (u ∷ us) i v w box l s h e =
+never-back form [] i v w box l s h e = too-wide v w box l s (goal-works (within box (rootOf p)) i .0 e)
+never-back form (u ∷ us) i v w box l s h e =
     let q : u ≡ 0 = only-mode u (h .0) in
-    let k = safe-works (within (image (stepOf p u) box) (safeOf p)) i (λ m. ruleFrom r m (image (stepOf p u) box) us) .0 e in
-    never-back us (suc i) (4 * v + 13 * w) (v + 3 * w) (image (stepOf p 0) box) (omega arith) (spread v w box s) (h .1) (rw q at (k .1))
+    let k = safe-works (within (image (stepOf p u) box) (safeOf p)) i (λ m. ruleFrom (r form) m (image (stepOf p u) box) us) .0 e in
+    never-back form us (suc i) (4 * v + 13 * w) (v + 3 * w) (image (stepOf p 0) box) (omega arith) (spread v w box s) (h .1) (rw q at (k .1))
 
--- ---- a box of R with long sides: one mode takes it out of R, two spread it too far
+-- ---- a box of R whose second side is long: one mode takes it out of R, two spread it too far
 
-module _ (a b c d : ℕ) (long-a : a < b) (long-c : c < d) (low : 1000 ≤ c) (high : b ≤ 1063) where
+module _ (form a b c d : ℕ) (some : a ≤ b) (long : c < d) (low : 1000 ≤ c) (high : b ≤ 1063) where
   abbrev whole : List Side
   whole = side (pos a) (pos b) ∷ side (pos c) (pos d) ∷ []
 
-  whole-spread : Spread 1 1 whole
+  whole-spread : Spread 0 1 whole
   whole-spread = record { a = pos a; b = pos b; c = pos c; d = pos d; is = refl; first-side = omega arith; second-side = omega arith }
 
   -- 4·1063 < 13·1000
@@ -175,25 +176,25 @@ module _ (a b c d : ℕ) (long-a : a < b) (long-c : c < d) (low : 1000 ≤ c) (h
       let h = in-root lo hi lo2 hi2 (sym (ap (λ (k : List Side). within k (rootOf p)) q) ∙ e) in
       omega (zarith, h, row1-is (pos a) (pos d))
 
-  none-works : (us : List ℕ) → Pattern (p .k) (p .modes) us → rule r whole us ≡ Works → ⊥
+  none-works : (us : List ℕ) → Pattern (p .k) (p .modes) us → rule (r form) whole us ≡ Works → ⊥
   unfolding R.ruleFrom Y.below
   none-works [] g e = omega (arith, g .some)
   none-works (u ∷ []) g e =
       let q : u ≡ 0 = only-mode u (g .modes .0) in
-      let k = safe-works (within (image (stepOf p u) whole) (safeOf p)) 0 (λ m. ruleFrom r m (image (stepOf p u) whole) []) .0 e in
+      let k = safe-works (within (image (stepOf p u) whole) (safeOf p)) 0 (λ m. ruleFrom (r form) m (image (stepOf p u) whole) []) .0 e in
       one-out (rw q at (goal-works (within (image (stepOf p u) whole) (rootOf p)) 1 .0 (k .1)))
   none-works (u ∷ v ∷ us) g e =
       let q : u ≡ 0 = only-mode u (g .modes .0) in
       let t : v ≡ 0 = only-mode v (g .modes .1 .0) in
       let b1 = image (stepOf p 0) whole in
-      let k = safe-works (within (image (stepOf p u) whole) (safeOf p)) 0 (λ m. ruleFrom r m (image (stepOf p u) whole) (v ∷ us)) .0 e in
-      let k2 : ruleFrom r 1 b1 (v ∷ us) ≡ Works = rw q at (k .1) in
-      let k3 = safe-works (within (image (stepOf p v) b1) (safeOf p)) 1 (λ m. ruleFrom r m (image (stepOf p v) b1) us) .0 k2 in
-      never-back us 2 120 29 (image (stepOf p 0) b1) (omega arith) (spread 17 4 b1 (spread 1 1 whole whole-spread)) (g .modes .1 .1) (rw t at (k3 .1))
+      let k = safe-works (within (image (stepOf p u) whole) (safeOf p)) 0 (λ m. ruleFrom (r form) m (image (stepOf p u) whole) (v ∷ us)) .0 e in
+      let k2 : ruleFrom (r form) 1 b1 (v ∷ us) ≡ Works = rw q at (k .1) in
+      let k3 = safe-works (within (image (stepOf p v) b1) (safeOf p)) 1 (λ m. ruleFrom (r form) m (image (stepOf p v) b1) us) .0 k2 in
+      never-back form us 2 91 22 (image (stepOf p 0) b1) (omega arith) (spread 13 3 b1 (spread 0 1 whole whole-spread)) (g .modes .1 .1) (rw t at (k3 .1))
 
   -- so that no pattern is found for it
-  pub none-first : firstPattern r whole ≡ none
-  none-first = none-exactly r whole .1 none-works
+  pub none-first : firstPattern (r form) whole ≡ none
+  none-first = none-exactly (r form) whole .1 none-works
 
 -- ---- a reading of R comes back in six samples, and no sooner
 
@@ -217,20 +218,20 @@ unfoldable Away : ℕ → List Side → Type 0
 Away zero box = Unit {0}
 Away (suc n) box = (within box (rootOf p) ≡ true → ⊥) × Away n (image (stepOf p 0) box)
 
-away-long : (us : List ℕ) (n i : ℕ) (box : List Side) → Away n box → below (p .modes) us → ruleFrom r i box us ≡ Works → n ≤ length us
+away-long : (form : ℕ) (us : List ℕ) (n i : ℕ) (box : List Side) → Away n box → below (p .modes) us → ruleFrom (r form) i box us ≡ Works → n ≤ length us
 unfolding R.ruleFrom Y.below Away
-away-long us zero i box s h e = omega arith
-away-long [] (suc n) i box s h e = absurd (s .0 (goal-works (within box (rootOf p)) i .0 e))
-away-long (u ∷ us) (suc n) i box s h e =
+away-long form us zero i box s h e = omega arith
+away-long form [] (suc n) i box s h e = absurd (s .0 (goal-works (within box (rootOf p)) i .0 e))
+away-long form (u ∷ us) (suc n) i box s h e =
     let q : u ≡ 0 = only-mode u (h .0) in
-    let k = safe-works (within (image (stepOf p u) box) (safeOf p)) i (λ m. ruleFrom r m (image (stepOf p u) box) us) .0 e in
-    let l = away-long us n (suc i) (image (stepOf p 0) box) (s .1) (h .1) (rw q at (k .1)) in
+    let k = safe-works (within (image (stepOf p u) box) (safeOf p)) i (λ m. ruleFrom (r form) m (image (stepOf p u) box) us) .0 e in
+    let l = away-long form us n (suc i) (image (stepOf p 0) box) (s .1) (h .1) (rw q at (k .1)) in
     omega arith
 
 -- a step of a pattern, from a box to its image in S
-goes : (us : List ℕ) (i : ℕ) (b c : List Side) → image (stepOf p 0) b ≡ c → within c (safeOf p) ≡ true → ruleFrom r i b (0 ∷ us) ≡ ruleFrom r (suc i) c us
+goes : (form : ℕ) (us : List ℕ) (i : ℕ) (b c : List Side) → image (stepOf p 0) b ≡ c → within c (safeOf p) ≡ true → ruleFrom (r form) i b (0 ∷ us) ≡ ruleFrom (r form) (suc i) c us
 unfolding R.ruleFrom
-goes us i b c e h = rw (e, h) refl
+goes form us i b c e h = rw (e, h) refl
 
 abbrev pub six : List ℕ
 six = 0 ∷ 0 ∷ 0 ∷ 0 ∷ 0 ∷ 0 ∷ []
@@ -250,7 +251,7 @@ alike (u ∷ us) (v ∷ vs) g h e =
     let t : v ≡ 0 = only-mode v (h .0) in
     rw (q, t) (then (alike us vs (g .1) (h .1) (omega arith)))
 
-module _ (a c : ℕ) (low-a : 1000 ≤ a) (high-a : a ≤ 1063) (low-c : 1000 ≤ c) (high-c : c ≤ 1063) where
+module _ (form a c : ℕ) (low-a : 1000 ≤ a) (high-a : a ≤ 1063) (low-c : 1000 ≤ c) (high-c : c ≤ 1063) where
   -- where the reading a, c is after each sample
   abbrev p0 : List Side
   p0 = point (pos a) (pos c)
@@ -324,33 +325,33 @@ module _ (a c : ℕ) (low-a : 1000 ≤ a) (high-a : a ≤ 1063) (low-c : 1000 �
       let hi2 : pos c ≤ℤ pos 1063 = omega zarith in
       both (ordered lo hi) (both (ordered lo2 hi2) refl)
 
-  home : ruleFrom r 6 p0 [] ≡ Works
+  home : ruleFrom (r form) 6 p0 [] ≡ Works
   unfolding R.ruleFrom
   home = rw in-root0 refl
 
-  six-work : rule r p0 six ≡ Works
+  six-work : rule (r form) p0 six ≡ Works
   six-work =
-      goes (0 ∷ 0 ∷ 0 ∷ 0 ∷ 0 ∷ []) 0 p0 p1 to1 (point-safe (negsuc (13 * c - 4 * a - 1)) (negsuc (3 * c - a - 1)) (omega arith) (omega arith) (omega arith) (omega arith))
-      ∙ goes (0 ∷ 0 ∷ 0 ∷ 0 ∷ []) 1 p1 p2 to2 (point-safe (negsuc (13 * c - 3 * a - 1)) (negsuc (4 * c - a - 1)) (omega arith) (omega arith) (omega arith) (omega arith))
-      ∙ goes (0 ∷ 0 ∷ 0 ∷ []) 2 p2 p3 to3 (point-safe (negsuc (a - 1)) (negsuc (c - 1)) (omega arith) (omega arith) (omega arith) (omega arith))
-      ∙ goes (0 ∷ 0 ∷ []) 3 p3 p4 to4 (point-safe (pos (13 * c - 4 * a)) (pos (3 * c - a)) (omega arith) (omega arith) (omega arith) (omega arith))
-      ∙ goes (0 ∷ []) 4 p4 p5 to5 (point-safe (pos (13 * c - 3 * a)) (pos (4 * c - a)) (omega arith) (omega arith) (omega arith) (omega arith))
-      ∙ goes [] 5 p5 p0 to6 (point-safe (pos a) (pos c) (omega arith) (omega arith) (omega arith) (omega arith))
+      goes form (0 ∷ 0 ∷ 0 ∷ 0 ∷ 0 ∷ []) 0 p0 p1 to1 (point-safe (negsuc (13 * c - 4 * a - 1)) (negsuc (3 * c - a - 1)) (omega arith) (omega arith) (omega arith) (omega arith))
+      ∙ goes form (0 ∷ 0 ∷ 0 ∷ 0 ∷ []) 1 p1 p2 to2 (point-safe (negsuc (13 * c - 3 * a - 1)) (negsuc (4 * c - a - 1)) (omega arith) (omega arith) (omega arith) (omega arith))
+      ∙ goes form (0 ∷ 0 ∷ 0 ∷ []) 2 p2 p3 to3 (point-safe (negsuc (a - 1)) (negsuc (c - 1)) (omega arith) (omega arith) (omega arith) (omega arith))
+      ∙ goes form (0 ∷ 0 ∷ []) 3 p3 p4 to4 (point-safe (pos (13 * c - 4 * a)) (pos (3 * c - a)) (omega arith) (omega arith) (omega arith) (omega arith))
+      ∙ goes form (0 ∷ []) 4 p4 p5 to5 (point-safe (pos (13 * c - 3 * a)) (pos (4 * c - a)) (omega arith) (omega arith) (omega arith) (omega arith))
+      ∙ goes form [] 5 p5 p0 to6 (point-safe (pos a) (pos c) (omega arith) (omega arith) (omega arith) (omega arith))
       ∙ home
 
-  six-least : (vs : List ℕ) → Pattern (p .k) (p .modes) vs → rule r p0 vs ≡ Works → 6 ≤ length vs
+  six-least : (vs : List ℕ) → Pattern (p .k) (p .modes) vs → rule (r form) p0 vs ≡ Works → 6 ≤ length vs
   unfolding R.ruleFrom Y.below
   six-least [] g e = absurd (omega (arith, g .some))
   six-least (u ∷ vs) g e =
       let q : u ≡ 0 = only-mode u (g .modes .0) in
-      let k = safe-works (within (image (stepOf p u) p0) (safeOf p)) 0 (λ m. ruleFrom r m (image (stepOf p u) p0) vs) .0 e in
-      let h : ruleFrom r 1 p1 vs ≡ Works = rw (q, to1) at (k .1) in
-      let l = away-long vs 5 1 p1 away1 (g .modes .1) h in
+      let k = safe-works (within (image (stepOf p u) p0) (safeOf p)) 0 (λ m. ruleFrom (r form) m (image (stepOf p u) p0) vs) .0 e in
+      let h : ruleFrom (r form) 1 p1 vs ≡ Works = rw (q, to1) at (k .1) in
+      let l = away-long form vs 5 1 p1 away1 (g .modes .1) h in
       omega arith
 
   -- the first pattern of a reading of R
-  pub six-first : firstPattern r p0 ≡ some six
-  six-first = first-exactly r p0 six .1 (record {
+  pub six-first : firstPattern (r form) p0 ≡ some six
+  six-first = first-exactly (r form) p0 six .1 (record {
     shape = six-pattern;
     works = six-work;
     shortest = six-least;

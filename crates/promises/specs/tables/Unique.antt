@@ -15,7 +15,7 @@ use Rattle.promises.specs.tables.Shapes.{Shaped}
 use Rattle.promises.specs.tables.Layouts.{tile-read, split-read, headed, table-stands}
 
 module _ (r : Rules) (sizes : Sizes r) where
-  open Rules r using (Box, children, root, n, D, K, N)
+  open Rules r using (Box, children, root, form, n, D, K, N)
 
   abbrev Patterns : Box → List ℕ → Type 0
   Patterns b us = Pattern K N us
@@ -72,5 +72,5 @@ module _ (r : Rules) (sizes : Sizes r) where
 
   pub one-tree : (s : List ℕ) (t u : Tree) → Shaped r t → Shaped r u → s ≡ tableOf r t → s ≡ tableOf r u → t ≡ u
   one-tree s t u o v p q =
-      tree-alike t u D root s (headed n) (length (tableOf r t)) (length (tableOf r u)) o v
+      tree-alike t u D root s (headed form n) (length (tableOf r t)) (length (tableOf r u)) o v
       (table-stands r s [] t (p ∙ sym (append-nil (tableOf r t))) .1) (table-stands r s [] u (q ∙ sym (append-nil (tableOf r u))) .1) .0

@@ -105,11 +105,11 @@ module _ (numbers s : List ℕ) (one : oneOf numbers 1 ≡ true) (six : oneOf nu
           (λ e. c (suc k) next (omega arith) (leb-true (suc k) K e) m)
 
   -- the header: 2 besides
-  pub header-tells : oneOf numbers 2 ≡ true → (n : ℕ) → WalkTells numbers (length s) (header n s)
+  pub header-tells : oneOf numbers 2 ≡ true → (form n : ℕ) → WalkTells numbers (length s) (header form n s)
   unfolding W.header
-  header-tells two n =
+  header-tells two form n =
       number-keeps (WalkTells numbers (length s)) s 0 _ (broken-told 0 (omega arith))
-      (λ form at l. guard-keeps (WalkTells numbers (length s)) (eqb form 1) _ (λ _. record { number = two; place = refl; step = refl })
+      (λ told at l. guard-keeps (WalkTells numbers (length s)) (eqb told form) _ (λ _. record { number = two; place = refl; step = refl })
       (λ _. number-keeps (WalkTells numbers (length s)) s at _ (broken-told at l)
       (λ m next k. guard-keeps (WalkTells numbers (length s)) (eqb m n) _ (λ _. table-told at l) (λ _. k))))
 

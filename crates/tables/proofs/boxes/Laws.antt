@@ -96,21 +96,27 @@ count-long (s ∷ ss) = go (long s) (count-long ss)
     go false h = h
 
 module _ (b : List Side) where
-  children-none : countOf b ≡ 1 → children b ≡ []
-  unfolding children
-  children-none e = go (anyLong b) (count-long b)
+  pub none-long : countOf b ≡ 1 → anyLong b ≡ false
+  none-long e = go (anyLong b) (count-long b)
     where
-      go : (t : Bool) → Agrees t (countOf b) → cond t (pieces b) [] ≡ []
+      go : (t : Bool) → Agrees t (countOf b) → t ≡ false
       go true h = absurd (omega arith)
       go false h = refl
 
-  children-some : (countOf b ≡ 1 → ⊥) → children b ≡ pieces b
-  unfolding children
-  children-some e = go (anyLong b) (count-long b)
+  pub some-long : (countOf b ≡ 1 → ⊥) → anyLong b ≡ true
+  some-long e = go (anyLong b) (count-long b)
     where
-      go : (t : Bool) → Agrees t (countOf b) → cond t (pieces b) [] ≡ pieces b
+      go : (t : Bool) → Agrees t (countOf b) → t ≡ true
       go true h = refl
       go false h = absurd (e h)
+
+  children-none : countOf b ≡ 1 → children b ≡ []
+  unfolding children
+  children-none e = rw (none-long e) refl
+
+  children-some : (countOf b ≡ 1 → ⊥) → children b ≡ pieces b
+  unfolding children
+  children-some e = rw (some-long e) refl
 
   pub count-one : countOf b ≡ 1 → 0 ≡ length (children b)
   count-one e = rw (children-none e) refl
@@ -169,27 +175,32 @@ small-side lo hi n j s h = small-at (sideAt lo hi) n 0 j s (omega arith) (omega 
 pub between : {k : ℕ} (a b z : ℤ) → natAbs a ≤ k → natAbs b ≤ k → a ≤ℤ z → z ≤ℤ b → natAbs z ≤ k
 between a b z g h l m = omega (zarith, abs a, abs b, abs z, apart z)
 
+-- the halves of a long side
+module _ {k : ℕ} {a : Side} (e : long a ≡ true) (g : Bounded k a) where
+  pub small-lower : Bounded k (lower a)
+  small-lower =
+      let m = middle-in a e in
+      record { low = g .low; high = between (a .lo) (a .hi) (middle a) (g .low) (g .high) (m .0) (omega (zarith, m)); order = m .0 }
+
+  pub small-upper : Bounded k (upper a)
+  small-upper =
+      let m = middle-in a e in
+      let o : (middle a +ℤ pos 1) ≤ℤ a .hi = omega (zarith, m, add (middle a) (pos 1)) in
+      record { low = between (a .lo) (a .hi) (middle a +ℤ pos 1) (g .low) (g .high) (omega (zarith, m, add (middle a) (pos 1))) o; high = g .high; order = o }
+
 small-child : (k : ℕ) (b : List Side) (x : ℕ) → Small k b → Small k (childAt b x)
 unfolding Small childAt
 small-child k [] x s = tt
 small-child k (a ∷ b) x s = (go (long a) refl (eqb (x % 2) 0), small-child k b (restOf a x) (s .1))
   where
-    g : Bounded k a
-    g = s .0
-
     go : (t : Bool) → long a ≡ t → (w : Bool) → Bounded k (cond t (cond w (lower a) (upper a)) a)
-    go false e w = g
-    go true e true =
-        let m = middle-in a e in
-        record { low = g .low; high = between (a .lo) (a .hi) (middle a) (g .low) (g .high) (m .0) (omega (zarith, m)); order = m .0 }
-    go true e false =
-        let m = middle-in a e in
-        let o : (middle a +ℤ pos 1) ≤ℤ a .hi = omega (zarith, m, add (middle a) (pos 1)) in
-        record { low = between (a .lo) (a .hi) (middle a +ℤ pos 1) (g .low) (g .high) (omega (zarith, m, add (middle a) (pos 1))) o; high = g .high; order = o }
+    go false e w = s .0
+    go true e true = small-lower e (s .0)
+    go true e false = small-upper e (s .0)
 
--- a child of a small box is small
-pub small-children : (k : ℕ) (b : List Side) (x : ℕ) → x < length (children b) → Small k b → Small k (getD (children b) x [])
-small-children k b x h s = rw (children-at b x h) (small-child k b x s)
+-- a child of a small box is small where all long sides are halved
+pub small-all : (k : ℕ) (b : List Side) (x : ℕ) → x < length (children b) → Small k b → Small k (getD (children b) x [])
+small-all k b x h s = rw (children-at b x h) (small-child k b x s)
 
 -- ---- the loops
 

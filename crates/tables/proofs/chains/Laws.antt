@@ -36,7 +36,7 @@ use Rattle.tables.specs.declared.chains.ChainRead.{ChainRead}
 use Rattle.tables.specs.declared.frames.Frame.{Frame}
 use Rattle.tables.specs.Boxes.{boxOf, Small}
 use Rattle.tables.specs.Chains.{mostAbove, mostEdges, edgesAbove, valuesIn, noChain, chainWith, chainValues, chainRead, boxOn, bxAt, bxBelow, frameAt, keeps, FramesSound}
-use Rattle.tables.specs.Frames.{ownFrame, rulesIn, FrameSound}
+use Rattle.tables.specs.Frames.{ownFrame, rulesBy, FrameSound}
 use Rattle.tables.proofs.boxes.Laws.{small-tab}
 use Rattle.tables.proofs.frames.Laws.{framed-sound}
 
@@ -257,6 +257,7 @@ module _ (whole : Bool) (f : Frame) (s : List ℕ) (r : ChainRead) (q : r ≡ ch
           let box = box-same n (g .rooms) (r .edges) (t .vs) chain-edged (f .root) i in
           let below = below-same n (g .rooms) (r .edges) (t .vs) chain-edged (f .root) i in
           record {
+            known = g .known;
             some = g .some;
             rooms = g .rooms;
             longest = g .longest;
@@ -271,11 +272,11 @@ module _ (whole : Bool) (f : Frame) (s : List ℕ) (r : ChainRead) (q : r ≡ ch
             in-safe = ap (λ (b : List Side). within b safe) below ∙ below-safe i h;
           }
 
--- ---- for a plant: its frame's rules over a box of the chain are meaning's rules of that box
+-- ---- for a plant: its frame's rules over a box of the chain, of any form, are meaning's rules of that box
 
 module _ (p : Plant) (rooms : p .n ≤ 4) (edges vs : List ℤ) (q : Edged edges vs) where
-  pub rules-at : (i : ℕ) → rulesIn (frameAt (ownFrame p) edges i) (p .bands) (p .coef) ≡ boxRules p vs i
-  rules-at i = boxes-same (p .n) rooms edges vs q (ownFrame p .root) (λ root goal. tableRules p root goal) i
+  pub rules-at : (i : ℕ) → rulesBy (frameAt (ownFrame p) edges i) (p .bands) (p .coef) ≡ boxRules p vs i
+  rules-at i = boxes-same (p .n) rooms edges vs q (ownFrame p .root) (λ root goal form. tableRules form p root goal) i
 
   -- and what is answered by them
   pub answers-at : {A : Type 0} (answer : List Side → List Side → A) (i : ℕ)

@@ -12,7 +12,7 @@ use Rattle.meaning.specs.Rules.{Rules, rule}
 use Rattle.meaning.specs.Verdicts.{walk, header, tableEnd, verdict}
 
 -- w is the answer for the header
-module _ (r : Rules) (s : List ℕ) (w : Walk) (q : w ≡ header (Rules.n r) s) where
+module _ (r : Rules) (s : List ℕ) (w : Walk) (q : w ≡ header (Rules.form r) (Rules.n r) s) where
   pub header-stopped : (e : Refusal) → w ≡ Walk.Refused e → Walk.Refused e ≡ tableEnd r s
   header-stopped e h = rw (← q, h) refl
 

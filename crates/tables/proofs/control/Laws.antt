@@ -58,7 +58,7 @@ goes-on true false i rest q = never cc
 goes-on false a i rest q = never cc
 
 module _ (r : Rules) (s : List ℕ) (x : Rules.Reading r) where
-  open Rules r using (fits, root, safe, n, D, K, N)
+  open Rules r using (fits, root, safe, form, n, D, K, N)
 
   -- ---- idle
 
@@ -96,7 +96,7 @@ module _ (r : Rules) (s : List ℕ) (x : Rules.Reading r) where
   state-running at place zero h = absurd (h refl)
   state-running at place (suc m) h = refl
 
-  module _ (st : State) (w : Walk) (q : w ≡ header n s) where
+  module _ (st : State) (w : Walk) (q : w ≡ header form n s) where
     abbrev behind : Walk → Answer
     behind v = onWalk v Answer.Refused λ at. stateCall r s at (st .place) (st .left) x
 
@@ -118,4 +118,4 @@ module _ (r : Rules) (s : List ℕ) (x : Rules.Reading r) where
 
 pub call-by : (f : Frame) (bands coef bands′ coef′ : List ℤ) (s : List ℕ) (st : State) (x : List ℤ) → call (rulesIn f bands coef) s st x ≡ call (rulesIn f bands′ coef′) s st x
 call-by f bands coef bands′ coef′ s st x =
-    call-same (f .n) (f .modes) (f .k) (f .d) (boxOf (f .n) (f .root)) (boxOf (f .n) (f .goal)) (boxOf (f .n) (f .safe)) (stepIn f bands coef) (stepIn f bands′ coef′) s st x
+    call-same (f .form) (f .n) (f .modes) (f .k) (f .d) (boxOf (f .n) (f .root)) (boxOf (f .n) (f .goal)) (boxOf (f .n) (f .safe)) (stepIn f bands coef) (stepIn f bands′ coef′) s st x

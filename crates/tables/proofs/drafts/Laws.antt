@@ -17,13 +17,14 @@ use Rattle.laws.specs.Writing.{Put, put-append, put-length, put-none}
 use Rattle.meaning.specs.Refusals.{noTable}
 use Rattle.meaning.specs.Numbers.{bytesOf}
 use Rattle.meaning.specs.Files.{good, bad}
-use Rattle.meaning.specs.Boxes.{Side, sideAt, children}
+use Rattle.meaning.specs.Boxes.{Side, sideAt}
 use Rattle.meaning.specs.Rules.{Rules}
 use Rattle.meaning.specs.Trees.{Tree, Forest, split, tile, more, modesBytes, layout, layouts, tableOf}
 use Rattle.meaning.specs.Defined.{mapSome, andAlso, allOf, splitOf, firstPattern, treeOf, definedTree}
-use Rattle.meaning.specs.Tables.{tableBytes, definedTable}
+use Rattle.meaning.specs.Tables.{childrenBy, depthBy, tableBytes, definedTable}
 use Rattle.promises.specs.tables.Exists.{defined-works}
-use Rattle.promises.specs.tables.TableLengths.{most, tileBytes, tile-most, table-length, cap, cap-few}
+use Rattle.promises.specs.tables.TableForms.{form-small}
+use Rattle.promises.specs.tables.TableLengths.{most, childrenMost, tileBytes, splitsMost, splits-most, tile-most, table-length, cap-by, cap-few-by}
 use Rattle.files.specs.DraftLaws.{InDraft, in-buffer}
 use Rattle.tables.specs.declared.frames.Frame.{Frame}
 use Rattle.tables.specs.declared.drafts.Grown.{Grown}
@@ -31,7 +32,7 @@ use Rattle.tables.specs.Boxes.{boxOf}
 use Rattle.tables.specs.Frames.{stepIn, rulesIn, FrameSound}
 use Rattle.tables.specs.Search.{patternBy}
 use Rattle.tables.specs.Tiles.{modeAt, patternOf}
-use Rattle.tables.specs.Drafts.{Wrote, treeBytes, treesBytes, definedBytes}
+use Rattle.tables.specs.Drafts.{Wrote, bytesMost, treeBytes, treesBytes, definedBytes}
 
 -- ---- a tile: its modes from the j-th on are left
 
@@ -177,27 +178,27 @@ module _ (f : Frame) (bands coef : List ℤ) (d : ℕ) (b : List Side) (size : �
     pub node-deep : d ≡ 0 → Wrote (treeBytes (rulesIn f bands coef) d b) buf at Grown.Nothing buf
     node-deep h = rw (box-deep (rulesIn f bands coef) d b nothing h) refl
 
-    pub node-stuck : length (children b) ≡ 0 → Wrote (treeBytes (rulesIn f bands coef) d b) buf at Grown.Nothing buf
-    node-stuck h = rw (box-stuck (rulesIn f bands coef) d b nothing (empty (children b) h)) refl
+    pub node-stuck : length (childrenBy (f .form) b) ≡ 0 → Wrote (treeBytes (rulesIn f bands coef) d b) buf at Grown.Nothing buf
+    node-stuck h = rw (box-stuck (rulesIn f bands coef) d b nothing (empty (childrenBy (f .form) b) h)) refl
 
-    pub node-split : (d ≡ 0 → ⊥) → (length (children b) ≡ 0 → ⊥) → (place : ℕ) (mid : List ℕ) → Put buf at (bytesOf 0) place mid
-        → (a : Grown) (out : List ℕ) → Wrote (treesBytes (rulesIn f bands coef) (d - 1) (children b)) mid place a out → Wrote (treeBytes (rulesIn f bands coef) d b) buf at a out
+    pub node-split : (d ≡ 0 → ⊥) → (length (childrenBy (f .form) b) ≡ 0 → ⊥) → (place : ℕ) (mid : List ℕ) → Put buf at (bytesOf 0) place mid
+        → (a : Grown) (out : List ℕ) → Wrote (treesBytes (rulesIn f bands coef) (d - 1) (childrenBy (f .form) b)) mid place a out → Wrote (treeBytes (rulesIn f bands coef) d b) buf at a out
     node-split h l place mid t a out w =
         let k : d ≡ suc (d - 1) = omega arith in
-        let e : treeBytes (rulesIn f bands coef) d b ≡ mapSome (λ ys. bytesOf 0 ++ ys) (treesBytes (rulesIn f bands coef) (d - 1) (children b)) =
+        let e : treeBytes (rulesIn f bands coef) d b ≡ mapSome (λ ys. bytesOf 0 ++ ys) (treesBytes (rulesIn f bands coef) (d - 1) (childrenBy (f .form) b)) =
         ap (λ (i : ℕ). treeBytes (rulesIn f bands coef) i b) k ∙ box-split (rulesIn f bands coef) (d - 1) b nothing (λ n. l (ap length n)) in
-        rw e (wrote-behind t (treesBytes (rulesIn f bands coef) (d - 1) (children b)) a out w)
+        rw e (wrote-behind t (treesBytes (rulesIn f bands coef) (d - 1) (childrenBy (f .form) b)) a out w)
 
--- ---- the whole table: form 1, n, then the tree of the box that is tiled
+-- ---- the whole table: form, n, then the tree of the box that is tiled
 
-header-bytes : (r : Rules) (o : Option Tree) → mapSome (tableOf r) o ≡ mapSome (λ ys. bytesOf 1 ++ ys) (mapSome (λ ys. bytesOf (Rules.n r) ++ ys) (mapSome layout o))
+header-bytes : (r : Rules) (o : Option Tree) → mapSome (tableOf r) o ≡ mapSome (λ ys. bytesOf (Rules.form r) ++ ys) (mapSome (λ ys. bytesOf (Rules.n r) ++ ys) (mapSome layout o))
 header-bytes r (some t) = refl
 header-bytes r none = refl
 
 module _ (r : Rules) where
-  open Rules r using (n, D, root)
+  open Rules r using (form, n, D, root)
 
-  pub table-wrote : {buf : List ℕ} {past-form : ℕ} {mid : List ℕ} {past-rooms : ℕ} {behind : List ℕ} → Put buf 0 (bytesOf 1) past-form mid → Put mid past-form (bytesOf n) past-rooms behind
+  pub table-wrote : {buf : List ℕ} {past-form : ℕ} {mid : List ℕ} {past-rooms : ℕ} {behind : List ℕ} → Put buf 0 (bytesOf form) past-form mid → Put mid past-form (bytesOf n) past-rooms behind
       → (a : Grown) (out : List ℕ) → Wrote (treeBytes r D root) behind past-rooms a out → Wrote (definedBytes r) buf 0 a out
   table-wrote t v a out w =
       let o = treeBytes r D root in
@@ -253,31 +254,31 @@ module _ (r : Rules) where
       go (some t) e = let q : tableOf r t ≡ bytes = cc in ap good q
 
 -- the bytes of a frame's defined table, at most
-defined-length : (f : Frame) (bands coef : List ℤ) → FrameSound f → (t : Tree) → definedTree (rulesIn f bands coef) ≡ some t → length (tableOf (rulesIn f bands coef) t) ≤ 2 + most (2 ^ f .n) (tileBytes (f .modes)) (f .d)
+defined-length : (f : Frame) (bands coef : List ℤ) → FrameSound f → (t : Tree) → definedTree (rulesIn f bands coef) ≡ some t → length (tableOf (rulesIn f bands coef) t) ≤ bytesMost f
 defined-length f bands coef g t e =
-    table-length (f .n) (f .modes) (f .k) (f .d) (boxOf (f .n) (f .root)) (boxOf (f .n) (f .goal)) (boxOf (f .n) (f .safe)) (stepIn f bands coef)
-    (g .rooms) (omega (arith, g .modes)) (g .longest) (length-tab (sideAt (f .root .lo) (f .root .hi)) (f .n) 0) t (defined-works (rulesIn f bands coef) t e)
+    table-length (f .form) (f .n) (f .modes) (f .k) (f .d) (boxOf (f .n) (f .root)) (boxOf (f .n) (f .goal)) (boxOf (f .n) (f .safe)) (stepIn f bands coef)
+    (form-small (f .form) (g .known)) (g .rooms) (omega (arith, g .modes)) (g .longest) (length-tab (sideAt (f .root .lo) (f .root .hi)) (f .n) 0) t (defined-works (rulesIn f bands coef) t e)
 
 -- so a draft of one of three lengths has room for it: for any, for at most 128 modes, and for such in at most sixteen tiles
 module _ (f : Frame) (g : FrameSound f) where
-  capped : most (2 ^ f .n) (tileBytes (f .modes)) (f .d) ≤ 4096 * tileBytes (f .modes) + 1365
-  capped = cap (tileBytes (f .modes)) (f .n) (f .d) (g .some) (g .rooms) (g .depth) (g .tiles)
+  capped : most (childrenMost (f .form) (f .n)) (tileBytes (f .modes)) (depthBy (f .form) (f .n) (f .d)) ≤ 4096 * tileBytes (f .modes) + splitsMost (f .form)
+  capped = cap-by (f .form) (tileBytes (f .modes)) (f .n) (f .d) (g .some) (g .rooms) (g .depth) (g .tiles)
 
-  pub room-most : 2 + most (2 ^ f .n) (tileBytes (f .modes)) (f .d) ≤ 54_615
-  room-most = omega (arith, capped, tile-most (f .modes))
+  pub room-most : bytesMost f ≤ 57_345
+  room-most = omega (arith, capped, tile-most (f .modes), splits-most (f .form))
 
   module _ (brief : f .modes ≤ 128) where
     one-each : tileBytes (f .modes) ≡ 7
     one-each = simp (le-leb (f .modes) 128 brief)
 
-    pub room-long : 2 + most (2 ^ f .n) (tileBytes (f .modes)) (f .d) ≤ 30_039
-    room-long = omega (arith, capped, one-each)
+    pub room-long : bytesMost f ≤ 32_769
+    room-long = omega (arith, capped, one-each, splits-most (f .form))
 
-    pub room-few : f .n * f .d ≤ 4 → 2 + most (2 ^ f .n) (tileBytes (f .modes)) (f .d) ≤ 129
-    room-few l = omega (arith, cap-few (tileBytes (f .modes)) (f .n) (f .d) (g .some) (g .rooms) l, one-each)
+    pub room-few : f .n * f .d ≤ 4 → bytesMost f ≤ 129
+    room-few l = omega (arith, cap-few-by (f .form) (tileBytes (f .modes)) (f .n) (f .d) (g .some) (g .rooms) l, one-each)
 
 -- a draft that has room for a frame's table
-module _ (f : Frame) (bands coef : List ℤ) (g : FrameSound f) (draft : List ℕ) (l : 2 + most (2 ^ f .n) (tileBytes (f .modes)) (f .d) ≤ length draft)
+module _ (f : Frame) (bands coef : List ℤ) (g : FrameSound f) (draft : List ℕ) (l : bytesMost f ≤ length draft)
     (a : Grown) (out : List ℕ) (w : Wrote (definedBytes (rulesIn f bands coef)) draft 0 a out) (size : ℕ) (z : a ≡ Grown.Next size) where
   room : (t : Tree) → definedTree (rulesIn f bands coef) ≡ some t → length (tableOf (rulesIn f bands coef) t) ≤ length draft
   room t e = omega (arith, defined-length f bands coef g t e, l)

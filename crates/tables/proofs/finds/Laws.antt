@@ -15,13 +15,13 @@ use Rattle.meaning.specs.declared.Number.{Number}
 use Rattle.meaning.specs.declared.Refusal.{Refusal}
 use Rattle.meaning.specs.declared.Tried.the-variants.{Works}
 use Rattle.meaning.specs.declared.Walk.{Walk}
-use Rattle.meaning.specs.Boxes.{Side, sideAt, sidesOf, fits, children}
+use Rattle.meaning.specs.Boxes.{Side, sideAt, sidesOf, fits}
 use Rattle.meaning.specs.Control.{tileFound, among, find}
 use Rattle.meaning.specs.Files.{Read}
 use Rattle.meaning.specs.Numbers.{numberAt}
 use Rattle.meaning.specs.Refusals.{broken, badTable}
 use Rattle.meaning.specs.Rules.{Rules, holds}
-use Rattle.meaning.specs.Tables.{readingOf}
+use Rattle.meaning.specs.Tables.{childrenBy, readingOf}
 use Rattle.meaning.specs.Verdicts.{modesAt}
 use Rattle.promises.specs.tables.Steps.{walk-same}
 use Rattle.promises.specs.tables.Walking.{lookAmong, among-none, among-here, among-more, among-refused, find-broken, find-deep, find-stuck, find-split, find-over, find-tile}
@@ -60,7 +60,7 @@ module _ (f : Frame) (x : List ℤ) where
 
   -- the look among the children of the box b of a split at `node`, c of them passed, w the place behind them
   abbrev pub lookFrom : ℕ → List ℕ → ℕ → List Side → ℕ → ℕ → Found
-  lookFrom d s node b c w = lookAmong rules x d s node (drop c (children b)) w
+  lookFrom d s node b c w = lookAmong rules x d s node (drop c (childrenBy (f .form) b)) w
 
   module _ (d : ℕ) (s : List ℕ) (at : ℕ) (b : List Side) where
     pub node-broken : numberAt s at ≡ Number.Broken → Found.Refused (broken at) ≡ find rules d s at b x
@@ -83,36 +83,36 @@ module _ (f : Frame) (x : List ℤ) where
         -- where there are no children both sides refuse
         pub node-split : (d ≡ 0 → ⊥) → lookFrom (d - 1) s at b 0 m ≡ find rules d s at b x
         unfolding among
-        node-split h = go (children b) refl
+        node-split h = go (childrenBy (f .form) b) refl
           where
-            go : (cs : List (List Side)) → children b ≡ cs → lookAmong rules x (d - 1) s at (children b) m ≡ find rules d s at b x
+            go : (cs : List (List Side)) → childrenBy (f .form) b ≡ cs → lookAmong rules x (d - 1) s at (childrenBy (f .form) b) m ≡ find rules d s at b x
             go [] e = rw e (sym (find-stuck rules x d s at b m split e))
             go (c ∷ cs) e =
                 sym (find-split rules x d s at b m (d - 1) split (omega arith) (λ q. let v : _≡_ {A = ℕ} 0 (suc (length cs)) = sym (ap length q) ∙ ap length e in omega arith))
 
   -- children in a loop
   module _ (d : ℕ) (s : List ℕ) (node : ℕ) (b : List Side) (c w : ℕ) where
-    pub look-none : length (children b) ≤ c → Found.Refused (badTable node) ≡ lookFrom d s node b c w
+    pub look-none : length (childrenBy (f .form) b) ≤ c → Found.Refused (badTable node) ≡ lookFrom d s node b c w
     look-none h =
-        sym (among-none (λ k. holds rules k x) (λ q k. find rules d s q k x) (walkBy false rules d s) node (children b) c w h)
+        sym (among-none (λ k. holds rules k x) (λ q k. find rules d s q k x) (walkBy false rules d s) node (childrenBy (f .form) b) c w h)
 
-    module _ (h : c < length (children b)) (kid : List Side) (q : kid ≡ getD (children b) c []) where
+    module _ (h : c < length (childrenBy (f .form) b)) (kid : List Side) (q : kid ≡ getD (childrenBy (f .form) b) c []) where
       pub look-here : all (fits kid (readingOf (f .n) x)) ≡ true → find rules d s w kid x ≡ lookFrom d s node b c w
       look-here e =
           ap (λ (k : List Side). find rules d s w k x) q
-          ∙ sym (among-here (λ k. holds rules k x) (λ q k. find rules d s q k x) (walkBy false rules d s) node (children b) c w [] h (rw q at e))
+          ∙ sym (among-here (λ k. holds rules k x) (λ q k. find rules d s q k x) (walkBy false rules d s) node (childrenBy (f .form) b) c w [] h (rw q at e))
 
       module _ (e : all (fits kid (readingOf (f .n) x)) ≡ false) (bands coef : List ℤ) (v : Walk) (g : v ≡ walkBy false (rulesIn f bands coef) d s w kid) where
-        came : walkBy false rules d s w (getD (children b) c []) ≡ v
+        came : walkBy false rules d s w (getD (childrenBy (f .form) b) c []) ≡ v
         came =
             ap (λ (k : List Side). walkBy false rules d s w k) (sym q)
-            ∙ walk-same (f .n) (f .modes) (f .k) (f .d) (boxOf (f .n) (f .root)) (boxOf (f .n) (f .goal)) (boxOf (f .n) (f .safe)) (stepIn f [] []) (stepIn f bands coef) (λ _ _. Works) d s w kid
+            ∙ walk-same (f .form) (f .n) (f .modes) (f .k) (f .d) (boxOf (f .n) (f .root)) (boxOf (f .n) (f .goal)) (boxOf (f .n) (f .safe)) (stepIn f [] []) (stepIn f bands coef) (λ _ _. Works) d s w kid
             ∙ sym g
 
         pub look-more : (m : ℕ) → v ≡ Walk.Next m → lookFrom d s node b (c + 1) m ≡ lookFrom d s node b c w
         look-more m u =
-            sym (among-more (λ k. holds rules k x) (λ q k. find rules d s q k x) (walkBy false rules d s) node (children b) c w [] m h (rw q at e) (came ∙ u))
+            sym (among-more (λ k. holds rules k x) (λ q k. find rules d s q k x) (walkBy false rules d s) node (childrenBy (f .form) b) c w [] m h (rw q at e) (came ∙ u))
 
         pub look-refused : (r : Refusal) → v ≡ Walk.Refused r → Found.Refused r ≡ lookFrom d s node b c w
         look-refused r u =
-            sym (among-refused (λ k. holds rules k x) (λ q k. find rules d s q k x) (walkBy false rules d s) node (children b) c w [] r h (rw q at e) (came ∙ u))
+            sym (among-refused (λ k. holds rules k x) (λ q k. find rules d s q k x) (walkBy false rules d s) node (childrenBy (f .form) b) c w [] r h (rw q at e) (came ∙ u))

@@ -2,6 +2,7 @@
 -- its bands and coefficients. The only page that looks into promises' `Sound`. Assumes nothing.
 use Prim.Native.Nat.{ℕ, _+_, _*_, _≤_, _<_}
 use mathlib.Core.Path.{_≡_, refl, sym, ap, _∙_, subst}
+use mathlib.Core.Bool.{true}
 use mathlib.Core.List.{List}
 use native.Mathlib.Omega.{arith}
 use native.Mathlib.Nat.{mul-le-mul-right}
@@ -12,12 +13,12 @@ use Rattle.laws.specs.Lists.{at, tab}
 use Rattle.meaning.specs.Boxes.{side, sideAt, sidesOf}
 use Rattle.meaning.specs.Images.{Row, Step}
 use Rattle.meaning.specs.Plants.{Plant, edgeLimit, bandLimit, entryLimit, offsetLimit, mostModes, coefCount, bandCount, rowStart, bandStart}
-use Rattle.meaning.specs.Tables.{rulesFrom}
+use Rattle.meaning.specs.Tables.{knownForm, rulesFrom}
 use Rattle.tables.specs.declared.frames.Frame.{Frame}
 use Rattle.tables.specs.declared.frames.Counts.{Counts}
 use Rattle.tables.specs.Boxes.{boxOf, Small}
 use Rattle.tables.specs.Images.{StepSound}
-use Rattle.tables.specs.Frames.{ownFrame, countsOf, edgesOf, frameFrom, stepIn, rulesIn, FrameSound, ModesSound, PlantSound}
+use Rattle.tables.specs.Frames.{ownFrame, formed, countsOf, edgesOf, frameFrom, stepIn, rulesIn, FrameSound, ModesSound, PlantSound}
 use Rattle.promises.specs.files.Sound.{Bounded, Edges, Ranges, Sound}
 use Rattle.tables.proofs.boxes.Laws.{small-tab}
 
@@ -25,6 +26,25 @@ use Rattle.tables.proofs.boxes.Laws.{small-tab}
 
 pub step-in : (f : Frame) (bands coef : List ℤ) → PlantSound f bands coef → (u : ℕ) → u < f .modes → StepSound (f .n) (f .q) bands coef u
 step-in f bands coef g u h = record { rooms = g .0 .rooms; least = g .0 .least; most = g .0 .most; band = λ i k. g .1 .band u i h k; rows = λ i k. g .1 .rows u i h k }
+
+-- ---- a frame of another form that is known
+
+pub formed-sound : (f : Frame) (form : ℕ) → knownForm form ≡ true → FrameSound f → FrameSound (formed f form)
+formed-sound f form known g = record {
+  known = known;
+  some = g .some;
+  rooms = g .rooms;
+  longest = g .longest;
+  least = g .least;
+  most = g .most;
+  modes = g .modes;
+  depth = g .depth;
+  tiles = g .tiles;
+  root = g .root;
+  goal = g .goal;
+  safe = g .safe;
+  in-safe = g .in-safe;
+}
 
 -- ---- a frame taken apart: what is asked of it over the box that it tiles, and what is answered for it, are those of the frame
 
@@ -64,6 +84,7 @@ module _ (p : Plant) (g : Sound p) where
 
   own-frame : FrameSound (ownFrame p)
   own-frame = record {
+    known = refl;
     some = r .n-low;
     rooms = r .n-high;
     longest = r .k-high;
@@ -116,4 +137,4 @@ module _ (p : Plant) (g : Sound p) where
     -- and it has the rules that it has with them
     pub rules-in : (f : Frame) → rulesIn f bands coef ≡ rulesIn f (p .bands) (p .coef)
     rules-in f =
-        ap (λ (step : ℕ → Step). rulesFrom (f .n) (f .modes) (f .k) (f .d) (boxOf (f .n) (f .root)) (boxOf (f .n) (f .goal)) (boxOf (f .n) (f .safe)) step) (steps-in f)
+        ap (λ (step : ℕ → Step). rulesFrom (f .form) (f .n) (f .modes) (f .k) (f .d) (boxOf (f .n) (f .root)) (boxOf (f .n) (f .goal)) (boxOf (f .n) (f .safe)) step) (steps-in f)

@@ -1,17 +1,18 @@
--- What the maker leaves: 9 where there is no table, else the draft's front; plant first, then its own frame's table. Assumes nothing.
+-- What the maker leaves: 9 where there is no table, else the draft's front; plant first, then the form, then its own frame's table. Assumes nothing.
 use Prim.Native.Nat.{ℕ}
 use mathlib.Core.Path.{_≡_, refl, sym, ap}
+use mathlib.Core.Bool.{true, false}
 use mathlib.Core.List.{List}
 use mathlib.Core.Option.{none, some}
 use Rattle.meaning.specs.declared.Refusal.{Refusal}
-use Rattle.meaning.specs.Refusals.{noTable}
+use Rattle.meaning.specs.Refusals.{wrongForm, noTable}
 use Rattle.meaning.specs.Files.{Judged, good, bad}
 use Rattle.meaning.specs.Buffers.{refusedWith, left}
 use Rattle.meaning.specs.Plants.{Plant, plantJudged}
 use Rattle.meaning.specs.Rules.{Rules}
-use Rattle.meaning.specs.Tables.{made, makerLeft}
+use Rattle.meaning.specs.Tables.{knownForm, made, makerLeft}
 use Rattle.tables.specs.declared.frames.Frame.{Frame}
-use Rattle.tables.specs.Frames.{ownFrame, rulesIn}
+use Rattle.tables.specs.Frames.{ownFrame, rulesBy}
 use Rattle.tables.specs.Drafts.{definedBytes}
 use Rattle.tables.specs.Makes.{definedLeft}
 use Rattle.tables.proofs.drafts.Laws.{table-none, table-some}
@@ -23,13 +24,18 @@ module _ (r : Rules) (buf : List ℕ) where
   pub left-drafted : (bytes : List ℕ) → definedBytes r ≡ some bytes → left (good bytes) buf ≡ definedLeft r buf
   left-drafted bytes e = sym (ap (λ (j : Judged (List ℕ)). left j buf) (table-some r 0 bytes e))
 
--- ---- the maker: plant, then its own frame's table
+-- ---- the maker: plant, the form that it is told, then its own frame's table
 
-module _ (plant buf : List ℕ) where
-  pub left-bad : (e : Refusal) → plantJudged plant ≡ bad e → refusedWith e buf ≡ makerLeft plant buf
+module _ (plant : List ℕ) (form : ℕ) (buf : List ℕ) where
+  pub left-bad : (e : Refusal) → plantJudged plant ≡ bad e → refusedWith e buf ≡ makerLeft plant form buf
   unfolding makerLeft made
   left-bad e h = rw h refl
 
-  pub left-own : (p : Plant) → plantJudged plant ≡ good p → (f : Frame) → f ≡ ownFrame p → definedLeft (rulesIn f (p .bands) (p .coef)) buf ≡ makerLeft plant buf
+  pub left-unknown : (p : Plant) → plantJudged plant ≡ good p → knownForm form ≡ false → refusedWith wrongForm buf ≡ makerLeft plant form buf
   unfolding makerLeft made
-  left-own p h f e = rw (h, e) refl
+  left-unknown p h k = rw (h, k) refl
+
+  pub left-own : (p : Plant) → plantJudged plant ≡ good p → (f : Frame) → f ≡ ownFrame p → knownForm form ≡ true
+      → definedLeft (rulesBy f (p .bands) (p .coef) form) buf ≡ makerLeft plant form buf
+  unfolding makerLeft made
+  left-own p h f e k = rw (h, e, k) refl

@@ -84,7 +84,7 @@ module _ (r : Rules) (s : List ℕ) where
     called : (st : State) → AnswerInside (call r s st x)
     unfolding C.call
     called st =
-        walk-keeps controllerNumbers (length s) AnswerInside (header (Rules.n r) s) Answer.Refused _ (header-tells controllerNumbers s refl refl refl (Rules.n r)) (λ e t. told-inside t)
+        walk-keeps controllerNumbers (length s) AnswerInside (header (Rules.form r) (Rules.n r) s) Answer.Refused _ (header-tells controllerNumbers s refl refl refl (Rules.form r) (Rules.n r)) (λ e t. told-inside t)
         (λ at l. state-inside at (st .place) (st .left) l)
 
     pub call-inside : (st : State) (e : Refusal) → call r s st x ≡ Answer.Refused e → Inside (length s) e

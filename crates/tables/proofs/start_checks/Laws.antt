@@ -20,6 +20,7 @@ use Rattle.meaning.specs.Refusals.{broken, unfit, moved}
 use Rattle.meaning.specs.Rules.{Rules}
 use Rattle.meaning.specs.Starts as S
 use Rattle.meaning.specs.Starts.{above, boxRules, onStart, part, tablesAt, startChecked}
+use Rattle.meaning.specs.Tables.{formOf}
 use Rattle.meaning.specs.Verdicts.{onNumber, onWalk, tableEnd}
 use Rattle.tables.specs.declared.parts.Part.{Part}
 use Rattle.tables.specs.Parts.{partAt, Movable}
@@ -29,7 +30,7 @@ use Rattle.tables.proofs.parts.Places.{Inside}
 
 -- ---- one table
 
-module _ (r : Rules) (s : List ℕ) (at : ℕ) where
+module _ (r : ℕ → Rules) (s : List ℕ) (at : ℕ) where
   -- what is made of the walk over a table at `first`
   abbrev walked : ℕ → ℕ → Walk → Walk
   walked first size w =
@@ -39,11 +40,11 @@ module _ (r : Rules) (s : List ℕ) (at : ℕ) where
 
   module _ (p : Part) (q : p ≡ partAt s at) where
     pub length-stopped : (e : Refusal) → p ≡ Part.Refused e → Walk.Refused e ≡ tableAt r s at
-    length-stopped e h = sym (by-length s at Walk.Refused (λ first size. walked first size (tableEnd r (part s first size))) ∙ rw (← q, h) refl)
+    length-stopped e h = sym (by-length s at Walk.Refused (λ first size. walked first size (tableEnd (r (formOf (part s first size))) (part s first size))) ∙ rw (← q, h) refl)
 
-    module _ (first size : ℕ) (h : p ≡ Part.At first size) (w : Walk) (t : w ≡ tableEnd r (part s first size)) where
+    module _ (first size : ℕ) (h : p ≡ Part.At first size) (w : Walk) (t : w ≡ tableEnd (r (formOf (part s first size))) (part s first size)) where
       found : walked first size w ≡ tableAt r s at
-      found = ap (walked first size) t ∙ sym (by-length s at Walk.Refused (λ first size. walked first size (tableEnd r (part s first size))) ∙ rw (← q, h) refl)
+      found = ap (walked first size) t ∙ sym (by-length s at Walk.Refused (λ first size. walked first size (tableEnd (r (formOf (part s first size))) (part s first size))) ∙ rw (← q, h) refl)
 
       pub table-refused : (e : Refusal) → w ≡ Walk.Refused e → Walk.Refused (moved first e) ≡ tableAt r s at
       table-refused e g = ap (walked first size) (sym g) ∙ found
@@ -61,16 +62,16 @@ movable s first size h l e i b = omega (arith, i b, length-take size (drop first
 
 -- ---- the tables one after another
 
-module _ (r : ℕ → Rules) (s : List ℕ) where
+module _ (r : ℕ → ℕ → Rules) (s : List ℕ) where
   step : (m i at : ℕ) → tablesAt r s (suc m) i at ≡ onWalk (tableAt (r i) s at) Verdict.Refused (λ next. tablesAt r s m (suc i) next)
   unfolding S.tablesAt
   step m i at = go (numberAt s at)
     where
       go : (n : Number)
           → onNumber n (Verdict.Refused (broken at)) (λ size first. guard (leb (first + size) (length s)) (Verdict.Refused (unfit at)) λ _.
-          onWalk (tableEnd (r i) (part s first size)) (λ e. Verdict.Refused (moved first e)) λ next.
+          onWalk (tableEnd (r i (formOf (part s first size))) (part s first size)) (λ e. Verdict.Refused (moved first e)) λ next.
           guard (eqb next size) (Verdict.Refused (unfit at)) λ _. tablesAt r s m (suc i) (first + size))
-          ≡ onWalk (onNumber n (Walk.Refused (broken at)) (λ size first. guard (leb (first + size) (length s)) (Walk.Refused (unfit at)) λ _. walked (r i) s at first size (tableEnd (r i) (part s first size)))) Verdict.Refused (λ next. tablesAt r s m (suc i) next)
+          ≡ onWalk (onNumber n (Walk.Refused (broken at)) (λ size first. guard (leb (first + size) (length s)) (Walk.Refused (unfit at)) λ _. walked (r i) s at first size (tableEnd (r i (formOf (part s first size))) (part s first size)))) Verdict.Refused (λ next. tablesAt r s m (suc i) next)
       go Number.Broken = refl
       go (Number.Value size first) = fits (leb (first + size) (length s))
         where
@@ -84,10 +85,10 @@ module _ (r : ℕ → Rules) (s : List ℕ) where
           over (Walk.Refused e) = refl
           over (Walk.Next next) = ends next (eqb next size)
 
-          fits : (t : Bool) → guard t (Verdict.Refused (unfit at)) (λ _. onWalk (tableEnd (r i) (part s first size)) (λ e. Verdict.Refused (moved first e)) λ next.
+          fits : (t : Bool) → guard t (Verdict.Refused (unfit at)) (λ _. onWalk (tableEnd (r i (formOf (part s first size))) (part s first size)) (λ e. Verdict.Refused (moved first e)) λ next.
               guard (eqb next size) (Verdict.Refused (unfit at)) λ _. tablesAt r s m (suc i) (first + size))
-              ≡ onWalk (guard t (Walk.Refused (unfit at)) (λ _. walked (r i) s at first size (tableEnd (r i) (part s first size)))) Verdict.Refused (λ next. tablesAt r s m (suc i) next)
-          fits true = over (tableEnd (r i) (part s first size))
+              ≡ onWalk (guard t (Walk.Refused (unfit at)) (λ _. walked (r i) s at first size (tableEnd (r i (formOf (part s first size))) (part s first size)))) Verdict.Refused (λ next. tablesAt r s m (suc i) next)
+          fits true = over (tableEnd (r i (formOf (part s first size))) (part s first size))
           fits false = refl
 
   -- tables i to m are left
@@ -115,11 +116,11 @@ module _ (r : ℕ → Rules) (s : List ℕ) where
       tables-more next g = sym (one ∙ rw g refl)
 
 -- the same rules, the same verdict
-pub tables-same : (r z : ℕ → Rules) → ((i : ℕ) → r i ≡ z i) → (s : List ℕ) (m i at : ℕ) → tablesAt r s m i at ≡ tablesAt z s m i at
+pub tables-same : (r z : ℕ → ℕ → Rules) → ((i : ℕ) → r i ≡ z i) → (s : List ℕ) (m i at : ℕ) → tablesAt r s m i at ≡ tablesAt z s m i at
 unfolding S.tablesAt
 tables-same r z h s zero i at = refl
 tables-same r z h s (suc m) i at =
-    step r s m i at ∙ ap (λ (x : Rules). onWalk (tableAt x s at) Verdict.Refused (λ next. tablesAt r s m (suc i) next)) (h i)
+    step r s m i at ∙ ap (λ (x : ℕ → Rules). onWalk (tableAt x s at) Verdict.Refused (λ next. tablesAt r s m (suc i) next)) (h i)
     ∙ go (tableAt (z i) s at) (λ next. tables-same r z h s m (suc i) next) ∙ sym (step z s m i at)
   where
     go : (w : Walk) → ((next : ℕ) → tablesAt r s m (suc i) next ≡ tablesAt z s m (suc i) next)

@@ -27,7 +27,7 @@ use Rattle.meaning.specs.Plants.{Plant, plantJudged, rootOf}
 use Rattle.meaning.specs.Refusals.{outside, badState}
 use Rattle.meaning.specs.Starts as S
 use Rattle.meaning.specs.Starts.{above, boxAt, chosen, part, isIdle, stateIn, answerIn, onPart, onStart, callIn, startCall, startControlled}
-use Rattle.meaning.specs.Tables.{readingOf, tableRules}
+use Rattle.meaning.specs.Tables.{readingOf, formOf, tableRules}
 use Rattle.tables.specs.declared.boxes.Bx.{Bx}
 use Rattle.tables.specs.declared.frames.Frame.{Frame}
 use Rattle.tables.specs.declared.parts.Part.{Part}
@@ -35,8 +35,8 @@ use Rattle.tables.specs.declared.start_control.Choice.{Choice}
 use Rattle.tables.specs.Boxes.{boxOf}
 use Rattle.tables.specs.Chains.{valuesIn, bxAt, frameAt}
 use Rattle.tables.specs.Control.{admission}
-use Rattle.tables.specs.Frames.{ownFrame, rulesIn}
-use Rattle.tables.specs.Parts.{partBehind}
+use Rattle.tables.specs.Frames.{ownFrame, formed, rulesBy}
+use Rattle.tables.specs.Parts.{partBehind, onFound}
 use Rattle.tables.specs.StartControl.{fitsAt, missesAt, idleChoice, choiceOf, onChoice, callBehind, startAnswer}
 use Rattle.tables.proofs.chains.Laws.{Edged, in-edged, box-same, answers-at}
 use Rattle.tables.proofs.control.Laws.{call-by}
@@ -157,13 +157,13 @@ module _ (n : ℕ) (root : List Side) (vs : List ℤ) (x : List ℤ) where
 
 module _ (f : Frame) (s : List ℕ) (at i : ℕ) (st : State) (x : List ℤ) (p : Part) (q : p ≡ partBehind i s at) where
   abbrev behind : ℕ → ℕ → StartAnswer
-  behind first size = answerIn i first (call (rulesIn f [] []) (part s first size) st x)
+  behind first size = let t = part s first size in answerIn i first (call (rulesBy f [] [] (formOf t)) t st x)
 
   pub behind-refused : (e : Refusal) → p ≡ Part.Refused e → StartAnswer.Refused e ≡ callBehind f s at i st x
-  behind-refused e h = sym (by-part s i at StartAnswer.Refused behind ∙ rw (← q, h) refl)
+  behind-refused e h = sym (by-part s i at StartAnswer.Refused behind ∙ ap (λ (o : Part). onFound o StartAnswer.Refused behind) (sym q ∙ h))
 
-  pub behind-answered : (first size : ℕ) → p ≡ Part.At first size → (a : Answer) → a ≡ call (rulesIn f [] []) (part s first size) st x → answerIn i first a ≡ callBehind f s at i st x
-  behind-answered first size h a t = ap (answerIn i first) t ∙ sym (by-part s i at StartAnswer.Refused behind ∙ rw (← q, h) refl)
+  pub behind-answered : (first size : ℕ) → p ≡ Part.At first size → (a : Answer) → a ≡ call (rulesBy f [] [] (formOf (part s first size))) (part s first size) st x → answerIn i first a ≡ callBehind f s at i st x
+  behind-answered first size h a t = ap (answerIn i first) t ∙ sym (by-part s i at StartAnswer.Refused behind ∙ ap (λ (o : Part). onFound o StartAnswer.Refused behind) (sym q ∙ h))
 
 -- ---- the whole, for a plant
 
@@ -216,12 +216,12 @@ module _ (p : Plant) (rooms : p .n ≤ 4) (edges vs : List ℤ) (q : Edged edges
       ap (λ (g : Frame). startAnswer g edges s m at st x) e
       ∙ ap (λ (o : Choice). onChoice o StartAnswer.Refused (λ i. callBehind (frameAt (ownFrame p) edges i) s at i (st .state) x)) (choice-same (p .n) (rootOf p) (valuesIn m edges) vs st x c box)
       ∙ onChoice-same (choiceOf (p .n) (rootOf p) vs st x) (λ i. callBehind (frameAt (ownFrame p) edges i) s at i (st .state) x) (λ i. callIn p vs s at i (st .state) x)
-      (λ i. by-rules i (frameAt (ownFrame p) edges i) ∙ answers-at p rooms edges vs q (λ root goal. onPart i s at StartAnswer.Refused λ first size. answerIn i first (call (tableRules p root goal) (part s first size) (st .state) x)) i)
+      (λ i. by-rules i (frameAt (ownFrame p) edges i) ∙ answers-at p rooms edges vs q (λ root goal. onPart i s at StartAnswer.Refused λ first size. let t = part s first size in answerIn i first (call (tableRules (formOf t) p root goal) t (st .state) x)) i)
       ∙ called-as p vs s at st x
     where
       -- a call hangs on no band and no coefficient
-      by-rules : (i : ℕ) (f : Frame) → callBehind f s at i (st .state) x ≡ onPart i s at StartAnswer.Refused λ first size. answerIn i first (call (rulesIn f (p .bands) (p .coef)) (part s first size) (st .state) x)
-      by-rules i f = ap (λ (answer : List ℕ → Answer). onPart i s at StartAnswer.Refused λ first size. answerIn i first (answer (part s first size))) (fun-ext (λ t. call-by f [] [] (p .bands) (p .coef) t (st .state) x))
+      by-rules : (i : ℕ) (f : Frame) → callBehind f s at i (st .state) x ≡ onPart i s at StartAnswer.Refused λ first size. let t = part s first size in answerIn i first (call (rulesBy f (p .bands) (p .coef) (formOf t)) t (st .state) x)
+      by-rules i f = ap (λ (answer : List ℕ → Answer). onPart i s at StartAnswer.Refused λ first size. answerIn i first (answer (part s first size))) (fun-ext (λ t. call-by (formed f (formOf t)) [] [] (p .bands) (p .coef) t (st .state) x))
 
 module _ (plant start : List ℕ) (st : StartState) (x : List ℤ) where
   pub plant-bad : (e : Refusal) → plantJudged plant ≡ bad e → StartAnswer.Refused e ≡ startControlled plant start st x

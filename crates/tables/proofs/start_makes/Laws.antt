@@ -2,19 +2,21 @@
 -- read of the chain. Assumes nothing.
 use Prim.Native.Nat.{ℕ, zero, suc, _+_, _-_, _≤_, _<_}
 use mathlib.Core.Path.{_≡_, refl, sym, ap, _∙_}
-use mathlib.Core.Bool.{true}
+use mathlib.Core.Bool.{Bool, true, false}
 use mathlib.Core.List.{List, [], _++_, append-assoc}
 use mathlib.Core.Option.{Option, none, some}
 use native.Mathlib.Omega.{arith}
 use lib.IntN.{ℤ}
 use lib.ListN.{length}
 use borrow.Author.Tests.{le-leb}
+use Rattle.laws.specs.Guards.{guard}
+use Rattle.laws.specs.Tests.{never}
 use Rattle.laws.specs.Writing.{Put, put-append, put-length, put-none}
 use Rattle.meaning.specs.declared.Refusal.{Refusal}
 use Rattle.meaning.specs.declared.Verdict.{Verdict}
 use Rattle.meaning.specs.declared.Walk.{Walk}
 use Rattle.meaning.specs.declared.Written.{Written}
-use Rattle.meaning.specs.Refusals.{noTable, short}
+use Rattle.meaning.specs.Refusals.{wrongForm, noTable, short}
 use Rattle.meaning.specs.Buffers.{Left, refusedWith, left}
 use Rattle.meaning.specs.Defined.{mapSome}
 use Rattle.meaning.specs.Files.{Judged, good, bad, valuesOf}
@@ -23,7 +25,7 @@ use Rattle.meaning.specs.Numbers.{bytesOf}
 use Rattle.meaning.specs.Rules.{Rules}
 use Rattle.meaning.specs.Plants.{Plant, plantJudged}
 use Rattle.meaning.specs.Starts.{chainForm, above, boxAt, boxBelow, onChain, partsOf, tableWith, tableBefore, tablesFrom, startBytes, startMade, startLeft}
-use Rattle.meaning.specs.Tables.{rulesFrom, definedTable}
+use Rattle.meaning.specs.Tables.{knownForm, rulesFrom, definedTable}
 use Rattle.promises.specs.files.Buffers.{left-short}
 use Rattle.promises.specs.files.Files.{file-writes}
 use Rattle.tables.specs.declared.chains.ChainRead.{ChainRead}
@@ -32,7 +34,7 @@ use Rattle.tables.specs.declared.frames.Frame.{Frame}
 use Rattle.tables.specs.Boxes.{boxOf}
 use Rattle.tables.specs.Chains.{chainRead}
 use Rattle.tables.specs.Drafts.{Wrote, definedBytes}
-use Rattle.tables.specs.Frames.{ownFrame, stepIn}
+use Rattle.tables.specs.Frames.{ownFrame, formed, stepIn}
 use Rattle.tables.specs.StartMakes.{withLength, partBytes, WroteParts, framesRules, framesTables, behindChain, valuesRules, chainLeft}
 use Rattle.tables.proofs.chains.Laws.{boxes-same, Chained, chain-refused, chain-edged, chain-goes}
 use Rattle.tables.proofs.drafts.Laws.{table-none, table-some}
@@ -155,55 +157,69 @@ tables-same r s e (suc m) i =
     ap (λ (x : Rules). tableBefore (definedTable i x) λ _. tablesFrom r m (suc i)) (e i)
     ∙ ap (λ (j : Judged (List (List ℕ))). tableBefore (definedTable i (s i)) λ _. j) (tables-same r s e m (suc i))
 
-module _ (f : Frame) (bands coef : List ℤ) (chain buf : List ℕ) (r : ChainRead) (q : r ≡ chainRead true f chain) where
+module _ (f : Frame) (bands coef : List ℤ) (chain : List ℕ) (form : ℕ) (buf : List ℕ) (r : ChainRead) (q : r ≡ chainRead true f chain) where
   abbrev rest : List ℤ → ℕ → Judged (List ℕ)
-  rest vs next = startBytes (f .n) vs (tablesFrom (valuesRules f bands coef vs) (above vs + 1) 0)
+  rest vs next = guard (knownForm form) (bad wrongForm) λ _. startBytes (f .n) vs (tablesFrom (valuesRules (formed f form) bands coef vs) (above vs + 1) 0)
 
-  pub chain-bad : (e : Refusal) → r .verdict ≡ Verdict.Refused e → refusedWith e buf ≡ chainLeft f bands coef chain buf
+  pub chain-bad : (e : Refusal) → r .verdict ≡ Verdict.Refused e → refusedWith e buf ≡ chainLeft f bands coef chain form buf
   chain-bad e h = ap (λ (j : Judged (List ℕ)). left j buf) (chain-refused true f chain r q e h bad rest)
 
-  module _ (t : Chained true f chain r) (rooms : f .n ≤ 4) where
+  pub chain-unknown : Chained true f chain r → knownForm form ≡ false → refusedWith wrongForm buf ≡ chainLeft f bands coef chain form buf
+  chain-unknown t k = ap (λ (j : Judged (List ℕ)). left j buf) (sym (go (knownForm form) k) ∙ chain-goes true f chain r q t bad rest)
+    where
+      go : (b : Bool) → b ≡ false → guard b (bad wrongForm) (λ _. startBytes (f .n) (t .vs) (tablesFrom (valuesRules (formed f form) bands coef (t .vs)) (above (t .vs) + 1) 0)) ≡ bad wrongForm
+      go true e = never cc
+      go false e = refl
+
+  module _ (t : Chained true f chain r) (rooms : f .n ≤ 4) (known : knownForm form ≡ true) where
     -- the bytes of the values read are the bytes read
     written : (j : Judged (List (List ℕ))) → behindChain chain j ≡ startBytes (f .n) (t .vs) j
     written (bad e) = refl
     written (good ts) = ap (λ (s : List ℕ). good (s ++ partsOf ts)) (sym (file-writes (chainForm (f .n)) chain (t .values) .2))
 
-    tables : framesTables f bands coef (r .edges) (r .m) ≡ tablesFrom (valuesRules f bands coef (t .vs)) (above (t .vs) + 1) 0
+    tables : framesTables (formed f form) bands coef (r .edges) (r .m) ≡ tablesFrom (valuesRules (formed f form) bands coef (t .vs)) (above (t .vs) + 1) 0
     tables =
-        ap (λ (m : ℕ). framesTables f bands coef (r .edges) m) (t .count)
-        ∙ tables-same (framesRules f bands coef (r .edges)) (valuesRules f bands coef (t .vs)) same (above (t .vs) + 1) 0
+        ap (λ (m : ℕ). framesTables (formed f form) bands coef (r .edges) m) (t .count)
+        ∙ tables-same (framesRules (formed f form) bands coef (r .edges)) (valuesRules (formed f form) bands coef (t .vs)) same (above (t .vs) + 1) 0
       where
-        same : (i : ℕ) → framesRules f bands coef (r .edges) i ≡ valuesRules f bands coef (t .vs) i
+        same : (i : ℕ) → framesRules (formed f form) bands coef (r .edges) i ≡ valuesRules (formed f form) bands coef (t .vs) i
         same i =
             boxes-same (f .n) rooms (r .edges) (t .vs) (chain-edged true f chain r q t) (f .root)
-            (λ root goal. rulesFrom (f .n) (f .modes) (f .k) (f .d) root goal (boxOf (f .n) (f .safe)) (stepIn f bands coef)) i
+            (λ root goal. rulesFrom form (f .n) (f .modes) (f .k) (f .d) root goal (boxOf (f .n) (f .safe)) (stepIn f bands coef)) i
 
-    pub chain-good : left (behindChain chain (framesTables f bands coef (r .edges) (r .m))) buf ≡ chainLeft f bands coef chain buf
+    pub chain-good : left (behindChain chain (framesTables (formed f form) bands coef (r .edges) (r .m))) buf ≡ chainLeft f bands coef chain form buf
     chain-good =
+        let made = tablesFrom (valuesRules (formed f form) bands coef (t .vs)) (above (t .vs) + 1) 0 in
         ap (λ (j : Judged (List ℕ)). left j buf)
-        (ap (behindChain chain) tables ∙ written (tablesFrom (valuesRules f bands coef (t .vs)) (above (t .vs) + 1) 0) ∙ chain-goes true f chain r q t bad rest)
+        (ap (behindChain chain) tables ∙ written made ∙ sym (go (knownForm form) known (startBytes (f .n) (t .vs) made)) ∙ chain-goes true f chain r q t bad rest)
+      where
+        go : (b : Bool) → b ≡ true → (j : Judged (List ℕ)) → guard b (bad wrongForm) (λ _. j) ≡ j
+        go true e j = refl
+        go false e j = never cc
 
 -- bands and coefficients count by what the modes do with them alone
-pub chain-steps : (f : Frame) (bands coef bands′ coef′ : List ℤ) → stepIn f bands coef ≡ stepIn f bands′ coef′ → (chain buf : List ℕ) → chainLeft f bands coef chain buf ≡ chainLeft f bands′ coef′ chain buf
-chain-steps f bands coef bands′ coef′ e chain buf = ap made e
+pub chain-steps : (f : Frame) (bands coef bands′ coef′ : List ℤ) → stepIn f bands coef ≡ stepIn f bands′ coef′ → (chain : List ℕ) (form : ℕ) (buf : List ℕ)
+    → chainLeft f bands coef chain form buf ≡ chainLeft f bands′ coef′ chain form buf
+chain-steps f bands coef bands′ coef′ e chain form buf = ap made e
   where
     rules : (ℕ → Step) → List ℤ → ℕ → Rules
     rules step vs i =
         let root = boxOf (f .n) (f .root) in
-        rulesFrom (f .n) (f .modes) (f .k) (f .d) (boxAt (f .n) root vs i) (boxBelow (f .n) root vs i) (boxOf (f .n) (f .safe)) step
+        rulesFrom form (f .n) (f .modes) (f .k) (f .d) (boxAt (f .n) root vs i) (boxBelow (f .n) root vs i) (boxOf (f .n) (f .safe)) step
 
     made : (ℕ → Step) → Left
     made step =
         left (onChain (f .n) (boxOf (f .n) (f .root)) (boxOf (f .n) (f .safe)) (valuesOf (chainForm (f .n)) chain) bad λ vs _.
+        guard (knownForm form) (bad wrongForm) λ _.
         startBytes (f .n) vs (tablesFrom (rules step vs) (above vs + 1) 0)) buf
 
 -- ---- for a plant: its own frame's
 
-module _ (plant chain buf : List ℕ) where
-  pub start-bad : (e : Refusal) → plantJudged plant ≡ bad e → refusedWith e buf ≡ startLeft plant chain buf
+module _ (plant chain : List ℕ) (form : ℕ) (buf : List ℕ) where
+  pub start-bad : (e : Refusal) → plantJudged plant ≡ bad e → refusedWith e buf ≡ startLeft plant chain form buf
   unfolding startLeft startMade
   start-bad e h = rw h refl
 
-  pub start-own : (p : Plant) → plantJudged plant ≡ good p → (f : Frame) → f ≡ ownFrame p → chainLeft f (p .bands) (p .coef) chain buf ≡ startLeft plant chain buf
+  pub start-own : (p : Plant) → plantJudged plant ≡ good p → (f : Frame) → f ≡ ownFrame p → chainLeft f (p .bands) (p .coef) chain form buf ≡ startLeft plant chain form buf
   unfolding startLeft startMade
   start-own p h f e = rw (h, e) refl

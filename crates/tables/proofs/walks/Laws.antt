@@ -11,11 +11,12 @@ use Rattle.meaning.specs.declared.Number.{Number}
 use Rattle.meaning.specs.declared.Refusal.{Refusal}
 use Rattle.meaning.specs.declared.Tried.{Tried}
 use Rattle.meaning.specs.declared.Walk.{Walk}
-use Rattle.meaning.specs.Boxes.{Side, children}
+use Rattle.meaning.specs.Boxes.{Side}
 use Rattle.meaning.specs.Files.{Read}
 use Rattle.meaning.specs.Numbers.{numberAt}
 use Rattle.meaning.specs.Refusals.{broken, badTable}
 use Rattle.meaning.specs.Verdicts.{onTried, onModes, each, modesAt}
+use Rattle.meaning.specs.Tables.{childrenBy}
 use Rattle.promises.specs.tables.Walking.{each-done, each-more, each-refused, walk-broken, walk-deep, walk-stuck, walk-split, walk-over, walk-tile}
 use Rattle.tables.specs.declared.frames.Frame.{Frame}
 use Rattle.tables.specs.Frames.{rulesIn}
@@ -63,25 +64,25 @@ module _ (f : Frame) (bands coef : List ℤ) (judged : Bool) where
         pub tree-deep : d ≡ 0 → Walk.Refused (badTable at) ≡ tree d s at b
         tree-deep h = sym (walk-deep (rulesIn f bands coef) judge d s at b m split h)
 
-        pub tree-stuck : length (children b) ≡ 0 → Walk.Refused (badTable at) ≡ tree d s at b
-        tree-stuck h = sym (walk-stuck (rulesIn f bands coef) judge d s at b m split (none (children b) h))
+        pub tree-stuck : length (childrenBy (f .form) b) ≡ 0 → Walk.Refused (badTable at) ≡ tree d s at b
+        tree-stuck h = sym (walk-stuck (rulesIn f bands coef) judge d s at b m split (none (childrenBy (f .form) b) h))
 
-        pub tree-split : (d ≡ 0 → ⊥) → (length (children b) ≡ 0 → ⊥) → each (tree (d - 1) s) (drop 0 (children b)) m ≡ tree d s at b
+        pub tree-split : (d ≡ 0 → ⊥) → (length (childrenBy (f .form) b) ≡ 0 → ⊥) → each (tree (d - 1) s) (drop 0 (childrenBy (f .form) b)) m ≡ tree d s at b
         tree-split h l = sym (walk-split (rulesIn f bands coef) judge d s at b m (d - 1) split (omega arith) (λ q. l (ap length q)))
 
   -- ---- children in a loop: c of them are done, w is the place behind them
 
   module _ (d : ℕ) (s : List ℕ) (b : List Side) (c w : ℕ) where
-    pub children-done : length (children b) ≤ c → Walk.Next w ≡ each (tree d s) (drop c (children b)) w
-    children-done h = sym (each-done (tree d s) (children b) c w h)
+    pub children-done : length (childrenBy (f .form) b) ≤ c → Walk.Next w ≡ each (tree d s) (drop c (childrenBy (f .form) b)) w
+    children-done h = sym (each-done (tree d s) (childrenBy (f .form) b) c w h)
 
     -- the next one, and what was answered for it
-    module _ (h : c < length (children b)) (kid : List Side) (q : kid ≡ getD (children b) c []) (v : Walk) (e : v ≡ tree d s w kid) where
-      came : tree d s w (getD (children b) c []) ≡ v
+    module _ (h : c < length (childrenBy (f .form) b)) (kid : List Side) (q : kid ≡ getD (childrenBy (f .form) b) c []) (v : Walk) (e : v ≡ tree d s w kid) where
+      came : tree d s w (getD (childrenBy (f .form) b) c []) ≡ v
       came = ap (λ (k : List Side). tree d s w k) (sym q) ∙ sym e
 
-      pub children-more : (m : ℕ) → v ≡ Walk.Next m → each (tree d s) (drop (c + 1) (children b)) m ≡ each (tree d s) (drop c (children b)) w
-      children-more m g = sym (each-more (tree d s) (children b) c w [] m h (came ∙ g))
+      pub children-more : (m : ℕ) → v ≡ Walk.Next m → each (tree d s) (drop (c + 1) (childrenBy (f .form) b)) m ≡ each (tree d s) (drop c (childrenBy (f .form) b)) w
+      children-more m g = sym (each-more (tree d s) (childrenBy (f .form) b) c w [] m h (came ∙ g))
 
-      pub children-stopped : (r : Refusal) → v ≡ Walk.Refused r → v ≡ each (tree d s) (drop c (children b)) w
-      children-stopped r g = g ∙ sym (each-refused (tree d s) (children b) c w [] r h (came ∙ g))
+      pub children-stopped : (r : Refusal) → v ≡ Walk.Refused r → v ≡ each (tree d s) (drop c (childrenBy (f .form) b)) w
+      children-stopped r g = g ∙ sym (each-refused (tree d s) (childrenBy (f .form) b) c w [] r h (came ∙ g))

@@ -7,10 +7,10 @@ use Rattle.list.proofs.boxes.count.Statement.{statement}
 use Rattle.list.proofs.boxes.count.Tie as tie
 
 abbrev Inv-loop : tie.InvT-loop
-Inv-loop n b most k₀ j₀ k j = (j ≤ most) × (k ≤ 2 ^ j)
+Inv-loop form n b most k₀ j₀ k j = (j ≤ most) × (k ≤ 2 ^ j)
 
 abbrev μ-loop : tie.MeasureT-loop
-μ-loop n b most k₀ j₀ k j = most - j
+μ-loop form n b most k₀ j₀ k j = most - j
 
 sides-requires : tie.Need-sides-requires Inv-loop μ-loop
 sides-requires c κs = tt
@@ -30,8 +30,8 @@ mul-hi c = omega arith
 element-copy-out-hi : tie.Need-element-copy-out-hi Inv-loop μ-loop
 element-copy-out-hi c = omega arith
 
-splits-requires : tie.Need-splits-requires Inv-loop μ-loop
-splits-requires c κs = tt
+reach-requires : tie.Need-reach-requires Inv-loop μ-loop
+reach-requires c κs = tt
 
 mul-k : tie.Need-mul-k Inv-loop μ-loop
 mul-k c = omega (arith, pow-mono {i = c .before .before .before .before .before .loop .j} {j = 4} (omega arith))
@@ -49,7 +49,13 @@ loop-again c =
     ⊎-elim (λ w. (omega arith, omega (arith, w .1))) (λ w. (omega arith, omega (arith, w .1))) (c .if1 .came)
 
 returns : tie.Need-returns Inv-loop μ-loop
-returns c = omega (arith, pow-mono {i = c .before .loop .j} {j = 4} (omega arith))
+returns c = omega (arith, pow-mono {i = c .before .before .loop .j} {j = 4} (omega arith))
+
+returns-2 : tie.Need-returns-2 Inv-loop μ-loop
+returns-2 c = omega arith
+
+returns-3 : tie.Need-returns-3 Inv-loop μ-loop
+returns-3 c = omega arith
 
 pub count-spec : {M : Type 1} → statement M
 count-spec =
@@ -63,9 +69,11 @@ count-spec =
     element-copy-out-lo
     mul-hi
     element-copy-out-hi
-    splits-requires
+    reach-requires
     mul-k
     add-j
     loop-less
     loop-again
-    returns)
+    returns
+    returns-2
+    returns-3)

@@ -15,7 +15,7 @@ use Rattle.list.proofs.listings.+tree.{statement}
 use Rattle.list.proofs.listings.+tree.Tie.{close}
 
 abbrev μ-tree : Measures 1 tree-kinds.ps ℕ
-μ-tree κs a = a .1 .1 .1 .0
+μ-tree κs a = a .1 .1 .1 .1 .0
 
 abbrev tree-at : ℕ → In 1 tree-kinds.ps
 tree-at t = and 1 tree-kinds.ps (is 1 tree-kinds.ps μ-tree t) tree.Pre
@@ -27,10 +27,10 @@ abbrev claims : ℕ → tree-lts.Claims
 claims t = (number-reads.Asked, number-reads.Learnt, tile-reads.Asked, tile-reads.Learnt, count-reads.Asked, count-reads.Learnt, child-reads.Asked, child-reads.Learnt, tree-below t, tree.Post)
 
 abbrev tree-Inv-loop : tree-lts.InvT-loop
-tree-Inv-loop shown n table d b k next count past₀ c₀ past c = c ≤ count
+tree-Inv-loop shown form n table d b k next count past₀ c₀ past c = c ≤ count
 
 abbrev tree-μ-loop : tree-lts.MeasureT-loop
-tree-μ-loop shown n table d b k next count past₀ c₀ past c = count - c
+tree-μ-loop shown form n table d b k next count past₀ c₀ past c = count - c
 
 tree-number-requires : (t : ℕ) → tree-lts.Need-number-requires (claims t) (tree-at t) tree.Post tree-Inv-loop tree-μ-loop
 tree-number-requires t c κs = tt

@@ -9,22 +9,23 @@ use Rattle.laws.specs.Integers.{ok64}
 use Rattle.laws.specs.Lists.{at, tab}
 use Rattle.meaning.specs.Boxes.{sideAt}
 use Rattle.tables.specs.Boxes.{boxOf}
-use Rattle.tables.proofs.boxes.Laws.{countOf, count-one, count-more, count-end, count-twice, count-same, twice, pow-small, pow-next}
+use Rattle.tables.proofs.boxes.Laws.{countOf, count-end, count-twice, count-same, twice, pow-small, pow-next}
+use Rattle.tables.proofs.boxes.Halving.{count-none, count-two, count-all}
 use Rattle.tables.proofs.boxes.count.Statement.{statement}
 use Rattle.tables.proofs.boxes.count.Tie as tie
 
 abbrev Inv-loop : tie.InvT-loop
-Inv-loop n b k₀ j₀ k j = (j ≤ n) × (k ≤ 2 ^ j) × (k * countOf (tab (sideAt (b .lo) (b .hi)) (n - j) j) ≡ countOf (boxOf n b))
+Inv-loop form n b k₀ j₀ k j = (j ≤ n) × (k ≤ 2 ^ j) × (k * countOf (tab (sideAt (b .lo) (b .hi)) (n - j) j) ≡ countOf (boxOf n b))
 
 abbrev μ-loop : tie.MeasureT-loop
-μ-loop n b k₀ j₀ k j = n - j
+μ-loop form n b k₀ j₀ k j = n - j
 
 -- behind the loop k is the whole count
-all : (c : tie.After-loop Inv-loop μ-loop) → c .before .loop .k ≡ countOf (boxOf (c .before .before .args .n) (c .before .before .args .t2))
+all : (c : tie.After-loop Inv-loop μ-loop) → c .before .loop .k ≡ countOf (boxOf (c .before .before .args .n) (c .before .before .args .t3))
 all c =
     let l = c .before .loop in
     let a = c .before .before .args in
-    let e = rw (count-end (a .t2 .lo) (a .t2 .hi) (a .n) (l .j) (c .loop-test .left)) at (l .inv .2) in
+    let e = rw (count-end (a .t3 .lo) (a .t3 .hi) (a .n) (l .j) (c .loop-test .left)) at (l .inv .2) in
     omega (arith, e)
 
 loop-holds : tie.Need-loop-holds Inv-loop μ-loop
@@ -56,8 +57,8 @@ loop-again c =
     let l = c .before .before .before .before .loop in
     let a = c .before .before .before .before .before .args in
     let h : l .j < a .n = omega arith in
-    let lo = a .t2 .lo in
-    let hi = a .t2 .hi in
+    let lo = a .t3 .lo in
+    let hi = a .t3 .hi in
     let el = toZ-ofZ (ok64 (at lo (l .j)) (c .before .before .l .given)) in
     let eh = toZ-ofZ (ok64 (at hi (l .j)) (c .before .h .given)) in
     let p = pow-next (l .j) in
@@ -68,15 +69,19 @@ loop-again c =
 
 returns : tie.Need-returns Inv-loop μ-loop
 returns c =
-    let l = c .before .before .loop in
     let a = c .before .before .before .args in
-    count-one (boxOf (a .n) (a .t2)) (omega (arith, all (c .before), c .if2 .taken))
+    count-none (a .form) (boxOf (a .n) (a .t3)) (omega (arith, all (c .before), c .if2 .taken))
 
 returns-2 : tie.Need-returns-2 Inv-loop μ-loop
 returns-2 c =
-    let a = c .before .before .before .args in
-    let q = all (c .before) in
-    q ∙ count-more (boxOf (a .n) (a .t2)) (λ z. c .if2 .left (q ∙ z))
+    let a = c .before .before .before .before .args in
+    count-two (a .form) (boxOf (a .n) (a .t3)) (c .if3 .taken) (λ z. c .before .if2 .left (all (c .before .before) ∙ z))
+
+returns-3 : tie.Need-returns-3 Inv-loop μ-loop
+returns-3 c =
+    let a = c .before .before .before .before .args in
+    let q = all (c .before .before) in
+    q ∙ count-all (a .form) (boxOf (a .n) (a .t3)) (c .if3 .left) (λ z. c .before .if2 .left (q ∙ z))
 
 pub count-spec : {M : Type 1} → statement M
 count-spec =
@@ -94,4 +99,5 @@ count-spec =
     loop-less
     loop-again
     returns
-    returns-2)
+    returns-2
+    returns-3)

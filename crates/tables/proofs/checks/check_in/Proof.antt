@@ -6,10 +6,11 @@ use denote.Ref.{now}
 use borrow.Author.Needs.{needs}
 use Rattle.meaning.specs.Plants.{plantJudged}
 use Rattle.meaning.specs.Rules.{Rules}
+use Rattle.meaning.specs.Tables.{formOf}
 use Rattle.meaning.specs.Verdicts.{verdict}
 use Rattle.promises.specs.tables.PlantRules.{read-bad, checked-bad, checked-as}
 use Rattle.tables.specs.declared.frames.Frame.{Frame}
-use Rattle.tables.specs.Frames.{rulesIn}
+use Rattle.tables.specs.Frames.{formed, rulesBy}
 use Rattle.tables.proofs.arrays.Laws.{ReadInto, read-into}
 use Rattle.tables.proofs.checks.check_in.Statement.{statement}
 use Rattle.tables.proofs.checks.check_in.Tie as tie
@@ -70,8 +71,8 @@ returns-2 c =
     let t = taken x in
     let p = t .plant in
     let table = now (start x .args .table) in
-    c .judge .ensures ∙ ap (λ (r : Rules). verdict r table) (t .rules (x .framed .result))
-    ∙ ap (λ (f : Frame). verdict (rulesIn f (p .bands) (p .coef)) table) (t .framed)
+    c .judge .ensures ∙ ap (λ (r : Rules). verdict r table) (t .rules (formed (x .framed .result) (formOf table)))
+    ∙ ap (λ (f : Frame). verdict (rulesBy f (p .bands) (p .coef) (formOf table)) table) (t .framed)
     ∙ sym (checked-as (now (start x .args .plant)) p (t .was) table)
 
 pub check-in-spec : {M : Type 1} → statement M

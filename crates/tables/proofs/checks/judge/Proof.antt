@@ -6,14 +6,15 @@ use denote.Ref.{now}
 use borrow.Author.Needs.{needs}
 use Rattle.meaning.specs.declared.Verdict.{Verdict}
 use Rattle.meaning.specs.Rules.{Rules}
-use Rattle.tables.specs.Frames.{rulesIn}
+use Rattle.meaning.specs.Tables.{formOf}
+use Rattle.tables.specs.Frames.{rulesBy}
 use Rattle.tables.proofs.checks.Laws.{table-stopped, left-over, accepted}
 use Rattle.tables.proofs.checks.judge.Statement.{statement}
 use Rattle.tables.proofs.checks.judge.Tie as tie
 
 module _ (s : tie.Start) where
   abbrev rules : Rules
-  rules = rulesIn (s .args .f) (now (s .args .bands)) (now (s .args .coef))
+  rules = rulesBy (s .args .f) (now (s .args .bands)) (now (s .args .coef)) (formOf (now (s .args .table)))
 
   abbrev table : List ℕ
   table = now (s .args .table)

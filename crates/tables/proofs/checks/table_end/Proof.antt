@@ -1,77 +1,39 @@
--- `checks::table_end`: header, then tree. Assumes nothing.
+-- `checks::table_end` by the form that the table says, which is a known one. Assumes nothing.
 use Prim.Native.Nat.{ℕ}
-use mathlib.Core.Path.{_∙_}
-use mathlib.Core.Bool.{true}
+use mathlib.Core.Path.{_≡_, sym, ap, _∙_, subst}
 use mathlib.Core.List.{List}
 use denote.Ref.{now}
 use borrow.Author.Needs.{needs}
-use Rattle.meaning.specs.Rules.{Rules}
-use Rattle.tables.specs.Boxes.{boxOf}
-use Rattle.tables.specs.Frames.{frameFrom, rulesIn}
-use Rattle.tables.specs.Walks.{walkBy}
-use Rattle.tables.proofs.frames.Laws.{lent-sound, lent-modes, lent-same}
-use Rattle.tables.proofs.checks.Laws.{header-stopped, tree-walked}
+use Rattle.meaning.specs.Tables.{formOf}
+use Rattle.meaning.specs.Verdicts.{tableEnd}
+use Rattle.promises.specs.tables.TableForms.{form-known}
+use Rattle.tables.specs.declared.frames.Frame.{Frame}
+use Rattle.tables.specs.Frames.{formed, rulesIn, PlantSound}
+use Rattle.tables.proofs.frames.Laws.{formed-sound}
 use Rattle.tables.proofs.checks.table_end.Statement.{statement}
 use Rattle.tables.proofs.checks.table_end.Tie as tie
 
-module _ (s : tie.Start) where
-  abbrev rules : Rules
-  rules = rulesIn (s .args .f) (now (s .args .bands)) (now (s .args .coef))
+abbrev table : tie.Start → List ℕ
+table s = now (s .args .table)
 
-  abbrev table : List ℕ
-  table = now (s .args .table)
+own : (c : tie.After-formed) → c .formed .result ≡ formed (c .before .before .before .args .f) (formOf (table (c .before .before .before)))
+own c = c .formed .ensures ∙ ap (formed (c .before .before .before .args .f)) (c .before .form-of .ensures)
 
-header-requires : tie.Need-header-requires
-header-requires c κs = search needs
+form-of-requires : tie.Need-form-of-requires
+form-of-requires c κs = search needs
 
-enum-known-e : tie.Need-enum-known-e
-enum-known-e c = search needs
+formed-requires : tie.Need-formed-requires
+formed-requires c κs = search needs
 
-enum-known-at : tie.Need-enum-known-at
-enum-known-at c = search needs
-
-edges-of-requires : tie.Need-edges-of-requires
-edges-of-requires c κs = search needs
-
-counts-of-requires : tie.Need-counts-of-requires
-counts-of-requires c κs = search needs
-
-walk-requires : tie.Need-walk-requires
-walk-requires c κs =
-    let s = c .before .before .before .before .before .before .before .before .before in
-    let x = c .before .counts-of in
-    let e = c .before .before .edges-of in
-    let g = lent-sound (s .args .f) (x .result) (e .result) (x .ensures) (e .ensures) (s .pre .0) in
-    (g .0, g .1, λ j. lent-modes (s .args .f) (x .result) (e .result) (x .ensures) (e .ensures) (now (s .args .bands)) (now (s .args .coef)) (s .pre .1))
+end-by-requires : tie.Need-end-by-requires
+end-by-requires c κs =
+    let s = c .before .before .before in
+    subst (λ (f : Frame). PlantSound f (now (s .args .bands)) (now (s .args .coef))) (sym (own c)) (formed-sound (s .args .f) (formOf (table s)) (form-known (table s)) (s .pre .0), s .pre .1)
 
 returns : tie.Need-returns
 returns c =
-    let s = c .before .before .before .before .before in
-    let h = c .before .before .before .header in
-    let g = c .before .e .given in
-    header-stopped (rules s) (table s) (h .result) (h .ensures) (g .0 .0) (g .1)
-
-returns-2 : tie.Need-returns-2
-returns-2 c =
-    let s = c .before .before .before .before .before .before .before .before .before .before in
-    let h = c .before .before .before .before .before .before .before .before .header in
-    let g = c .before .before .before .before .before .before .at .given in
-    let x = c .before .before .counts-of in
-    let e = c .before .before .before .edges-of in
-    c .walk .ensures
-    ∙ lent-same (s .args .f) (x .result) (e .result) (x .ensures) (e .ensures)
-    (λ x e. walkBy true (rulesIn (frameFrom x e) (now (s .args .bands)) (now (s .args .coef))) (s .args .f .d) (table s) (g .0 .0) (boxOf (x .n) (s .args .f .root)))
-    ∙ tree-walked (rules s) (table s) (h .result) (h .ensures) (g .0 .0) (g .1)
+    let s = c .before .before .before .before in
+    c .end-by .ensures ∙ ap (λ (f : Frame). tableEnd (rulesIn f (now (s .args .bands)) (now (s .args .coef))) (table s)) (own (c .before))
 
 pub table-end-spec : {M : Type 1} → statement M
-table-end-spec =
-    tie.close
-    (tie.spec
-    header-requires
-    enum-known-e
-    enum-known-at
-    edges-of-requires
-    counts-of-requires
-    walk-requires
-    returns
-    returns-2)
+table-end-spec = tie.close (tie.spec form-of-requires formed-requires end-by-requires returns)

@@ -9,7 +9,8 @@ use Rattle.promises.specs.files.Judged.{judged-sound}
 use Rattle.promises.specs.files.Sound.{Sound}
 use Rattle.promises.specs.tables.PlantRules.{Taken, read-good, read-bad, controlled-bad, controlled-as}
 use Rattle.tables.specs.declared.frames.Frame.{Frame}
-use Rattle.tables.specs.Frames.{frameOf, ownFrame, rulesIn}
+use Rattle.meaning.specs.Tables.{formOf}
+use Rattle.tables.specs.Frames.{frameOf, ownFrame, formed, rulesBy}
 use Rattle.tables.proofs.frames.Laws.{framed-sound}
 use Rattle.tables.proofs.control.Laws.{call-by}
 use Rattle.tables.proofs.control.control.Statement.{statement}
@@ -56,8 +57,8 @@ returns-2 c =
     let t = c .before .before in
     let a = t .before .before .before .before .before .args in
     let p = taken t .plant in
-    c .call .ensures ∙ ap (λ (f : Frame). call (rulesIn f [] []) (now (a .table)) (a .st) (a .x)) (own (c .before))
-    ∙ call-by (ownFrame p) [] [] (p .bands) (p .coef) (now (a .table)) (a .st) (a .x)
+    c .call .ensures ∙ ap (λ (f : Frame). call (rulesBy f [] [] (formOf (now (a .table)))) (now (a .table)) (a .st) (a .x)) (own (c .before))
+    ∙ call-by (formed (ownFrame p) (formOf (now (a .table)))) [] [] (p .bands) (p .coef) (now (a .table)) (a .st) (a .x)
     ∙ sym (controlled-as (now (a .plant)) p (taken t .was) (now (a .table)) (a .st) (a .x))
 
 pub control-spec : {M : Type 1} → statement M

@@ -24,22 +24,24 @@ module _ (s : tie.Start) where
 -- the tile was looked for
 module _ (c : tie.After-find) where
   abbrev start : tie.Start
-  start = c .before .before .before .before .before .before .before .before
+  start = c .before .before .before .before .before .before .before .before .before
 
   -- what was answered for the frame taken apart
-  sought : c .find .result ≡ find (rules start) (start .args .f .d) (bytes start) (start .args .at) (boxOf (start .args .f .n) (start .args .f .root)) (start .args .x)
+  sought : c .find .result ≡ find (rules start) (rules start .D) (bytes start) (start .args .at) (boxOf (start .args .f .n) (start .args .f .root)) (start .args .x)
   sought =
       let k = c .before .before .counts-of in
       let e = c .before .before .before .edges-of in
+      let d = c .before .before .before .before .depth in
       c .find .ensures
       ∙ lent-same (start .args .f) (k .result) (e .result) (k .ensures) (e .ensures)
-      (λ k e. find (rulesIn (frameFrom k e) [] []) (start .args .f .d) (bytes start) (start .args .at) (boxOf (k .n) (start .args .f .root)) (start .args .x))
+      (λ k e. find (rulesIn (frameFrom k e) [] []) (d .result) (bytes start) (start .args .at) (boxOf (k .n) (start .args .f .root)) (start .args .x))
+      ∙ ap (λ (d : ℕ). find (rules start) d (bytes start) (start .args .at) (boxOf (start .args .f .n) (start .args .f .root)) (start .args .x)) (d .ensures)
 
   found : (o : Found) → c .find .result ≡ o → onFound (bytes start) o ≡ idleCall (rules start) (bytes start) (start .args .at) (start .args .place) (start .args .x)
   found o e =
-      let v = c .before .before .before .before .before .before .admit in
+      let v = c .before .before .before .before .before .before .before .admit in
       ap (onFound (bytes start)) (sym e ∙ sought)
-      ∙ idle-finds (rules start) (bytes start) (start .args .x) (start .args .at) (start .args .place) (v .result) (v .ensures) (c .before .before .before .before .enum-told .given .1)
+      ∙ idle-finds (rules start) (bytes start) (start .args .x) (start .args .at) (start .args .place) (v .result) (v .ensures) (c .before .before .before .before .before .enum-told .given .1)
 
 admit-requires : tie.Need-admit-requires
 admit-requires c κs = c .before .pre .rooms
@@ -50,6 +52,9 @@ enum-known-e c = search needs
 enum-told : tie.Need-enum-told
 enum-told c = search needs
 
+depth-requires : tie.Need-depth-requires
+depth-requires c κs = let g = c .before .before .before .before .pre in (g .rooms, g .depth)
+
 edges-of-requires : tie.Need-edges-of-requires
 edges-of-requires c κs = search needs
 
@@ -58,7 +63,7 @@ counts-of-requires c κs = search needs
 
 find-requires : tie.Need-find-requires
 find-requires c κs =
-    let s = c .before .before .before .before .before .before .before in
+    let s = c .before .before .before .before .before .before .before .before in
     let k = c .before .counts-of in
     let e = c .before .before .edges-of in
     lent-sound (s .args .f) (k .result) (e .result) (k .ensures) (e .ensures) (s .pre)
@@ -92,6 +97,7 @@ idle-call-spec =
     admit-requires
     enum-known-e
     enum-told
+    depth-requires
     edges-of-requires
     counts-of-requires
     find-requires

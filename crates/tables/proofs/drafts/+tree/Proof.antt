@@ -10,17 +10,18 @@ use lib.IntN.{ℤ}
 use lib.ListN.{length, drop}
 use borrow.Author.Needs.{needs}
 use Rattle.laws.specs.Writing.{put-length}
-use Rattle.meaning.specs.Boxes.{Side, children}
+use Rattle.meaning.specs.Boxes.{Side}
 use Rattle.meaning.specs.Plants.{edgeLimit}
 use Rattle.meaning.specs.Rules.{Rules}
 use Rattle.meaning.specs.Defined.{firstPattern}
+use Rattle.meaning.specs.Tables.{childrenBy}
 use Rattle.tables.specs.declared.frames.Frame.{Frame}
 use Rattle.tables.specs.declared.drafts.Grown.{Grown}
 use Rattle.tables.specs.Boxes.{boxOf}
 use Rattle.tables.specs.Frames.{frameFrom, rulesIn}
 use Rattle.tables.specs.Search.{patternBy}
 use Rattle.tables.specs.Drafts.{Wrote, treeBytes, treesBytes}
-use Rattle.tables.proofs.boxes.Laws.{small-children}
+use Rattle.tables.proofs.boxes.Halving.{small-children}
 use Rattle.tables.proofs.search.Rules.{lent, shortest-is}
 use Rattle.tables.proofs.drafts.Laws.{Growing, grow-none, grow-done, grow-more, grow-stopped, node-tile, node-deep, node-stuck, node-split, wrote-length}
 use borrow.Fn.Kinds.{In}
@@ -51,7 +52,7 @@ claims t = (first-reads.Asked, first-reads.Learnt, put-tile-reads.Asked, put-til
 abbrev tree-Inv-loop : tree-lts.InvT-loop
 tree-Inv-loop f edges bands coef limits marks d b buf₀ at n size count place₀ c₀ buf place c =
     let r = rulesIn (frameFrom f edges) bands coef in
-    (c ≤ count) × Growing buf₀ place₀ (treesBytes r (d - 1) (children (boxOf (f .n) b))) (treesBytes r (d - 1) (drop c (children (boxOf (f .n) b)))) place buf
+    (c ≤ count) × Growing buf₀ place₀ (treesBytes r (d - 1) (childrenBy (f .form) (boxOf (f .n) b))) (treesBytes r (d - 1) (drop c (childrenBy (f .form) (boxOf (f .n) b)))) place buf
 
 abbrev tree-μ-loop : tree-lts.MeasureT-loop
 tree-μ-loop f edges bands coef limits marks d b buf₀ at n size count place₀ c₀ buf place c = count - c
@@ -99,9 +100,9 @@ module _ (t : ℕ) (k : Split t) where
   from = k .before .before .before .before .before .before .before .before .before .before .before
 
   abbrev whole : Option (List ℕ)
-  whole = treesBytes (rules t from) (from .args .d - 1) (children (box t from))
+  whole = treesBytes (rules t from) (from .args .d - 1) (childrenBy (from .args .f .form) (box t from))
 
-  in-box : {c : ℕ} → c < k .before .before .before .before .before .count .result → c < length (children (box t from))
+  in-box : {c : ℕ} → c < k .before .before .before .before .before .count .result → c < length (childrenBy (from .args .f .form) (box t from))
   in-box h = let e = k .before .before .before .before .before .count .ensures in rw (← e) h
 
   goes : (a : Grown) (out : List ℕ) → Wrote whole (k .before .before .put-number .last .0) (k .before .before .put-number .result) a out
@@ -125,7 +126,7 @@ module _ (t : ℕ) (w : Child t) where
   abbrev left : List ℕ
   left = w .tree .last .1 .1 .1 .1 .1 .1 .1 .1 .0
 
-  in-count : done < length (children (box t (from t parent)))
+  in-count : done < length (childrenBy (from t parent .args .f .form) (box t (from t parent)))
   in-count = in-box t parent (w .before .before .before .loop-test .taken)
 
   abbrev kid : List Side
@@ -134,14 +135,14 @@ module _ (t : ℕ) (w : Child t) where
   stopped : w .tree .result ≡ Grown.Nothing → Wrote (whole t parent) (parent .before .before .put-number .last .0) (parent .before .before .put-number .result) Grown.Nothing left
   stopped e =
       let l = w .before .before .before .before .loop in
-      grow-stopped (rules t (from t parent)) (from t parent .args .d - 1) (children (box t (from t parent))) done (parent .before .before .put-number .last .0) (parent .before .before .put-number .result) (whole t parent) (l .place)
+      grow-stopped (rules t (from t parent)) (from t parent .args .d - 1) (childrenBy (from t parent .args .f .form) (box t (from t parent))) done (parent .before .before .put-number .last .0) (parent .before .before .put-number .result) (whole t parent) (l .place)
       (l .buf) (l .inv .1) [] in-count kid (w .before .before .child .ensures) (w .tree .result) left (w .tree .ensures) e
 
   goes-on : (m : ℕ) → w .tree .result ≡ Grown.Next m
-      → Growing (parent .before .before .put-number .last .0) (parent .before .before .put-number .result) (whole t parent) (treesBytes (rules t (from t parent)) (from t parent .args .d - 1) (drop (done + 1) (children (box t (from t parent))))) m left
+      → Growing (parent .before .before .put-number .last .0) (parent .before .before .put-number .result) (whole t parent) (treesBytes (rules t (from t parent)) (from t parent .args .d - 1) (drop (done + 1) (childrenBy (from t parent .args .f .form) (box t (from t parent))))) m left
   goes-on m e =
       let l = w .before .before .before .before .loop in
-      grow-more (rules t (from t parent)) (from t parent .args .d - 1) (children (box t (from t parent))) done (parent .before .before .put-number .last .0) (parent .before .before .put-number .result) (whole t parent) (l .place)
+      grow-more (rules t (from t parent)) (from t parent .args .d - 1) (childrenBy (from t parent .args .f .form) (box t (from t parent))) done (parent .before .before .put-number .last .0) (parent .before .before .put-number .result) (whole t parent) (l .place)
       (l .buf) (l .inv .1) [] in-count kid (w .before .before .child .ensures) (w .tree .result) left (w .tree .ensures) m e
 
 tree-first-requires : (t : ℕ) → tree-lts.Need-first-requires (claims t) (tree-at t) tree.Post tree-Inv-loop tree-μ-loop
@@ -201,7 +202,7 @@ tree-tree-requires t c κs =
     let s = from t k in
     let z = k .before .before .before .before .before .before .if2 .left in
     let less = s .pre .0 in
-    (omega arith, (s .pre .1 .0, rw (h .child .ensures) (small-children edgeLimit (box t s) (h .before .before .loop .c) (in-box t k (h .before .loop-test .taken)) (s .pre .1 .1))))
+    (omega arith, (s .pre .1 .0, rw (h .child .ensures) (small-children (s .args .f .form) edgeLimit (box t s) (h .before .before .loop .c) (in-box t k (h .before .loop-test .taken)) (s .pre .1 .1))))
 
 tree-enum-known-grown : (t : ℕ) → tree-lts.Need-enum-known-grown (claims t) (tree-at t) tree.Post tree-Inv-loop tree-μ-loop
 tree-enum-known-grown t c = search needs
@@ -242,7 +243,7 @@ tree-returns-5 t c =
     let l = c .before .loop in
     let n = k .before .before .before .before .before .count .ensures in
     let h = c .loop-test .left in
-    goes t k (Grown.Next (l .place)) (l .buf) (grow-done (rules t s) (s .args .d - 1) (children (box t s)) (l .c) (k .before .before .put-number .last .0) (k .before .before .put-number .result) (whole t k) (l .place) (l .buf) (l .inv .1) (rw (← n) h))
+    goes t k (Grown.Next (l .place)) (l .buf) (grow-done (rules t s) (s .args .d - 1) (childrenBy (s .args .f .form) (box t s)) (l .c) (k .before .before .put-number .last .0) (k .before .before .put-number .result) (whole t k) (l .place) (l .buf) (l .inv .1) (rw (← n) h))
 
 pub +tree-spec : {M : Type 1} → statement M
 +tree-spec = close μ-tree λ t. tree-lts.spec (claims t)

@@ -1,4 +1,5 @@
 -- `drafts::table_with`: the limits, the header, then the tree of the box that is tiled, by the frame taken apart. Assumes nothing.
+use Prim.Native.Nat.{ℕ}
 use mathlib.Core.Path.{_≡_, sym, subst}
 use denote.Ref.{now}
 use borrow.Author.Needs.{needs}
@@ -16,10 +17,13 @@ use Rattle.tables.proofs.drafts.table_with.Tie as tie
 -- the frame was taken apart, and is the frame
 module _ (x : tie.After-counts-of) where
   abbrev from : tie.Start
-  from = x .before .before .before .before .before .before .before .before .before .before .before .before .before .before .before .before .before
+  from = x .before .before .before .before .before .before .before .before .before .before .before .before .before .before .before .before .before .before
 
   whole : frameFrom (x .counts-of .result) (x .before .before .before .before .before .before .before .before .before .edges-of .result) ≡ from .args .f
   whole = lent-is (from .args .f) (x .counts-of .result) (x .before .before .before .before .before .before .before .before .before .edges-of .result) (x .counts-of .ensures) (x .before .before .before .before .before .before .before .before .before .edges-of .ensures)
+
+depth-requires : tie.Need-depth-requires
+depth-requires c κs = let g = c .before .pre .0 .0 in (g .rooms, g .depth)
 
 lay-requires : tie.Need-lay-requires
 lay-requires c κs = search needs
@@ -57,14 +61,17 @@ returns c =
     let x = c .before .before .before .before .before .before .before in
     let a = from x .args in
     let w = c .before .before .tree in
+    let d = x .before .before .before .before .before .before .before .before .before .before .before .before .before .before .before .before .depth in
     let v = c .before .before .before .before .before .before .before .before .before .before .put-number2 in
     table-wrote (rulesIn (a .f) (now (a .bands)) (now (a .coef))) (c .before .before .before .before .before .before .before .before .before .before .before .before .before .before .put-number .ensures) (v .ensures) (w .result) (w .last .1 .1 .1 .1 .1 .1 .1 .1 .0)
-    (subst (λ (f : Frame). Wrote (treeBytes (rulesIn f (now (a .bands)) (now (a .coef))) (a .f .d) (boxOf (f .n) (a .f .root))) (v .last .0) (v .result) (w .result) (w .last .1 .1 .1 .1 .1 .1 .1 .1 .0)) (whole x) (w .ensures))
+    (subst (λ (d : ℕ). Wrote (treeBytes (rulesIn (a .f) (now (a .bands)) (now (a .coef))) d (boxOf (a .f .n) (a .f .root))) (v .last .0) (v .result) (w .result) (w .last .1 .1 .1 .1 .1 .1 .1 .1 .0)) (d .ensures)
+    (subst (λ (f : Frame). Wrote (treeBytes (rulesIn f (now (a .bands)) (now (a .coef))) (d .result) (boxOf (f .n) (a .f .root))) (v .last .0) (v .result) (w .result) (w .last .1 .1 .1 .1 .1 .1 .1 .1 .0)) (whole x) (w .ensures)))
 
 pub table-with-spec : {M : Type 1} → statement M
 table-with-spec =
     tie.close
     (tie.spec
+    depth-requires
     lay-requires
     edges-of-requires
     put-number-requires

@@ -12,16 +12,16 @@ use Rattle.laws.specs.Lists.{all}
 use Rattle.laws.specs.Tests.{never}
 use Rattle.meaning.specs.declared.Found.{Found}
 use Rattle.meaning.specs.declared.Number.{Number}
-use Rattle.meaning.specs.Boxes.{Side, fits, children}
+use Rattle.meaning.specs.Boxes.{Side, fits}
 use Rattle.meaning.specs.Control.{find}
 use Rattle.meaning.specs.Numbers.{numberAt}
 use Rattle.meaning.specs.Plants.{edgeLimit}
-use Rattle.meaning.specs.Tables.{readingOf}
+use Rattle.meaning.specs.Tables.{childrenBy, readingOf}
 use Rattle.tables.specs.declared.boxes.Bx.{Bx}
 use Rattle.tables.specs.declared.frames.Frame.{Frame}
 use Rattle.tables.specs.Boxes.{boxOf, Small}
 use Rattle.tables.specs.Frames.{frameFrom, rulesIn}
-use Rattle.tables.proofs.boxes.Laws.{small-children}
+use Rattle.tables.proofs.boxes.Halving.{small-children}
 use Rattle.tables.proofs.finds.Laws.{held, not-held, lookFrom, node-broken, node-over, node-tile, node-deep, node-split, look-none, look-here, look-more, look-refused}
 use borrow.Fn.Kinds.{In}
 use borrow.Fn.PlainCycle.{Measures, is, falls, and}
@@ -106,11 +106,11 @@ module _ {t : ℕ} (y : Looked t) where
   abbrev kid : Bx
   kid = y .before .child .result
 
-  below : turn < length (children (box outset (outset .args .b)))
+  below : turn < length (childrenBy (outset .args .f .form) (box outset (outset .args .b)))
   below = omega (arith, y .before .before .loop-test .taken, y .before .before .before .before .count .ensures)
 
   small : Small edgeLimit (box outset kid)
-  small = rw (y .before .child .ensures) (small-children edgeLimit (box outset (outset .args .b)) turn below (outset .pre .1 .1))
+  small = rw (y .before .child .ensures) (small-children (outset .args .f .form) edgeLimit (box outset (outset .args .b)) turn below (outset .pre .1 .1))
 
   holds-it : outset .args .f .n ≤ y .missed .result → all (fits (box outset kid) (readingOf (outset .args .f .n) (outset .args .x))) ≡ true
   holds-it h = held (outset .args .f .n) (kid .lo) (kid .hi) (outset .args .x) (omega (arith, h, y .missed .ensures))

@@ -1,7 +1,7 @@
 -- `start_checks::start_check_in`: the plant, whose arrays stand for its own bands and coefficients; the chain, whose frames are sound where it was accepted; then
 -- the tables. Assumes nothing.
 use Prim.Native.Nat.{ℕ, _+_, _≤_}
-use mathlib.Core.Path.{_≡_, sym, ap, _∙_, subst}
+use mathlib.Core.Path.{_≡_, sym, ap, _∙_, subst, fun-ext}
 use mathlib.Core.Bool.{false}
 use mathlib.Core.List.{List}
 use denote.Ref.{now}
@@ -16,7 +16,7 @@ use Rattle.promises.specs.files.Sound.{Sound}
 use Rattle.tables.specs.declared.chains.ChainRead.{ChainRead}
 use Rattle.tables.specs.declared.frames.Frame.{Frame}
 use Rattle.tables.specs.Chains.{frameAt, chainRead}
-use Rattle.tables.specs.Frames.{frameOf, ownFrame, rulesIn, PlantSound}
+use Rattle.tables.specs.Frames.{frameOf, ownFrame, formed, rulesIn, PlantSound}
 use Rattle.tables.specs.StartChecks.{rulesAt}
 use Rattle.tables.proofs.arrays.Laws.{lent-plant, lent-rules}
 use Rattle.tables.proofs.chains.Laws.{Chained, plant-chain, plant-refused, plant-goes, plant-edged, plant-frames, rules-at}
@@ -90,7 +90,7 @@ module _ (x : tie.After-read-chain) where
         let plant = p good-plant in
         let s = start good-plant in
         let edged = plant-edged false plant (sound good-plant) f framed s chain was-read kept in
-        tables-same (rulesAt f (chain .edges) (bands good-plant) (coef good-plant)) (rulesAt f (chain .edges) (plant .bands) (plant .coef)) (λ i. rules-same good-plant (frameAt f (chain .edges) i)) s (chain .m + 1) 0 (chain .next)
+        tables-same (rulesAt f (chain .edges) (bands good-plant) (coef good-plant)) (rulesAt f (chain .edges) (plant .bands) (plant .coef)) (λ i. fun-ext (λ form. rules-same good-plant (formed (frameAt f (chain .edges) i) form))) s (chain .m + 1) 0 (chain .next)
         ∙ ap (λ (g : Frame). tablesAt (rulesAt g (chain .edges) (plant .bands) (plant .coef)) s (chain .m + 1) 0 (chain .next)) framed
         ∙ tables-same (rulesAt (ownFrame plant) (chain .edges) (plant .bands) (plant .coef)) (boxRules plant (kept .vs)) (rules-at plant (sound good-plant .ranges .n-high) (chain .edges) (kept .vs) edged) s (chain .m + 1) 0 (chain .next)
         ∙ ap (λ (m : ℕ). tablesAt (boxRules plant (kept .vs)) s (m + 1) 0 (chain .next)) (kept .count)

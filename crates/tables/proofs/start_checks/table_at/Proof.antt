@@ -9,9 +9,10 @@ use borrow.Author.Needs.{needs}
 use Rattle.meaning.specs.declared.Walk.{Walk}
 use Rattle.meaning.specs.Rules.{Rules}
 use Rattle.meaning.specs.Starts.{part}
+use Rattle.meaning.specs.Tables.{formOf}
 use Rattle.meaning.specs.Verdicts.{tableEnd}
 use Rattle.tables.specs.declared.parts.Part.{Part}
-use Rattle.tables.specs.Frames.{rulesIn}
+use Rattle.tables.specs.Frames.{rulesBy}
 use Rattle.tables.proofs.parts.Laws.{part-within, slice-part}
 use Rattle.tables.proofs.parts.Places.{end-inside}
 use Rattle.tables.proofs.start_checks.Laws.{length-stopped, table-refused, table-ends, table-over, movable}
@@ -29,8 +30,8 @@ module _ (x : tie.After-first) where
   abbrev file : List ℕ
   file = now (start .args .start)
 
-  abbrev rules : Rules
-  rules = rulesIn (start .args .f) (now (start .args .bands)) (now (start .args .coef))
+  abbrev rules : ℕ → Rules
+  rules = rulesBy (start .args .f) (now (start .args .bands)) (now (start .args .coef))
 
   abbrev first : ℕ
   first = x .first .given .0 .0
@@ -49,8 +50,8 @@ module _ (y : tie.After-table-end) where
   abbrev there : tie.After-first
   there = y .before .before .before
 
-  walked : y .table-end .result ≡ tableEnd (rules there) (part (file there) (first there) (size there))
-  walked = y .table-end .ensures ∙ ap (tableEnd (rules there)) (slice-part (file there) (first there) (size there))
+  walked : y .table-end .result ≡ tableEnd (rules there (formOf (part (file there) (first there) (size there)))) (part (file there) (first there) (size there))
+  walked = y .table-end .ensures ∙ ap (λ (t : List ℕ). tableEnd (rules there (formOf t)) t) (slice-part (file there) (first there) (size there))
 
 part-at-requires : tie.Need-part-at-requires
 part-at-requires c κs = search needs
@@ -85,7 +86,7 @@ moved-requires c κs =
     let x = there y in
     let g = c .before .e2 .given in
     movable (file x) (first x) (size x) (within x) (short (start x)) (g .0 .0)
-    (end-inside (rules x) (part (file x) (first x) (size x)) (start x .pre .0 .longest) (g .0 .0) (sym (walked y) ∙ g .1))
+    (end-inside (rules x (formOf (part (file x) (first x) (size x)))) (part (file x) (first x) (size x)) (start x .pre .0 .longest) (g .0 .0) (sym (walked y) ∙ g .1))
 
 enum-known-next : tie.Need-enum-known-next
 enum-known-next c = search needs
@@ -98,7 +99,7 @@ returns c =
     let s = c .before .before .before .before .before in
     let p = c .before .before .before .part-at in
     let g = c .before .e .given in
-    length-stopped (rulesIn (s .args .f) (now (s .args .bands)) (now (s .args .coef))) (now (s .args .start)) (s .args .at) (p .result) (p .ensures) (g .0 .0) (g .1)
+    length-stopped (rulesBy (s .args .f) (now (s .args .bands)) (now (s .args .coef))) (now (s .args .start)) (s .args .at) (p .result) (p .ensures) (g .0 .0) (g .1)
 
 returns-2 : tie.Need-returns-2
 returns-2 c =

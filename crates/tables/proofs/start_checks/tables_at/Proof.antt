@@ -7,7 +7,7 @@ use borrow.Author.Needs.{needs}
 use Rattle.meaning.specs.declared.Verdict.{Verdict}
 use Rattle.meaning.specs.Starts.{tablesAt}
 use Rattle.tables.specs.declared.frames.Frame.{Frame}
-use Rattle.tables.specs.Frames.{rulesIn, PlantSound}
+use Rattle.tables.specs.Frames.{rulesBy, PlantSound}
 use Rattle.tables.specs.StartChecks.{rulesAt, tableAt}
 use Rattle.tables.proofs.start_checks.Laws.{tables-ended, tables-over, tables-stopped, tables-more}
 use Rattle.tables.proofs.start_checks.tables_at.Statement.{statement}
@@ -26,7 +26,7 @@ told : (c : tie.After-table-at Inv-loop μ-loop) → (let l = c .before .before 
 told c =
     let l = c .before .before .before in
     let a = l .before .before .args in
-    c .table-at .ensures ∙ ap (λ (g : Frame). tableAt (rulesIn g (now (a .bands)) (now (a .coef))) (now (a .start)) (l .loop .place)) (c .before .frame-at .ensures)
+    c .table-at .ensures ∙ ap (λ (g : Frame). tableAt (rulesBy g (now (a .bands)) (now (a .coef))) (now (a .start)) (l .loop .place)) (c .before .frame-at .ensures)
 
 loop-holds : tie.Need-loop-holds Inv-loop μ-loop
 loop-holds c =

@@ -12,7 +12,8 @@ use Rattle.meaning.specs.Control.{call}
 use Rattle.meaning.specs.Rules.{Rules}
 use Rattle.meaning.specs.Starts.{part, answerIn}
 use Rattle.tables.specs.declared.parts.Part.{Part}
-use Rattle.tables.specs.Frames.{rulesIn}
+use Rattle.meaning.specs.Tables.{formOf}
+use Rattle.tables.specs.Frames.{rulesBy}
 use Rattle.tables.specs.StartControl.{callBehind}
 use Rattle.tables.proofs.parts.Laws.{behind-within, slice-part}
 use Rattle.tables.proofs.parts.Places.{call-inside}
@@ -32,8 +33,8 @@ module _ (x : tie.After-first) where
   abbrev file : List ℕ
   file = now (start .args .start)
 
-  abbrev rules : Rules
-  rules = rulesIn (start .args .f) [] []
+  abbrev rules : ℕ → Rules
+  rules = rulesBy (start .args .f) [] []
 
   abbrev first : ℕ
   first = x .first .given .0 .0
@@ -52,10 +53,10 @@ module _ (y : tie.After-call) where
   abbrev there : tie.After-first
   there = y .before .before .before
 
-  called : y .call .result ≡ call (rules there) (part (file there) (first there) (size there)) (start there .args .st) (start there .args .x)
+  called : y .call .result ≡ call (rules there (formOf (part (file there) (first there) (size there)))) (part (file there) (first there) (size there)) (start there .args .st) (start there .args .x)
   called =
       y .call .ensures
-      ∙ ap (λ (t : List ℕ). call (rules there) t (start there .args .st) (start there .args .x)) (slice-part (file there) (first there) (size there))
+      ∙ ap (λ (t : List ℕ). call (rules there (formOf t)) t (start there .args .st) (start there .args .x)) (slice-part (file there) (first there) (size there))
 
   answered : (a : Answer) → y .call .result ≡ a
       → answerIn (start there .args .i) (first there) a ≡ callBehind (start there .args .f) (file there) (start there .args .at) (start there .args .i) (start there .args .st) (start there .args .x)
@@ -98,7 +99,7 @@ moved-requires c κs =
     let x = there y in
     let g = c .before .e2 .given in
     movable (file x) (first x) (size x) (within x) (short (start x)) (g .0 .0)
-    (call-inside (rules x) (part (file x) (first x) (size x)) (start x .args .x) (start x .args .st) (g .0 .0) (sym (called y) ∙ g .1))
+    (call-inside (rules x (formOf (part (file x) (first x) (size x)))) (part (file x) (first x) (size x)) (start x .args .x) (start x .args .st) (g .0 .0) (sym (called y) ∙ g .1))
 
 enum-known-u : tie.Need-enum-known-u
 enum-known-u c = search needs

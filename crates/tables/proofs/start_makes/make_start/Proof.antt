@@ -1,22 +1,23 @@
--- `start_makes::make_start`: the chain, then its tables; while modes take a byte, a draft for at most sixteen tiles, or for the most that there can be. Assumes
--- nothing.
+-- `start_makes::make_start`: the chain, then the form, then the tables of the boxes. Assumes nothing.
 use Prim.Native.Nat.{ℕ, _≤_}
-use mathlib.Core.Path.{_≡_, ap, _∙_}
+use mathlib.Core.Path.{_≡_, sym, ap, _∙_, subst}
 use mathlib.Core.Bool.{true}
 use mathlib.Core.List.{List}
-use native.Mathlib.Omega.{arith}
 use denote.Ref.{now}
 use lib.IntN.{ℤ}
 use borrow.Author.Needs.{needs}
+use Rattle.meaning.specs.declared.Refusal.{Refusal}
 use Rattle.meaning.specs.declared.Verdict.{Verdict}
-use Rattle.meaning.specs.Buffers.{Left, left}
+use Rattle.meaning.specs.Buffers.{Left, refusedWith, left}
+use Rattle.meaning.specs.Tables.{knownForm}
 use Rattle.tables.specs.declared.chains.ChainRead.{ChainRead}
 use Rattle.tables.specs.declared.frames.Frame.{Frame}
-use Rattle.tables.specs.Chains.{mostAbove}
+use Rattle.tables.specs.Chains.{mostAbove, frameAt}
+use Rattle.tables.specs.Frames.{formed}
 use Rattle.tables.specs.StartMakes.{framesTables, FramesSound, behindChain, chainLeft}
 use Rattle.tables.proofs.chains.Laws.{Chained, chain-taken, chain-few, frame-sound}
-use Rattle.tables.proofs.drafts.Laws.{room-long, room-few}
-use Rattle.tables.proofs.start_makes.Laws.{chain-bad, chain-good}
+use Rattle.tables.proofs.frames.Laws.{formed-sound}
+use Rattle.tables.proofs.start_makes.Laws.{chain-bad, chain-unknown, chain-good}
 use Rattle.tables.proofs.start_makes.make_start.Statement.{statement}
 use Rattle.tables.proofs.start_makes.make_start.Tie as tie
 
@@ -37,6 +38,9 @@ module _ (x : tie.After-read-chain) where
   abbrev chain : List ℕ
   chain = now (from .args .chain)
 
+  abbrev form : ℕ
+  form = from .args .form
+
   abbrev buffer : List ℕ
   buffer = now (from .args .buf)
 
@@ -48,14 +52,30 @@ module _ (x : tie.After-read-chain) where
     taken : Chained true frame chain boxes
     taken = chain-taken true frame chain boxes (x .read-chain .ensures) h
 
-    sound : (boxes .m ≤ mostAbove) × FramesSound frame bands coef (boxes .edges) (boxes .m)
-    sound = (
-      chain-few true frame chain boxes (x .read-chain .ensures) taken,
-      λ i k. (frame-sound true frame chain boxes (x .read-chain .ensures) taken (from .pre .0 .0) (from .pre .1) i k, from .pre .0 .1),
-    )
+    -- and the form is known
+    module _ (k : knownForm form ≡ true) where
+      sound : (boxes .m ≤ mostAbove) × FramesSound (formed frame form) bands coef (boxes .edges) (boxes .m)
+      sound = (
+        chain-few true frame chain boxes (x .read-chain .ensures) taken,
+        λ i l. (
+          formed-sound (frameAt frame (boxes .edges) i) form k (frame-sound true frame chain boxes (x .read-chain .ensures) taken (from .pre .0 .0) (from .pre .1) i l),
+          from .pre .0 .1,
+        ),
+      )
 
-    made : left (behindChain chain (framesTables frame bands coef (boxes .edges) (boxes .m))) buffer ≡ chainLeft frame bands coef chain buffer
-    made = chain-good frame bands coef chain buffer boxes (x .read-chain .ensures) taken (from .pre .0 .0 .rooms)
+      made : left (behindChain chain (framesTables (formed frame form) bands coef (boxes .edges) (boxes .m))) buffer ≡ chainLeft frame bands coef chain form buffer
+      made = chain-good frame bands coef chain form buffer boxes (x .read-chain .ensures) taken (from .pre .0 .0 .rooms) k
+
+-- the frame was made of that form
+module _ (o : tie.After-formed) where
+  abbrev from-own : tie.After-read-chain
+  from-own = o .before .before .before .before .before
+
+  accepted : boxes from-own .verdict ≡ Verdict.Accepted
+  accepted = o .before .before .before .enum-told .given .1
+
+  known : knownForm (form from-own) ≡ true
+  known = sym (o .before .before .known .ensures) ∙ o .before .if1 .taken
 
 read-chain-requires : tie.Need-read-chain-requires
 read-chain-requires c κs = search needs
@@ -69,66 +89,55 @@ refuse-requires c κs = search needs
 enum-told : tie.Need-enum-told
 enum-told c = search needs
 
-write-start-most-requires : tie.Need-write-start-most-requires
-write-start-most-requires c κs = sound (c .before .before .before .before .before .before .before) (c .before .before .before .before .before .enum-told .given .1)
+known-requires : tie.Need-known-requires
+known-requires c κs = search needs
+
+formed-requires : tie.Need-formed-requires
+formed-requires c κs = search needs
+
+write-start-own-requires : tie.Need-write-start-own-requires
+write-start-own-requires c κs =
+    let o = c .before .before .before in
+    let x = from-own o in
+    subst (λ (f : Frame). (boxes x .m ≤ mostAbove) × FramesSound f (bands x) (coef x) (boxes x .edges) (boxes x .m)) (sym (o .formed .ensures)) (sound x (accepted o) (known o))
 
 same-length : tie.Need-same-length
 same-length c = search needs
 
 returns : tie.Need-returns
 returns c =
-    let w = c .before .before .write-start-most in
-    let e = made (c .before .before .before .before .before .before .before .before .before .before) (c .before .before .before .before .before .before .before .before .enum-told .given .1) in
+    let o = c .before .before .before .before .before .before in
+    let x = from-own o in
+    let w = c .before .before .write-start-own in
+    let e = ap (λ (f : Frame). left (behindChain (chain x) (framesTables f (bands x) (coef x) (boxes x .edges) (boxes x .m))) (buffer x)) (o .formed .ensures) ∙ made x (accepted o) (known o) in
     (w .ensures .0 ∙ ap (λ (l : Left). l .answer) e, w .ensures .1 ∙ ap (λ (l : Left). l .buffer) e)
 
-mul-if2 : tie.Need-mul-if2
-mul-if2 c = search needs
+wrong-form-requires : tie.Need-wrong-form-requires
+wrong-form-requires c κs = search needs
 
-slice-aggregate-write-start : tie.Need-slice-aggregate-write-start
-slice-aggregate-write-start c = search needs
-
-write-start-requires : tie.Need-write-start-requires
-write-start-requires c κs =
-    let x = c .before .before .before .before .before .before .before .before .before .before in
-    let brief : frame x .modes ≤ 128 = omega arith in
-    (sound x (c .before .before .before .before .before .before .before .before .enum-told .given .1), room-few (frame x) (from x .pre .0 .0) brief (c .before .before .before .before .if2 .taken))
+refuse-requires-2 : tie.Need-refuse-requires-2
+refuse-requires-2 c κs = search needs
 
 same-length-2 : tie.Need-same-length-2
 same-length-2 c = search needs
 
 returns-2 : tie.Need-returns-2
 returns-2 c =
-    let w = c .before .before .before .write-start in
-    let e = made (c .before .before .before .before .before .before .before .before .before .before .before .before .before .before) (c .before .before .before .before .before .before .before .before .before .before .before .before .enum-told .given .1) in
+    let x = c .before .before .before .before .before .before .before in
+    let g = c .before .before .before .before .before .verdict .given in
+    let w = c .before .before .refuse in
+    let e = chain-bad (frame x) (bands x) (coef x) (chain x) (form x) (buffer x) (boxes x) (x .read-chain .ensures) (g .0 .0) (g .1) in
     (w .ensures .0 ∙ ap (λ (l : Left). l .answer) e, w .ensures .1 ∙ ap (λ (l : Left). l .buffer) e)
-
-slice-aggregate-write-start-2 : tie.Need-slice-aggregate-write-start-2
-slice-aggregate-write-start-2 c = search needs
-
-write-start-requires-2 : tie.Need-write-start-requires-2
-write-start-requires-2 c κs =
-    let x = c .before .before .before .before .before .before .before .before .before .before in
-    let brief : frame x .modes ≤ 128 = omega arith in
-    (sound x (c .before .before .before .before .before .before .before .before .enum-told .given .1), room-long (frame x) (from x .pre .0 .0) brief)
 
 same-length-3 : tie.Need-same-length-3
 same-length-3 c = search needs
 
 returns-3 : tie.Need-returns-3
 returns-3 c =
-    let x = c .before .before .before .before .before .before .before in
-    let g = c .before .before .before .before .before .verdict .given in
-    let w = c .before .before .refuse in
-    let e = chain-bad (frame x) (bands x) (coef x) (chain x) (buffer x) (boxes x) (x .read-chain .ensures) (g .0 .0) (g .1) in
-    (w .ensures .0 ∙ ap (λ (l : Left). l .answer) e, w .ensures .1 ∙ ap (λ (l : Left). l .buffer) e)
-
-same-length-4 : tie.Need-same-length-4
-same-length-4 c = search needs
-
-returns-4 : tie.Need-returns-4
-returns-4 c =
-    let w = c .before .before .before .write-start2 in
-    let e = made (c .before .before .before .before .before .before .before .before .before .before .before .before .before .before) (c .before .before .before .before .before .before .before .before .before .before .before .before .enum-told .given .1) in
+    let x = c .before .before .before .before .before .before .before .before .before in
+    let w = c .before .before .refuse2 in
+    let k = c .before .before .before .before .before .before .known in
+    let e = ap (λ (r : Refusal). refusedWith r (buffer x)) (c .before .before .before .before .wrong-form .ensures) ∙ chain-unknown (frame x) (bands x) (coef x) (chain x) (form x) (buffer x) (boxes x) (x .read-chain .ensures) (taken x (c .before .before .before .before .before .before .before .enum-told .given .1)) (sym (k .ensures) ∙ c .before .before .before .before .before .if1 .left) in
     (w .ensures .0 ∙ ap (λ (l : Left). l .answer) e, w .ensures .1 ∙ ap (λ (l : Left). l .buffer) e)
 
 pub make-start-spec : {M : Type 1} → statement M
@@ -139,17 +148,14 @@ make-start-spec =
     enum-known-verdict
     refuse-requires
     enum-told
-    write-start-most-requires
+    known-requires
+    formed-requires
+    write-start-own-requires
     same-length
     returns
-    mul-if2
-    slice-aggregate-write-start
-    write-start-requires
+    wrong-form-requires
+    refuse-requires-2
     same-length-2
     returns-2
-    slice-aggregate-write-start-2
-    write-start-requires-2
     same-length-3
-    returns-3
-    same-length-4
-    returns-4)
+    returns-3)

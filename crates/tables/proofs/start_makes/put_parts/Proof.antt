@@ -1,5 +1,5 @@
 -- `start_makes::put_parts`: whoever writes the tables that are left has written them all. Assumes nothing.
-use Prim.Native.Nat.{ℕ, _+_, _-_, _^_, _≤_}
+use Prim.Native.Nat.{ℕ, _+_, _-_, _≤_}
 use mathlib.Core.Path.{_≡_, refl, sym, _∙_, subst}
 use mathlib.Core.List.{List}
 use native.Mathlib.Omega.{arith}
@@ -10,10 +10,9 @@ use Rattle.meaning.specs.declared.Refusal.{Refusal}
 use Rattle.meaning.specs.declared.Walk.{Walk}
 use Rattle.meaning.specs.Refusals.{noTable}
 use Rattle.meaning.specs.Starts.{tablesFrom}
-use Rattle.promises.specs.tables.TableLengths.{most, tileBytes}
 use Rattle.tables.specs.declared.drafts.Grown.{Grown}
 use Rattle.tables.specs.declared.frames.Frame.{Frame}
-use Rattle.tables.specs.Drafts.{Wrote}
+use Rattle.tables.specs.Drafts.{Wrote, bytesMost}
 use Rattle.tables.specs.Frames.{rulesIn, PlantSound}
 use Rattle.tables.specs.StartMakes.{partBytes, WroteParts, framesRules, framesTables}
 use Rattle.tables.proofs.start_makes.Laws.{Going, parts-begin, parts-done, parts-stopped, parts-more}
@@ -74,7 +73,7 @@ put-part-requires c κs =
     let l = c .before .before .before .before .loop in
     let e = sym (c .before .before .frame-at .ensures) in (
       subst (λ (f : Frame). PlantSound f (now (s .args .bands)) (now (s .args .coef))) e (s .pre .0 .1 (l .i) (c .before .before .before .loop-test .taken)),
-      subst (λ (f : Frame). 2 + most (2 ^ f .n) (tileBytes (f .modes)) (f .d) ≤ length (l .draft)) e (omega (arith, s .pre .1 .0, l .inv .1)),
+      subst (λ (f : Frame). bytesMost f ≤ length (l .draft)) e (omega (arith, s .pre .1 .0, l .inv .1)),
     )
 
 enum-known-grown : tie.Need-enum-known-grown Inv-loop μ-loop

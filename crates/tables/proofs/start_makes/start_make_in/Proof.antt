@@ -68,8 +68,8 @@ module _ (x : tie.After-framed) where
       subst (λ (f : Frame). within (boxOf (f .n) (f .root)) (boxOf (f .n) (f .safe)) ≡ true) (sym framed)
       (subst (λ (f : Frame). within (boxOf (f .n) (f .goal)) (boxOf (f .n) (f .safe)) ≡ true) framed (sound .0 .in-safe))
 
-  own : chainLeft frame bands coef chain buffer ≡ startLeft file chain buffer
-  own = chain-steps frame bands coef (plant .bands) (plant .coef) steps chain buffer ∙ start-own file chain buffer plant (taken .was) frame framed
+  own : chainLeft frame bands coef chain (from .args .form) buffer ≡ startLeft file chain (from .args .form) buffer
+  own = chain-steps frame bands coef (plant .bands) (plant .coef) steps chain (from .args .form) buffer ∙ start-own file chain (from .args .form) buffer plant (taken .was) frame framed
 
 read-plant-requires : tie.Need-read-plant-requires
 read-plant-requires c κs = search needs
@@ -104,7 +104,7 @@ returns c =
     let x = c .before .before .before .before .before .before .before .before .before .read-plant in
     let g = c .before .before .before .before .before .verdict .given in
     let w = c .before .before .refuse in
-    let e = start-bad (now (a .plant)) (now (a .chain)) (now (a .buf)) (g .0 .0) (read-bad (plantJudged (now (a .plant))) (x .result) (x .ensures .0) (g .0 .0) (g .1)) in
+    let e = start-bad (now (a .plant)) (now (a .chain)) (a .form) (now (a .buf)) (g .0 .0) (read-bad (plantJudged (now (a .plant))) (x .result) (x .ensures .0) (g .0 .0) (g .1)) in
     (w .ensures .0 ∙ ap (λ (l : Left). l .answer) e, w .ensures .1 ∙ ap (λ (l : Left). l .buffer) e)
 
 same-length-4 : tie.Need-same-length-4

@@ -14,13 +14,14 @@ use Rattle.meaning.specs.declared.Refusal.{Refusal}
 use Rattle.meaning.specs.declared.Walk.{Walk}
 use Rattle.meaning.specs.Refusals.{badTable}
 use Rattle.meaning.specs.Numbers.{numberAt}
-use Rattle.meaning.specs.Boxes.{Side, children}
+use Rattle.meaning.specs.Boxes.{Side}
 use Rattle.meaning.specs.Plants.{edgeLimit}
 use Rattle.meaning.specs.Verdicts.{each}
+use Rattle.meaning.specs.Tables.{childrenBy}
 use Rattle.tables.specs.Boxes.{boxOf}
 use Rattle.tables.specs.declared.frames.Frame.{Frame}
 use Rattle.tables.specs.Frames.{frameFrom}
-use Rattle.tables.proofs.boxes.Laws.{small-children}
+use Rattle.tables.proofs.boxes.Halving.{small-children}
 use Rattle.tables.proofs.walks.Laws.{tree, tree-broken, tree-over, tree-tile, tree-deep, tree-stuck, tree-split, children-done, children-more, children-stopped}
 use borrow.Fn.Kinds.{In}
 use borrow.Fn.PlainCycle.{Measures, is, falls, and}
@@ -50,7 +51,7 @@ claims t = (number-reads.Asked, number-reads.Learnt, broken-reads.Asked, broken-
 
 abbrev walk-Inv-loop : walk-lts.InvT-loop
 walk-Inv-loop f edges bands coef judged table d at b k next n count place₀ c₀ place c =
-    (c ≤ count) × (each (tree (frameFrom f edges) bands coef judged (d - 1) table) (drop c (children (boxOf (f .n) b))) place ≡ tree (frameFrom f edges) bands coef judged d table at (boxOf (f .n) b))
+    (c ≤ count) × (each (tree (frameFrom f edges) bands coef judged (d - 1) table) (drop c (childrenBy (f .form) (boxOf (f .n) b))) place ≡ tree (frameFrom f edges) bands coef judged d table at (boxOf (f .n) b))
 
 abbrev walk-μ-loop : walk-lts.MeasureT-loop
 walk-μ-loop f edges bands coef judged table d at b k next n count place₀ c₀ place c = count - c
@@ -108,7 +109,7 @@ module _ (t : ℕ) (n : Node t) where
   deep : size ≤ 0 → from .args .d ≡ 0 → Walk.Refused (badTable (from .args .at)) ≡ whole t from
   deep z h = tree-deep (frame t from) (bands t from) (coef t from) (flag t from) (from .args .d) (table t from) (from .args .at) (box t from) size next value z h
 
-  stuck : size ≤ 0 → length (children (box t from)) ≡ 0 → Walk.Refused (badTable (from .args .at)) ≡ whole t from
+  stuck : size ≤ 0 → length (childrenBy (from .args .f .form) (box t from)) ≡ 0 → Walk.Refused (badTable (from .args .at)) ≡ whole t from
   stuck z h = tree-stuck (frame t from) (bands t from) (coef t from) (flag t from) (from .args .d) (table t from) (from .args .at) (box t from) size next value z h
 
 -- a child walked over: the loop it is in, and the laws of the children at it
@@ -123,14 +124,14 @@ module _ (t : ℕ) (w : Child t) where
   at-kid = w .before .before .before .loop .place
 
   -- the count that the loop goes up to is the number of children
-  in-count : done < length (children (box t parent))
+  in-count : done < length (childrenBy (parent .args .f .form) (box t parent))
   in-count = let k = w .before .before .before .before .before .count .ensures in let h = w .before .before .loop-test .taken in rw (← k) h
 
   stopped : (e : Refusal) → w .walk .result ≡ Walk.Refused e → w .walk .result ≡ whole t parent
   stopped e h = children-stopped (frame t parent) (bands t parent) (coef t parent) (flag t parent) (parent .args .d - 1) (table t parent) (box t parent) done at-kid in-count (boxOf (parent .args .f .n) (w .before .child .result)) (w .before .child .ensures) (w .walk .result)
       (w .walk .ensures) e h ∙ w .before .before .before .loop .inv .1
 
-  more : (m : ℕ) → w .walk .result ≡ Walk.Next m → each (tree (frame t parent) (bands t parent) (coef t parent) (flag t parent) (parent .args .d - 1) (table t parent)) (drop (done + 1) (children (box t parent))) m ≡ whole t parent
+  more : (m : ℕ) → w .walk .result ≡ Walk.Next m → each (tree (frame t parent) (bands t parent) (coef t parent) (flag t parent) (parent .args .d - 1) (table t parent)) (drop (done + 1) (childrenBy (parent .args .f .form) (box t parent))) m ≡ whole t parent
   more m h = children-more (frame t parent) (bands t parent) (coef t parent) (flag t parent) (parent .args .d - 1) (table t parent) (box t parent) done at-kid in-count (boxOf (parent .args .f .n) (w .before .child .result)) (w .before .child .ensures) (w .walk .result)
       (w .walk .ensures) m h ∙ w .before .before .before .loop .inv .1
 
@@ -187,7 +188,7 @@ walk-loop-holds : (t : ℕ) → walk-lts.Need-loop-holds (claims t) (walk-at t) 
 walk-loop-holds t c =
     let n = c .before .before .before .before .before .before .before in
     let s = from t n in
-    let some : length (children (box t s)) ≡ 0 → ⊥ = λ z. c .if4 .left (c .before .count .ensures ∙ z) in
+    let some : length (childrenBy (s .args .f .form) (box t s)) ≡ 0 → ⊥ = λ z. c .if4 .left (c .before .count .ensures ∙ z) in
     (omega arith, tree-split (frame t s) (bands t s) (coef t s) (flag t s) (s .args .d) (table t s) (s .args .at) (box t s) (size t n) (next t n) (value t n) (c .before .before .before .if2 .left) (c .before .before .if3 .left) some)
 
 walk-child-requires : (t : ℕ) → walk-lts.Need-child-requires (claims t) (walk-at t) walk.Post walk-Inv-loop walk-μ-loop
@@ -207,7 +208,7 @@ walk-walk-requires t c κs =
     let h = c .before .loop-test .taken in
     let z = c .before .before .before .before .before .if3 .left in
     let less = s .pre .0 in
-    (omega arith, (s .pre .1 .0, rw (c .child .ensures) (small-children edgeLimit (box t s) (c .before .before .loop .c) (rw (← k) h) (s .pre .1 .1)), s .pre .1 .2))
+    (omega arith, (s .pre .1 .0, rw (c .child .ensures) (small-children (s .args .f .form) edgeLimit (box t s) (c .before .before .loop .c) (rw (← k) h) (s .pre .1 .1)), s .pre .1 .2))
 
 walk-enum-known-past : (t : ℕ) → walk-lts.Need-enum-known-past (claims t) (walk-at t) walk.Post walk-Inv-loop walk-μ-loop
 walk-enum-known-past t c = search needs

@@ -1,11 +1,11 @@
--- `boxes::child`: each side is one of the four. Assumes nothing.
+-- `boxes::all_halved`: each side is one of the four. Assumes nothing.
 use native.Mathlib.Omega.{arith}
 use borrow.Author.Needs.{needs}
 use Prim.Native.Nat.{_≤_, _-_}
 use mathlib.Core.Path.{_≡_}
 use lib.ListN.{length, length-set}
-use Rattle.list.proofs.boxes.child.Statement.{statement}
-use Rattle.list.proofs.boxes.child.Tie as tie
+use Rattle.list.proofs.boxes.all_halved.Statement.{statement}
+use Rattle.list.proofs.boxes.all_halved.Tie as tie
 
 abbrev Inv-loop : tie.InvT-loop
 Inv-loop n x b most lo₀ hi₀ bits₀ j₀ lo hi bits j = (j ≤ most) × (length lo ≡ 4) × (length hi ≡ 4)
@@ -58,8 +58,8 @@ loop-again c = let l = c .before .before .before .before .before .before .loop i
 returns : tie.Need-returns Inv-loop μ-loop
 returns c = tt
 
-pub child-spec : {M : Type 1} → statement M
-child-spec =
+pub all-halved-spec : {M : Type 1} → statement M
+all-halved-spec =
     tie.close
     (tie.spec
     Inv-loop
