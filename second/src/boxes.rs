@@ -2,9 +2,11 @@
 //! a..b with a < b becomes a..m and m+1..b, m the floor of (a+b)/2. A box
 //! splits along all such sides at once; a one-count side stays. Children are
 //! ordered by a binary number, dimension 1 the lowest bit, lower half 0. A box
-//! with no side to split cannot be split."
+//! with no side to split cannot be split." Or, in request 2026-06, along its
+//! longest side alone; "the midpoint rule stays".
 
 use crate::MOST_ROOMS;
+use std::ops::Range;
 
 /// A side lo..hi, ends included.
 #[derive(Clone, Copy, Debug, PartialEq, Eq, Default)]
@@ -73,35 +75,51 @@ impl Box {
         pairs.all(|(inner, outer)| inner.lo >= outer.lo && inner.hi <= outer.hi)
     }
 
-    /// The children in their order; None where no side can be split.
+    /// The children along all sides at once; None where no side can be split.
     pub fn split(&self) -> Option<Children> {
-        if self.sides().iter().all(|side| side.halves().is_none()) {
-            return None;
+        self.children(0..self.n)
+    }
+
+    /// The two children along the longest side, "the lowest dimension where
+    /// several are equal"; None where no side can be split.
+    pub fn halve(&self) -> Option<Children> {
+        let counts = |i: usize| self.sides[i].hi - self.sides[i].lo;
+        let mut longest = 0;
+        for i in 1..self.n {
+            // An equal one does not take its place, so the lowest of them stays.
+            if counts(i) > counts(longest) {
+                longest = i;
+            }
         }
-        Some(Children { parent: *self, next: 0 })
+        self.children(longest..longest + 1)
+    }
+
+    /// The children along those of these dimensions whose side is more than one
+    /// count; None where there is none.
+    fn children(&self, dimensions: Range<usize>) -> Option<Children> {
+        let along = dimensions.filter(|i| self.sides[*i].halves().is_some()).map(|i| 1 << i).sum();
+        (along != 0).then_some(Children { parent: *self, along, next: Some(0) })
     }
 }
 
-/// The children of a box, in order of their binary number.
+/// The children of a box, in order of their binary number, which has a bit for
+/// each side that is split: bit i, of those in `along`, for dimension i.
 pub struct Children {
     parent: Box,
-    next: usize,
+    along: usize,
+    next: Option<usize>,
 }
 
 impl Children {
-    /// The child with this number, bit i choosing the half in dimension i;
-    /// None where the bit of a side that stays is set.
-    fn child(&self, number: usize) -> Option<Box> {
+    /// The child with this number, bit i choosing the half in dimension i.
+    fn child(&self, number: usize) -> Box {
         let mut child = self.parent;
         for (i, side) in child.sides[..child.n].iter_mut().enumerate() {
-            let upper = number >> i & 1 == 1;
-            match side.halves() {
-                Some((low, high)) => *side = if upper { high } else { low },
-                None if upper => return None,
-                None => {}
+            if let (1, Some((low, high))) = (self.along >> i & 1, side.halves()) {
+                *side = if number >> i & 1 == 0 { low } else { high };
             }
         }
-        Some(child)
+        child
     }
 }
 
@@ -109,13 +127,10 @@ impl Iterator for Children {
     type Item = Box;
 
     fn next(&mut self) -> Option<Box> {
-        while self.next < 1 << self.parent.n {
-            let number = self.next;
-            self.next += 1;
-            if let Some(child) = self.child(number) {
-                return Some(child);
-            }
-        }
-        None
+        let number = self.next?;
+        // One more, counted in the bits of the split sides alone; 0 again behind the last.
+        let after = number.wrapping_sub(self.along) & self.along;
+        self.next = (after != 0).then_some(after);
+        Some(self.child(number))
     }
 }

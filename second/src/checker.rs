@@ -3,45 +3,33 @@
 
 use crate::boxes::Box;
 use crate::file::File;
-use crate::plant::{read_plant, Plant};
+use crate::plant::read_plant;
 use crate::refusal::{Refusal, TABLE_RULE};
-use crate::table::{read_header, read_node, Node};
+use crate::table::{Node, Table};
 use crate::tile::tile_rule;
 
 /// Whether a table is one for this plant, in one pass over its bytes.
 pub fn check(plant_bytes: &[u8], table_bytes: &[u8]) -> Result<(), Refusal> {
     let plant = read_plant(plant_bytes)?;
-    let mut file = File::new(table_bytes);
-    check_table(&plant, &plant.r(), &plant.r(), &mut file)?;
-    file.end(TABLE_RULE)
+    let mut table = Table::open(&plant, File::new(table_bytes))?;
+    check_tree(&mut table, &plant.r(), &plant.r())?;
+    table.file.end(TABLE_RULE)
 }
 
 /// Checks a table whose tree starts at box `root` and whose patterns end in
 /// `goal`, up to its last tile; what is left over is the caller's to tell.
-pub fn check_table(
-    plant: &Plant,
-    root: &Box,
-    goal: &Box,
-    file: &mut File,
-) -> Result<(), Refusal> {
-    read_header(plant, file)?;
-    check_box(plant, goal, file, root, plant.d)
+pub fn check_tree(table: &mut Table, root: &Box, goal: &Box) -> Result<(), Refusal> {
+    check_box(table, goal, root, table.depth())
 }
 
 /// Checks the part of the tree that stands for this box.
-fn check_box(
-    plant: &Plant,
-    goal: &Box,
-    file: &mut File,
-    here: &Box,
-    depth_left: u64,
-) -> Result<(), Refusal> {
-    let place = file.place();
-    match read_node(plant, file, here, depth_left)? {
-        Node::Tile(pattern) => tile_rule(plant, goal, here, pattern.modes(), place),
+fn check_box(table: &mut Table, goal: &Box, here: &Box, depth_left: u64) -> Result<(), Refusal> {
+    let place = table.file.place();
+    match table.node(here, depth_left)? {
+        Node::Tile(pattern) => tile_rule(table.plant, goal, here, pattern.modes(), place),
         Node::Split(children) => {
             for child in children {
-                check_box(plant, goal, file, &child, depth_left - 1)?;
+                check_box(table, goal, &child, depth_left - 1)?;
             }
             Ok(())
         }

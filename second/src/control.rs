@@ -13,7 +13,7 @@ use crate::file::File;
 use crate::numbers::{groups_of, read_unsigned};
 use crate::plant::{read_past_modes, Plant};
 use crate::refusal::{Refusal, READING_OUTSIDE, STATE_CANNOT_BE};
-use crate::table::{read_header, read_node, Node, Pattern};
+use crate::table::{Node, Pattern, Table};
 use crate::MOST_ROOMS;
 
 /// Idle, or the place of the next mode in the table and how many are left.
@@ -49,19 +49,19 @@ pub fn control(
 pub fn call(
     plant: &Plant,
     root: &Box,
-    mut file: File,
+    file: File,
     state: State,
     reading: &[i64; MOST_ROOMS],
 ) -> Result<(u8, State), Refusal> {
-    read_header(plant, &mut file)?;
-    match mode_there(plant, file.own_bytes(), state)? {
+    let mut table = Table::open(plant, file)?;
+    match mode_there(plant, table.file.own_bytes(), state)? {
         Some((mode, next)) => {
             reading_in(&plant.s(), reading)?;
             Ok((mode, State::after(next, state.left - 1)))
         }
         None => {
             reading_in(root, reading)?;
-            start_tile(plant, root, &mut file, reading)
+            start_tile(&mut table, root, reading)
         }
     }
 }
@@ -100,35 +100,33 @@ pub fn reading_in(allowed: &Box, reading: &[i64; MOST_ROOMS]) -> Result<(), Refu
 
 /// The first mode of the reading's tile and the state behind it.
 fn start_tile(
-    plant: &Plant,
+    table: &mut Table,
     root: &Box,
-    file: &mut File,
     reading: &[i64; MOST_ROOMS],
 ) -> Result<(u8, State), Refusal> {
-    let found = find_tile(plant, file, root, plant.d, reading)?;
+    let found = find_tile(table, root, table.depth(), reading)?;
     // The reading lies in the root and children cover their parent, so a tile is found.
     let (place, pattern) = found.ok_or(Refusal::at(READING_OUTSIDE, 0))?;
     let (first, left) = (pattern.modes()[0], pattern.modes().len() as u64 - 1);
     // The tile's number is one byte, being at most K: the second mode stands behind the first's.
     let second = place + 1 + groups_of(first.into()).1 as u64;
-    Ok((first, State::after(second - file.first(), left)))
+    Ok((first, State::after(second - table.file.first(), left)))
 }
 
 /// Walks the tree of a box up to the tile that holds the reading: the tile's
 /// first byte and its pattern, or None when the box does not hold it.
 fn find_tile(
-    plant: &Plant,
-    file: &mut File,
+    table: &mut Table,
     here: &Box,
     depth_left: u64,
     reading: &[i64; MOST_ROOMS],
 ) -> Result<Option<(u64, Pattern)>, Refusal> {
-    let place = file.place();
-    match read_node(plant, file, here, depth_left)? {
+    let place = table.file.place();
+    match table.node(here, depth_left)? {
         Node::Tile(pattern) => Ok(here.contains(reading).then_some((place, pattern))),
         Node::Split(children) => {
             for child in children {
-                let found = find_tile(plant, file, &child, depth_left - 1, reading)?;
+                let found = find_tile(table, &child, depth_left - 1, reading)?;
                 if found.is_some() {
                     return Ok(found);
                 }

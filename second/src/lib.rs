@@ -1,10 +1,10 @@
 //! The independent second program of document 01 ("What the build includes
 //! and its rules"): plants, sheets, the table maker, the table checker, the
 //! controller and the listing, and of document 02's requests 2026-02, heaters
-//! that fade as the room warms, 2026-03, start files for cold rooms, 2026-08, up
-//! to 256 modes, and 2026-09, a band for each mode. Written from those papers and
-//! from the readings of their open words alone. One module per subject, named in
-//! the papers' words.
+//! that fade as the room warms, 2026-03, start files for cold rooms, 2026-06,
+//! tables that halve the longest side, 2026-08, up to 256 modes, and 2026-09, a
+//! band for each mode. Written from those papers and from the readings of their
+//! open words alone. One module per subject, named in the papers' words.
 
 #![forbid(unsafe_code)]
 
@@ -15,6 +15,7 @@ pub mod checker;
 pub mod control;
 pub mod edges;
 pub mod file;
+pub mod form;
 pub mod image;
 pub mod lent;
 pub mod listing;
@@ -42,11 +43,11 @@ pub const COEFFICIENTS: usize = MOST_MODES * MOST_ROOMS * (MOST_ROOMS + 1);
 /// The largest plant file: "a plant may reach 17,504 bytes" in form 1; in form 2
 /// a band more for each mode but one, each of eight ends of 5 bytes.
 pub const LARGEST_PLANT: usize = 17_504 + (MOST_MODES - 1) * 8 * 5;
-/// "A form 1 table 54,615": form and n, 1,365 splits, 4,096 tiles of six modes of
-/// two bytes.
-pub const LARGEST_TABLE: usize = 54_615;
+/// The largest table: form and n, 4,096 tiles of six modes of two bytes, and their
+/// splits, in form 3 one less than the tiles. "A form 1 table 54,615" has 1,365.
+pub const LARGEST_TABLE: usize = 2 + 4_096 * 13 + 4_095;
 /// "A chain of boxes R = R0, R1, .. Rm (m up to 8)."
 pub const MOST_BOXES: usize = 8;
-/// The largest start file: form and m, the edges of eight boxes of two rooms
+/// The largest start file: form and m, the edges of eight boxes of four rooms
 /// in 3 bytes each, and nine of the largest tables, each behind a length of 3.
-pub const LARGEST_START: usize = 2 + 3 * 4 * MOST_BOXES + (3 + LARGEST_TABLE) * (MOST_BOXES + 1);
+pub const LARGEST_START: usize = 2 + 3 * 8 * MOST_BOXES + (3 + LARGEST_TABLE) * (MOST_BOXES + 1);

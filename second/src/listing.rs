@@ -7,12 +7,12 @@ use crate::file::File;
 use crate::maker::make;
 use crate::plant::{read_plant, Plant};
 use crate::refusal::Refusal;
-use crate::table::{read_header, read_node, Node};
+use crate::table::{Node, Table};
 use crate::LARGEST_TABLE;
 
-/// What the listing program prints for a plant's file.
-pub fn listing(plant_bytes: &[u8]) -> String {
-    list(plant_bytes).unwrap_or_else(|refusal| refused_line(&refusal))
+/// What the listing program prints for a plant's file: its table in this form.
+pub fn listing(plant_bytes: &[u8], form: u64) -> String {
+    list(plant_bytes, form).unwrap_or_else(|refusal| refused_line(&refusal))
 }
 
 /// "refused", number and place, in one line.
@@ -20,10 +20,10 @@ pub fn refused_line(refusal: &Refusal) -> String {
     format!("refused {} {}\n", refusal.number, refusal.place)
 }
 
-fn list(plant_bytes: &[u8]) -> Result<String, Refusal> {
+fn list(plant_bytes: &[u8], form: u64) -> Result<String, Refusal> {
     let plant = read_plant(plant_bytes)?;
     let mut table = vec![0; LARGEST_TABLE];
-    let length = make(plant_bytes, &mut table)?;
+    let length = make(plant_bytes, form, &mut table)?;
     let tiles = Tiles::of(&plant, &plant.r(), File::new(&table[..length]))?;
     Ok(format!("table {} {} {}\n{}", plant.n, tiles.count, tiles.longest, tiles.lines))
 }
@@ -37,25 +37,20 @@ pub(crate) struct Tiles {
 
 impl Tiles {
     /// The tiles of the table that `file` is, whose tree starts at box `root`.
-    pub fn of(plant: &Plant, root: &Box, mut file: File) -> Result<Tiles, Refusal> {
-        read_header(plant, &mut file)?;
+    pub fn of(plant: &Plant, root: &Box, file: File) -> Result<Tiles, Refusal> {
+        let mut table = Table::open(plant, file)?;
         let mut tiles = Tiles { lines: String::new(), count: 0, longest: 0 };
-        tiles.list_box(plant, &mut file, root, plant.d)?;
+        let depth = table.depth();
+        tiles.list_box(&mut table, root, depth)?;
         Ok(tiles)
     }
 
-    fn list_box(
-        &mut self,
-        plant: &Plant,
-        file: &mut File,
-        here: &Box,
-        depth_left: u64,
-    ) -> Result<(), Refusal> {
-        match read_node(plant, file, here, depth_left)? {
+    fn list_box(&mut self, table: &mut Table, here: &Box, depth_left: u64) -> Result<(), Refusal> {
+        match table.node(here, depth_left)? {
             Node::Tile(pattern) => self.list_tile(here, pattern.modes()),
             Node::Split(children) => {
                 for child in children {
-                    self.list_box(plant, file, &child, depth_left - 1)?;
+                    self.list_box(table, &child, depth_left - 1)?;
                 }
             }
         }

@@ -2,7 +2,8 @@
 //! the listing of the plant on standard input; `make`, `check` and `sheet`
 //! work on named files; `check start` and `list start` take a start file beside
 //! the plant; `drive` answers one controller call for each line
-//! "place left x1 .. xn" on standard input.
+//! "place left x1 .. xn" on standard input. The last word of `list` and `make` is
+//! the form of the table, 1 where none is said.
 
 use second::checker::check;
 use second::control::{control, State};
@@ -16,7 +17,7 @@ use second::{LARGEST_PLANT, LARGEST_TABLE};
 use std::io::{self, BufRead, Read};
 use std::process::ExitCode;
 
-const USAGE: &str = "second list < PLANT | list start PLANT START | make PLANT TABLE \
+const USAGE: &str = "second list [FORM] < PLANT | list start PLANT START | make PLANT TABLE [FORM] \
                      | check PLANT TABLE | check start PLANT START \
                      | sheet SHEET PLANT | drive PLANT TABLE < CALLS";
 
@@ -24,8 +25,10 @@ fn main() -> ExitCode {
     let words: Vec<String> = std::env::args().skip(1).collect();
     let words: Vec<&str> = words.iter().map(String::as_str).collect();
     let done = match words[..] {
-        ["list"] => list(),
-        ["make", plant, table] => transform(plant, table, LARGEST_TABLE, make),
+        ["list"] => list("1"),
+        ["list", form] => list(form),
+        ["make", plant, table] => make_file(plant, table, "1"),
+        ["make", plant, table, form] => make_file(plant, table, form),
         ["sheet", sheet, plant] => transform(sheet, plant, LARGEST_PLANT, sheet_to_plant),
         ["check", plant, table] => check_files(plant, table, check),
         ["check", "start", plant, start] => check_files(plant, start, start_check),
@@ -42,12 +45,23 @@ fn main() -> ExitCode {
     }
 }
 
+/// The form that a word says.
+fn form_of(word: &str) -> io::Result<u64> {
+    word.parse().map_err(|_| io::Error::other(USAGE))
+}
+
 /// One byte more than the largest plant decides every plant file.
-fn list() -> io::Result<()> {
+fn list(form: &str) -> io::Result<()> {
+    let form = form_of(form)?;
     let mut plant = Vec::new();
     io::stdin().take(LARGEST_PLANT as u64 + 1).read_to_end(&mut plant)?;
-    print!("{}", listing(&plant));
+    print!("{}", listing(&plant, form));
     Ok(())
+}
+
+fn make_file(plant: &str, table: &str, form: &str) -> io::Result<()> {
+    let form = form_of(form)?;
+    transform(plant, table, LARGEST_TABLE, |plant, buffer| make(plant, form, buffer))
 }
 
 /// Makes one file of another and prints "done" or the refusal.
@@ -55,7 +69,7 @@ fn transform(
     from: &str,
     to: &str,
     largest: usize,
-    by: fn(&[u8], &mut [u8]) -> Result<usize, Refusal>,
+    by: impl Fn(&[u8], &mut [u8]) -> Result<usize, Refusal>,
 ) -> io::Result<()> {
     let mut buffer = vec![0; largest];
     let answer = by(&std::fs::read(from)?, &mut buffer);

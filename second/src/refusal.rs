@@ -4,7 +4,7 @@
 
 /// A number or float ends early, is over 5 bytes, or not shortest.
 pub const BROKEN_NUMBER: u8 = 1;
-/// Form is not known: not 1, or of a plant neither 1 nor 2.
+/// Form is not known; a maker may be told one that is not.
 pub const FORM_NOT_KNOWN: u8 = 2;
 /// Plant or sheet number out of range, lo > hi, emitter kind over 2, or bytes
 /// left over; "also for m over 8, an edge out of range, bytes left over, or a

@@ -5,13 +5,15 @@
 //! too; here stand the chain around them, the lengths, and the index.
 
 use crate::chain::Chain;
-use crate::checker::check_table;
+use crate::checker::check_tree;
 use crate::control::{call, reading_in, State};
 use crate::file::File;
+use crate::form::Form;
 use crate::lent::{zero_if_refused, Lent};
 use crate::maker::make_table;
 use crate::plant::{read_past_modes, read_plant, Plant};
 use crate::refusal::{Refusal, NO_TABLE, OUT_OF_RANGE, STATE_CANNOT_BE};
+use crate::table::Table;
 use crate::{LARGEST_START, MOST_ROOMS};
 
 /// Idle, or the index of the box whose table answers, the place of the next
@@ -41,10 +43,10 @@ impl StartState {
     }
 }
 
-/// The start file of a plant's and a chain's bytes.
-pub fn start_make(plant_bytes: &[u8], chain_bytes: &[u8]) -> Result<Vec<u8>, Refusal> {
+/// The start file of a plant's and a chain's bytes, all its tables in one form.
+pub fn start_make(plant_bytes: &[u8], chain_bytes: &[u8], form: u64) -> Result<Vec<u8>, Refusal> {
     let mut start = vec![0; LARGEST_START];
-    let length = start_make_into(plant_bytes, chain_bytes, &mut start)?;
+    let length = start_make_into(plant_bytes, chain_bytes, form, &mut start)?;
     start.truncate(length);
     Ok(start)
 }
@@ -53,21 +55,23 @@ pub fn start_make(plant_bytes: &[u8], chain_bytes: &[u8]) -> Result<Vec<u8>, Ref
 pub fn start_make_into(
     plant_bytes: &[u8],
     chain_bytes: &[u8],
+    form: u64,
     buffer: &mut [u8],
 ) -> Result<usize, Refusal> {
-    let answer = read_plant(plant_bytes).and_then(|plant| make_tables(&plant, chain_bytes, buffer));
+    let answer = read_plant(plant_bytes).and_then(|plant| make_tables(&plant, chain_bytes, form, buffer));
     zero_if_refused(answer, buffer)
 }
 
-/// "Maker: plant, chain, 15, 9, 10." The chain's bytes are the file's own
-/// beginning.
-fn make_tables(plant: &Plant, chain_bytes: &[u8], buffer: &mut [u8]) -> Result<usize, Refusal> {
+/// "Maker: plant, chain, 15, 9, 10", and 2 for the form before 9. The chain's
+/// bytes are the file's own beginning.
+fn make_tables(plant: &Plant, chain_bytes: &[u8], form: u64, buffer: &mut [u8]) -> Result<usize, Refusal> {
     let chain = read_chain_alone(plant, chain_bytes)?;
+    let form = Form::of(form, 0)?;
     let mut start = Lent::new(buffer);
     start.put(chain_bytes);
     for index in 0..=chain.m() {
         let first = start.length();
-        if !make_table(plant, chain.root(index), chain.goal(index), &mut start) {
+        if !make_table(plant, form, chain.root(index), chain.goal(index), &mut start) {
             return Err(Refusal::at(NO_TABLE, index as u64));
         }
         start.put_length_before(first);
@@ -91,9 +95,9 @@ pub fn start_check(plant_bytes: &[u8], start_bytes: &[u8]) -> Result<(), Refusal
     let chain = read_beginning(&plant, &mut file)?;
     for index in 0..=chain.m() {
         let length_place = file.place();
-        let mut table = next_table(&mut file)?;
-        check_table(&plant, chain.root(index), chain.goal(index), &mut table)?;
-        table.end_or(Refusal::at(OUT_OF_RANGE, length_place))?;
+        let mut table = Table::open(&plant, next_table(&mut file)?)?;
+        check_tree(&mut table, chain.root(index), chain.goal(index))?;
+        table.file.end_or(Refusal::at(OUT_OF_RANGE, length_place))?;
     }
     file.end(OUT_OF_RANGE)
 }

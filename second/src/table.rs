@@ -1,9 +1,11 @@
 //! "Table file: form 1, n, then the tree in preorder, starting at box R:
 //! number 0 is a split, number k in 1..K is a tile, followed by k modes
-//! (0..N-1)." The file's own rules, 1, 2 and 6, without any image.
+//! (0..N-1)." The file's own rules, 1, 2 and 6, without any image; how boxes are
+//! split is the form's.
 
 use crate::boxes::{Box, Children};
 use crate::file::File;
+use crate::form::Form;
 use crate::plant::Plant;
 use crate::refusal::{Refusal, TABLE_RULE};
 use crate::LONGEST_PATTERN;
@@ -30,45 +32,55 @@ pub enum Node {
     Tile(Pattern),
 }
 
-/// The table's header: form (1, 2), then n (1, 6).
-pub fn read_header(plant: &Plant, file: &mut File) -> Result<(), Refusal> {
-    file.form(&[1])?;
-    let place = file.place();
-    if file.unsigned()? != plant.n {
-        return Err(Refusal::at(TABLE_RULE, place));
-    }
-    Ok(())
+/// A table under reading: the plant that it is for, its form, and its file, from
+/// the tree on.
+pub struct Table<'a, 'b> {
+    pub plant: &'a Plant,
+    pub form: Form,
+    pub file: File<'b>,
 }
 
-/// The node of a box with this much depth left, all its modes read: 1 and 6.
-pub fn read_node(
-    plant: &Plant,
-    file: &mut File,
-    of: &Box,
-    depth_left: u64,
-) -> Result<Node, Refusal> {
-    let place = file.place();
-    let node = file.unsigned()?;
-    if node == 0 {
-        let children = if depth_left > 0 { of.split() } else { None };
-        return children.map(Node::Split).ok_or(Refusal::at(TABLE_RULE, place));
-    }
-    if node > plant.k {
-        return Err(Refusal::at(TABLE_RULE, place));
-    }
-    read_pattern(plant, file, node as usize).map(Node::Tile)
-}
-
-/// The modes of a tile: 1 and 6, each at its own first byte.
-fn read_pattern(plant: &Plant, file: &mut File, length: usize) -> Result<Pattern, Refusal> {
-    let mut pattern = Pattern { modes: [0; LONGEST_PATTERN], length };
-    for slot in &mut pattern.modes[..length] {
+impl<'a, 'b> Table<'a, 'b> {
+    /// A table behind its header: form (1, 2), then n (1, 6).
+    pub fn open(plant: &'a Plant, mut file: File<'b>) -> Result<Table<'a, 'b>, Refusal> {
+        let form = Form::read(&mut file)?;
         let place = file.place();
-        let mode = file.unsigned()?;
-        if mode >= plant.modes {
+        if file.unsigned()? != plant.n {
             return Err(Refusal::at(TABLE_RULE, place));
         }
-        *slot = mode as u8;
+        Ok(Table { plant, form, file })
     }
-    Ok(pattern)
+
+    /// How deep its tree may be.
+    pub fn depth(&self) -> u64 {
+        self.form.depth(self.plant)
+    }
+
+    /// The node of a box with this much depth left, all its modes read: 1 and 6.
+    pub fn node(&mut self, of: &Box, depth_left: u64) -> Result<Node, Refusal> {
+        let place = self.file.place();
+        let node = self.file.unsigned()?;
+        if node == 0 {
+            let children = self.form.split(of, depth_left);
+            return children.map(Node::Split).ok_or(Refusal::at(TABLE_RULE, place));
+        }
+        if node > self.plant.k {
+            return Err(Refusal::at(TABLE_RULE, place));
+        }
+        self.pattern(node as usize).map(Node::Tile)
+    }
+
+    /// The modes of a tile: 1 and 6, each at its own first byte.
+    fn pattern(&mut self, length: usize) -> Result<Pattern, Refusal> {
+        let mut pattern = Pattern { modes: [0; LONGEST_PATTERN], length };
+        for slot in &mut pattern.modes[..length] {
+            let place = self.file.place();
+            let mode = self.file.unsigned()?;
+            if mode >= self.plant.modes {
+                return Err(Refusal::at(TABLE_RULE, place));
+            }
+            *slot = mode as u8;
+        }
+        Ok(pattern)
+    }
 }

@@ -144,7 +144,7 @@ fn every_run_of_the_worked_example() {
     let bytes = cold_p();
     let plant = second::plant::read_plant(&bytes).expect("a plant");
     let chain: Vec<Wide> = vec![(vec![180], vec![225]), (vec![160], vec![230])];
-    let start = start_make(&bytes, &chain_bytes(&chain)).expect("a start file");
+    let start = start_make(&bytes, &chain_bytes(&chain), 1).expect("a start file");
     let cold = Cold::new(plant.clone(), bytes, &chain, start);
     assert_eq!([0, 1, 2].map(|index| longest_pattern(&cold.tables[index])), [2, 2, 2]);
     assert_eq!(cold.bound(&[160, 0, 0, 0]), 4);
@@ -174,7 +174,7 @@ fn every_run_of_small_rooms() {
 fn rooms_that_do_what_the_plant_allows() {
     let mut random = Random(22);
     let (mut late, mut last_box) = (0, 0);
-    for (plant, bytes, chain, start) in made_starts(220, 300) {
+    for (plant, bytes, chain, start) in made_starts(220, 300).into_iter().chain(mixed_starts(221, 150)) {
         let cold = Cold::new(plant.clone(), bytes, &chain, start);
         let rm = cold.boxes.last().expect("R").clone();
         for _ in 0..12 {

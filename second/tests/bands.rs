@@ -33,13 +33,13 @@ fn p2_fields() -> Vec<Field> {
 /// Every function that takes a plant's bytes tells this of them.
 fn every_function_tells(bytes: &[u8], wanted: Told) {
     assert_eq!(told(read_plant(bytes)), wanted);
-    assert_eq!(told(make(bytes, &mut marked(9))), wanted);
+    assert_eq!(told(make(bytes, 1, &mut marked(9))), wanted);
     assert_eq!(told(check(bytes, &[9])), wanted);
     assert_eq!(told(control(bytes, &[9], State { place: 1, left: 9 }, [i64::MAX; 4])), wanted);
-    assert_eq!(told(start_make(bytes, &[9])), wanted);
+    assert_eq!(told(start_make(bytes, &[9], 1)), wanted);
     assert_eq!(told(start_check(bytes, &[9])), wanted);
     assert_eq!(told(start_control(bytes, &[9], StartState { index: 9, place: 1, left: 9 }, [0; 4])), wanted);
-    assert_eq!(listing(bytes), format!("refused {} {}\n", wanted.0, wanted.1));
+    assert_eq!(listing(bytes, 1), format!("refused {} {}\n", wanted.0, wanted.1));
 }
 
 fn written(plant: &Plant) -> Result<Vec<u8>, Told> {
@@ -64,10 +64,10 @@ fn p_in_form_2() {
     assert_eq!(one.bands, [Band { lo: [-5, 0, 0, 0], hi: [4, 0, 0, 0] }; 2]);
     assert_eq!((written(&one), written(&two)), (Ok(P.to_vec()), Ok(P2.to_vec())));
     let mut table = marked(9);
-    assert_eq!(make(&P2, &mut table), Ok(7));
+    assert_eq!(make(&P2, 1, &mut table), Ok(7));
     assert_eq!(table[..7], T1);
     assert_eq!(check(&P2, &T1), Ok(()));
-    assert_eq!(listing(&P2), listing(&P));
+    assert_eq!(listing(&P2, 1), listing(&P, 1));
     for x in [194, 195, 210, 211, 225, 226] {
         let reading = [x, 0, 0, 0];
         assert_eq!(control(&P2, &T1, State::IDLE, reading), control(&P, &T1, State::IDLE, reading));
@@ -254,13 +254,13 @@ fn a_band_that_differs_in_one_mode_only() {
     // 195..210 by mode 1: 9*210 + 300 + 69 is 2259, 225 counts; with 70 it is 226, in S and outside R.
     assert_eq!(check(&p_with(1, -5, 69), &T1), Ok(()));
     assert_eq!(told(check(&p_with(1, -5, 70), &T1)), (8, 3, 1));
-    assert_eq!(told(make(&p_with(1, -5, 70), &mut marked(9))), (9, 0, 0));
+    assert_eq!(told(make(&p_with(1, -5, 70), 1, &mut marked(9))), (9, 0, 0));
     // With 120 it is 231, outside S.
     assert_eq!(told(check(&p_with(1, -5, 120), &T1)), (7, 3, 1));
     // Mode 0's is another: 9*225 + 100 + 70 is 2195.
     assert_eq!(check(&p_with(0, -5, 70), &T1), Ok(()));
     let mut table = marked(7);
-    assert_eq!(make(&p_with(0, -5, 70), &mut table), Ok(7));
+    assert_eq!(make(&p_with(0, -5, 70), 1, &mut table), Ok(7));
     assert_eq!(table, T1);
     // 211..225 by mode 0: 9*211 + 100 - 54 is 1945, rounded up 195; with -60 it is 1939, 194.
     assert_eq!(check(&p_with(0, -54, 4), &T1), Ok(()));
@@ -284,8 +284,8 @@ fn each_step_has_its_own_modes_band() {
 #[test]
 fn start_files_over_form_2() {
     let chain = file(&chain_fields(&[[(190, 230)]]));
-    let start = start_make(&P, &chain).expect("a start file");
-    assert_eq!(start_make(&P2, &chain).as_ref(), Ok(&start));
+    let start = start_make(&P, &chain, 1).expect("a start file");
+    assert_eq!(start_make(&P2, &chain, 1).as_ref(), Ok(&start));
     assert_eq!(start_check(&P2, &start), Ok(()));
     for x in 189..=231 {
         let (one, two) = [P.as_slice(), &P2].map(|plant| start_control(plant, &start, StartState::IDLE, [x; 4])).into();
@@ -293,7 +293,7 @@ fn start_files_over_form_2() {
     }
     let wide = p_with(1, -5, 70);
     assert_eq!(told(start_check(&wide, &start)), (8, 10, 1));
-    assert_eq!(told(start_make(&wide, &chain)), (9, 0, 0));
+    assert_eq!(told(start_make(&wide, &chain, 1)), (9, 0, 0));
 }
 
 // ---- by the slow ways
@@ -308,7 +308,7 @@ fn the_maker_agrees_over_own_bands() {
         let bytes = plant_bytes(&plant);
         assert_eq!(read_plant(&bytes).as_ref(), Ok(&plant));
         let mut buffer = marked(4_000);
-        let answer = make(&bytes, &mut buffer);
+        let answer = make(&bytes, 1, &mut buffer);
         let slow = slow_table(&plant, &r_of(&plant), &r_of(&plant));
         moved += usize::from(slow != slow_table(&one, &r_of(&one), &r_of(&one)));
         match slow {
@@ -336,7 +336,7 @@ fn the_maker_agrees_at_the_limits_of_own_bands() {
         let plant = extreme_plant(&mut random, 2);
         let Ok(bytes) = written(&plant) else { continue };
         let mut buffer = marked(200);
-        let answer = make(&bytes, &mut buffer);
+        let answer = make(&bytes, 1, &mut buffer);
         match slow_table(&plant, &r_of(&plant), &r_of(&plant)) {
             None => {
                 assert_eq!(told(answer), (9, 0, 0));
@@ -376,7 +376,7 @@ fn rooms_with_own_bands_are_kept() {
         let plant = with_own_bands(&pulling_plant(&mut random), &mut random);
         let bytes = plant_bytes(&plant);
         let mut table = vec![0; second::LARGEST_TABLE];
-        let Ok(length) = make(&bytes, &mut table) else { continue };
+        let Ok(length) = make(&bytes, 1, &mut table) else { continue };
         let (edges, n) = (plant.edges, plant.n as usize);
         let mut reading = reading_in(&edges.r_lo, &edges.r_hi, n, &mut random);
         let (mut state, mut since_r) = (State::IDLE, 0);

@@ -12,7 +12,7 @@ use second::maker::make;
 use second::plant::{read_plant, write_plant, Plant};
 use second::sheet::plant_of_sheet;
 use second::start::{start_check, start_control, start_make, start_make_into, StartState};
-use second::{COEFFICIENTS, LARGEST_PLANT, LARGEST_START, LARGEST_TABLE, MOST_BOXES};
+use second::{COEFFICIENTS, LARGEST_PLANT, LARGEST_TABLE, MOST_BOXES};
 use slow::plants::slow_plant;
 use slow::*;
 
@@ -36,7 +36,7 @@ fn two_steps(modes: usize, first: usize, second: usize) -> Vec<u8> {
 
 fn made(plant: &[u8]) -> Vec<u8> {
     let mut table = marked(LARGEST_TABLE);
-    let length = make(plant, &mut table).expect("a table");
+    let length = make(plant, 1, &mut table).expect("a table");
     table.truncate(length);
     table
 }
@@ -137,9 +137,9 @@ fn modes_127_and_128_in_a_table() {
         assert_eq!(check(&plant, &table), Ok(()));
         assert_eq!(call(&plant, &table, 0, 0), Ok((mode as u8, (0, 0))));
         assert_eq!(call(&plant, &table, 3, 1), Ok((mode as u8, (0, 0))));
-        assert_eq!(listing(&plant), format!("table 1 1 1\n0 9 : {mode}\n"));
+        assert_eq!(listing(&plant, 1), format!("table 1 1 1\n0 9 : {mode}\n"));
         let short = table.len() - 1;
-        assert_eq!(told(make(&plant, &mut marked(short))), (10, 0, 0));
+        assert_eq!(told(make(&plant, 1, &mut marked(short))), (10, 0, 0));
     }
     // Not below N: 6 at the mode's first byte, and 12 of a running state.
     for (modes, mode) in [(127, 127), (128, 128), (129, 129), (255, 255), (256, 256), (256, 1 << 34)] {
@@ -227,7 +227,7 @@ fn old_tables_with_a_wrong_later_mode() {
 fn start_files_with_modes_of_two_bytes() {
     let plant = two_steps(256, 128, 255);
     let chain = file(&chain_fields(&[[(0, 9)]]));
-    let start = start_make(&plant, &chain).expect("a start file");
+    let start = start_make(&plant, &chain, 1).expect("a start file");
     let table = [1, 1, 2, 0x80, 1, 0xFF, 1];
     assert_eq!(start, [&chain[..], &[7], &table, &[7], &table].concat());
     assert_eq!(start_check(&plant, &start), Ok(()));
@@ -256,16 +256,16 @@ fn far_turning(at: i64) -> Vec<u8> {
 }
 
 #[test]
-fn the_largest_table() {
+fn the_largest_table_of_form_1() {
     let plant = far_turning(1000);
     let mut table = marked(LARGEST_TABLE + 1);
-    assert_eq!(make(&plant, &mut table), Ok(54_615));
-    assert_eq!((LARGEST_TABLE, table[54_615]), (54_615, 0xAA));
+    assert_eq!(make(&plant, 1, &mut table), Ok(54_615));
+    assert_eq!(table[54_615], 0xAA);
     assert_eq!(table[..10], [1, 2, 0, 0, 0, 0, 0, 0, 6, 0x80]);
     table.truncate(54_615);
     assert_eq!(check(&plant, &table), Ok(()));
     assert_eq!(told(check(&plant, &table[..54_614])), (1, 54_613, 0));
-    assert_eq!(told(make(&plant, &mut marked(54_614))), (10, 0, 0));
+    assert_eq!(told(make(&plant, 1, &mut marked(54_614))), (10, 0, 0));
     let last = [1063, 1063, 0, 0];
     let (mode, state) = control(&plant, &table, State::IDLE, last).expect("an answer");
     assert_eq!((mode, state), (128, State { place: 54_605, left: 5 }));
@@ -274,14 +274,14 @@ fn the_largest_table() {
 }
 
 #[test]
-fn the_largest_start_file() {
+fn the_largest_start_file_of_form_1() {
     let plant = far_turning(9000);
     let chain = chain_fields(&[[(9000, 9063), (9000, 9063)]; MOST_BOXES]);
     let table = made(&plant);
     let start = file(&start_fields(&chain, &[&table[..]; MOST_BOXES + 1]));
-    assert_eq!((start.len(), LARGEST_START), (491_660, 491_660));
-    assert_eq!(start_make(&plant, &file(&chain)).as_ref(), Ok(&start));
-    assert_eq!(told(start_make_into(&plant, &file(&chain), &mut marked(491_659))), (10, 0, 0));
+    assert_eq!(start.len(), 491_660);
+    assert_eq!(start_make(&plant, &file(&chain), 1).as_ref(), Ok(&start));
+    assert_eq!(told(start_make_into(&plant, &file(&chain), 1, &mut marked(491_659))), (10, 0, 0));
     assert_eq!(start_check(&plant, &start), Ok(()));
     let last = StartState { index: 8, place: 54_613, left: 1 };
     assert_eq!(start_control(&plant, &start, last, [9063; 4]), Ok((128, StartState::IDLE)));
@@ -312,7 +312,7 @@ fn the_maker_agrees_over_many_modes() {
     for (plant, slow) in many(31, 1_200, 500) {
         let bytes = plant_bytes(&plant);
         let mut buffer = marked(4_000);
-        let answer = make(&bytes, &mut buffer);
+        let answer = make(&bytes, 1, &mut buffer);
         match slow {
             None => {
                 assert_eq!(told(answer), (9, 0, 0), "{plant:?}");

@@ -36,7 +36,7 @@ use Rattle.meaning.specs.declared.Answer.{Answer}
 use Rattle.meaning.specs.declared.StartAnswer.{StartAnswer}
 use Rattle.meaning.specs.Refusals.{refusal}
 use Rattle.meaning.specs.Numbers.{numberAt, signedAt}
-use Rattle.meaning.specs.Boxes.{side, children}
+use Rattle.meaning.specs.Boxes.{side, children, longestHalved}
 use Rattle.meaning.specs.Images.{image}
 use Rattle.meaning.specs.Files.{good}
 use Rattle.meaning.specs.Plants.{plantOf, plantJudged, plantRead, plantLeft, stepOf}
@@ -50,6 +50,9 @@ use Rattle.meaning.specs.Computing.{computing}
 abbrev lent : ℕ → List ℕ
 lent m = replicate m 0xAA
 ";
+
+/// The form of table that the makers on the page are told, but in the section of form 3.
+const FORM: u64 = 1;
 
 // ---- this program's values in the page's words
 
@@ -217,9 +220,13 @@ impl Page {
     }
 
     fn make(&mut self, plant: &[u8], length: usize) -> Vec<u8> {
+        self.make_of(FORM, plant, length)
+    }
+
+    fn make_of(&mut self, form: u64, plant: &[u8], length: usize) -> Vec<u8> {
         let mut buffer = marked(length);
-        let answer = make(plant, &mut buffer);
-        self.equation(&format!("makerLeft ({}) (lent {length})", bytes(plant)), &left(&answer, &buffer));
+        let answer = make(plant, form, &mut buffer);
+        self.equation(&format!("makerLeft ({}) {form} (lent {length})", bytes(plant)), &left(&answer, &buffer));
         buffer[..answer.unwrap_or(0)].to_vec()
     }
 
@@ -251,6 +258,11 @@ impl Page {
         self.equation(&format!("children ({})", boxed(of)), &list(&children, |child| format!("({})", boxed(child))));
     }
 
+    fn halve(&mut self, of: &Box) {
+        let halves: Vec<Box> = of.halve().into_iter().flatten().collect();
+        self.equation(&format!("longestHalved ({})", boxed(of)), &list(&halves, |half| format!("({})", boxed(half))));
+    }
+
     fn rule(&mut self, fields: &[Field], of: &Box, pattern: &[u8]) {
         let plant = read_plant(&file(fields)).expect("a plant");
         let right = match tile_rule(&plant, &plant.r(), of, pattern, 0) {
@@ -259,7 +271,7 @@ impl Page {
             Err(refusal) => format!("Tried.Misses {}", refusal.step),
         };
         let modes = list(pattern, |mode| mode.to_string());
-        self.equation(&format!("rule (rulesOf (plantOf ({}))) ({}) ({modes})", wholes(&field_values(fields)), boxed(of)), &right);
+        self.equation(&format!("rule (rulesOf {FORM} (plantOf ({}))) ({}) ({modes})", wholes(&field_values(fields)), boxed(of)), &right);
     }
 }
 
@@ -440,6 +452,42 @@ fn tables(page: &mut Page) {
     page.control(&[1, 1], &[2], (7, 9), [0, 0, 0, 0]);
 }
 
+/// Tables of form 3, of the same rooms.
+fn halved_tables(page: &mut Page) {
+    page.section("form 3: the longest side halved, tables made and checked, the controller");
+    page.halve(&Box::new(&[-4], &[-1]));
+    page.halve(&Box::new(&[-8, 5], &[-6, 8]));
+    page.halve(&Box::new(&[0, 3, -1], &[1, 3, 0]));
+    page.halve(&Box::new(&[-5, -9, -5, 0], &[-5, -1, 3, 7]));
+    page.halve(&Box::new(&[-5, -5, -5], &[-5, -5, -5]));
+    let plant = file(&split_rooms());
+    let table = page.make_of(3, &plant, 15);
+    page.make_of(3, &plant, table.len() - 1);
+    for form in [0, 2, 4, 129, (1 << 35) + 3] {
+        page.make_of(form, &plant, 4);
+    }
+    page.make_of(2, &file(&with(&split_rooms(), 1, U(9))), 4);
+    page.make_of(3, &file(&with(&split_rooms(), 5, U(0))), 3);
+    page.check(&plant, &table);
+    let raised = (0..table.len()).map(|place| (place, table[place] + 1));
+    for (place, byte) in raised.chain([(0, 1), (0, 2), (0, 0x83), (2, 1), (3, 0), (4, 0)]) {
+        let mut spoiled = table.clone();
+        spoiled[place] = byte;
+        page.check(&plant, &spoiled);
+    }
+    for cut in [0, 1, 2, 4, table.len() - 1] {
+        page.check(&plant, &table[..cut]);
+    }
+    for reading in [[195, -15, 0, 0], [225, 15, 7, -7], [210, 1, 0, 0], [211, 0, 0, 0], [211, 1, 0, 0], [194, 0, 0, 0]] {
+        page.control(&plant, &table, (0, 0), reading);
+    }
+    for cut in [2, 3, 5, 7, table.len() - 1] {
+        page.control(&plant, &table[..cut], (0, 0), [225, -15, 0, 0]);
+    }
+    page.control(&plant, &[3, 2, 2, 3, 0], (4, 1), [190, 20, 0, 0]);
+    page.control(&plant, &[4, 2, 2, 3, 0], (4, 1), [190, 20, 0, 0]);
+}
+
 fn sheets(page: &mut Page) {
     page.section("sheets, read, written and made into plants");
     let two = two_room_sheet();
@@ -495,6 +543,7 @@ fn page() -> String {
     sheets(&mut page);
     starts(&mut page, 1, 1, 2);
     starts(&mut page, 2, 2, 1);
+    halved_tables(&mut page);
     page.text
 }
 

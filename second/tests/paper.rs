@@ -35,12 +35,12 @@ fn the_bytes_of_p() {
 #[test]
 fn line_1() {
     let mut buffer = marked(7);
-    assert_eq!(make(&P, &mut buffer), Ok(7));
+    assert_eq!(make(&P, 1, &mut buffer), Ok(7));
     assert_eq!(buffer, T1);
     assert_eq!(check(&P, &T1), Ok(()));
-    assert_eq!(told(make(&P, &mut marked(6))), (10, 0, 0));
+    assert_eq!(told(make(&P, 1, &mut marked(6))), (10, 0, 0));
     let shallow = file(&with(&p_fields(), 5, U(0)));
-    assert_eq!(told(make(&shallow, &mut marked(7))), (9, 0, 0));
+    assert_eq!(told(make(&shallow, 1, &mut marked(7))), (9, 0, 0));
 }
 
 #[test]
@@ -68,7 +68,7 @@ fn line_4() {
 #[test]
 fn line_5() {
     let mut buffer = marked(5);
-    assert_eq!(make(&p_prime(), &mut buffer), Ok(5));
+    assert_eq!(make(&p_prime(), 1, &mut buffer), Ok(5));
     assert_eq!(buffer, T5);
     assert_eq!(check(&p_prime(), &T5), Ok(()));
     let plant = read_plant(&p_prime()).expect("P' is a plant");
@@ -166,6 +166,6 @@ fn line_13_of_the_paper() {
 
 #[test]
 fn the_listing() {
-    assert_eq!(listing(&P), "table 1 2 1\n195 210 : 1\n211 225 : 0\n");
-    assert_eq!(listing(&file(&with(&p_fields(), 5, U(0)))), "refused 9 0\n");
+    assert_eq!(listing(&P, 1), "table 1 2 1\n195 210 : 1\n211 225 : 0\n");
+    assert_eq!(listing(&file(&with(&p_fields(), 5, U(0))), 1), "refused 9 0\n");
 }

@@ -52,7 +52,7 @@ fn integrated_sample(name: &str, sheet: &Sheet) -> Vec<u8> {
 /// The plant's table is this one, is accepted, and drives the room.
 fn holds(plant: &[u8], table: &[u8]) {
     let mut made = vec![0; second::LARGEST_TABLE];
-    let length = make(plant, &mut made).expect("a table");
+    let length = make(plant, 1, &mut made).expect("a table");
     assert_eq!(made[..length], *table);
     assert_eq!(check(plant, table), Ok(()));
     let read = read_plant(plant).expect("a plant");
@@ -93,7 +93,7 @@ fn drive(bytes: &[u8], plant: &Plant, table: &[u8], next: Next, random: &mut Ran
 }
 
 fn header(plant: &[u8]) -> String {
-    listing(plant).lines().next().expect("a line").to_string()
+    listing(plant, 1).lines().next().expect("a line").to_string()
 }
 
 /// 002 figure 2, left: "four different tiles with patterns of length 1".
@@ -129,7 +129,7 @@ fn example_1_as_printed() {
     assert_eq!(header(&plant), "table 2 4 2");
     holds(&plant, &[1, 2, 0, 2, 1, 0, 1, 0, 1, 0, 1, 0]);
     let short = plant_of(&printed(10, 1));
-    assert_eq!(listing(&short), "refused 9 0\n");
+    assert_eq!(listing(&short, 1), "refused 9 0\n");
     assert_eq!(header(&plant_bytes(&integrated(&printed(100, 6)))), "table 2 4 3");
     assert_eq!(header(&plant_bytes(&integrated(&printed(100, 1)))), "refused 9 0");
 }
@@ -180,7 +180,7 @@ fn cold(name: &str, bytes: Vec<u8>, lows: &[i64], promised: usize) -> Cold {
     let chain = sample(&format!("{name}.chain"));
     assert_eq!(chain, chain_of(lows));
     let start = sample(&format!("{name}.start"));
-    assert_eq!(start_make(&bytes, &chain), Ok(start.clone()));
+    assert_eq!(start_make(&bytes, &chain, 1), Ok(start.clone()));
     assert_eq!(start_check(&bytes, &start), Ok(()));
     Cold { plant: read_plant(&bytes).expect("a plant"), bytes, start, promised }
 }
@@ -234,7 +234,7 @@ fn sum_of_longest(plant: &[u8], start: &[u8]) -> i64 {
 #[test]
 fn patterns_of_the_papers_length() {
     let plant = plant_of(&Sheet { k: 4, ..of_001_example_1() });
-    let start = start_make(&plant, &chain_of(&CHAIN_001_K_4)).expect("a start file");
+    let start = start_make(&plant, &chain_of(&CHAIN_001_K_4), 1).expect("a start file");
     assert_eq!(sum_of_longest(&plant, &start), 32);
 }
 

@@ -138,9 +138,9 @@ fn reading_8_beyond_n_and_modes() {
 fn reading_9_the_maker_searches_on() {
     // P with mode 1's b as mode 0's 300: the first tile fits, the second has none.
     let one_sided = file(&with(&p_fields(), 13, S(300)));
-    assert_eq!(told(make(&one_sided, &mut marked(3))), (9, 0, 0));
+    assert_eq!(told(make(&one_sided, 1, &mut marked(3))), (9, 0, 0));
     let mut exact = marked(7);
-    assert_eq!(make(&P, &mut exact), Ok(7));
+    assert_eq!(make(&P, 1, &mut exact), Ok(7));
 }
 
 #[test]
@@ -339,10 +339,10 @@ fn reading_20_and_21_calls() {
 
 #[test]
 fn reading_22_listings() {
-    assert_eq!(listing(&p_prime()), "table 1 1 2\n195 225 : 0 1\n");
-    assert_eq!(listing(&still_plant()), "table 2 1 1\n0 1 5 5 : 0\n");
-    assert_eq!(listing(&[]), "refused 1 0\n");
-    assert_eq!(listing(&[1, 9]), "refused 3 1\n");
+    assert_eq!(listing(&p_prime(), 1), "table 1 1 2\n195 225 : 0 1\n");
+    assert_eq!(listing(&still_plant(), 1), "table 2 1 1\n0 1 5 5 : 0\n");
+    assert_eq!(listing(&[], 1), "refused 1 0\n");
+    assert_eq!(listing(&[1, 9], 1), "refused 3 1\n");
 }
 
 #[test]
@@ -484,7 +484,7 @@ fn fact_largest_table() {
     fields.extend([4, -13, 0, 1, -3, 0].map(S));
     let plant = file(&fields);
     let mut table = marked(30_040);
-    assert_eq!(make(&plant, &mut table), Ok(30_039));
+    assert_eq!(make(&plant, 1, &mut table), Ok(30_039));
     assert_eq!(table[30_039], 0xAA);
     assert_eq!(check(&plant, &table[..30_039]), Ok(()));
     assert_eq!(told(check(&plant, &table[..30_038])), (1, 30_038, 0));
@@ -493,12 +493,12 @@ fn fact_largest_table() {
     assert_eq!(table[..10], [1, 2, 0, 0, 0, 0, 0, 0, 6, 0]);
     assert_eq!(table[2..30_039].iter().filter(|byte| **byte == 6).count(), 4_096);
     let mut short = marked(30_038);
-    assert_eq!(told(make(&plant, &mut short)), (10, 0, 0));
+    assert_eq!(told(make(&plant, 1, &mut short)), (10, 0, 0));
     assert!(short.iter().all(|byte| *byte == 0));
     // The last reading's tile is found behind all the others.
     let call = control(&plant, &table[..30_039], IDLE, [1063, 1063, 0, 0]);
     assert_eq!(call, Ok((0, State { place: 30_034, left: 5 })));
-    let lines = listing(&plant);
+    let lines = listing(&plant, 1);
     assert_eq!(lines.lines().count(), 4_097);
     assert!(lines.starts_with("table 2 4096 6\n1000 1000 1000 1000 : 0 0 0 0 0 0\n1001 1001 1000"));
     assert!(lines.ends_with("\n1063 1063 1063 1063 : 0 0 0 0 0 0\n"));

@@ -31,11 +31,11 @@ fn zeroed_by(write: impl Fn(&mut [u8]) -> (u64, u64, u64)) -> (u64, u64, u64) {
 /// Every function that takes a plant's bytes tells the same of them.
 fn plant_told(bytes: &[u8]) -> (u64, u64, u64) {
     let read = told(read_plant(bytes));
-    assert_eq!(zeroed_by(|buffer| told(make(bytes, buffer))), read);
+    assert_eq!(zeroed_by(|buffer| told(make(bytes, 1, buffer))), read);
     // The plant comes first: the table, state and reading are wrong as well.
     assert_eq!(told(check(bytes, &[9])), read);
     assert_eq!(told(control(bytes, &[9], State { place: 1, left: 9 }, [i64::MAX; 4])), read);
-    assert_eq!(listing(bytes), format!("refused {} {}\n", read.0, read.1));
+    assert_eq!(listing(bytes, 1), format!("refused {} {}\n", read.0, read.1));
     read
 }
 
@@ -178,9 +178,11 @@ fn row_2_form_is_not_known() {
             assert_eq!(plant_told(&file(&with(&p_fields(), 0, U(form)))), (2, 0, 0));
         }
         assert_eq!(sheet_told(&file(&with(&line_13(), 0, U(form)))), (2, 0, 0));
-        let table = file(&[U(form), U(1), U(1), U(1)]);
-        assert_eq!(told(check(&P, &table)), (2, 0, 0));
-        assert_eq!(told(control(&P, &table, State { place: 1, left: 9 }, [0; 4])), (2, 0, 0));
+        if form != 3 {
+            let table = file(&[U(form), U(1), U(1), U(1)]);
+            assert_eq!(told(check(&P, &table)), (2, 0, 0));
+            assert_eq!(told(control(&P, &table, State { place: 1, left: 9 }, [0; 4])), (2, 0, 0));
+        }
     }
     assert_eq!(plant_told(&[3]), (2, 0, 0));
 }
@@ -484,32 +486,32 @@ fn the_checker_goes_in_order() {
 #[test]
 fn row_9_no_table() {
     let shallow = file(&with(&p_fields(), 5, U(0)));
-    assert_eq!(zeroed_by(|buffer| told(make(&shallow, buffer))), (9, 0, 0));
+    assert_eq!(zeroed_by(|buffer| told(make(&shallow, 1, buffer))), (9, 0, 0));
     // Depth left, no side left: R and S 195..195, which every mode leaves.
     let mut one_count = with(&with(&p_fields(), 7, S(195)), 5, U(6));
     one_count = with(&with(&one_count, 8, S(195)), 9, S(195));
-    assert_eq!(zeroed_by(|buffer| told(make(&file(&one_count), buffer))), (9, 0, 0));
+    assert_eq!(zeroed_by(|buffer| told(make(&file(&one_count), 1, buffer))), (9, 0, 0));
     // 9 comes before 10: the buffer of 0 bytes above told 9 as well.
-    assert_eq!(told(make(&shallow, &mut [])), (9, 0, 0));
+    assert_eq!(told(make(&shallow, 1, &mut [])), (9, 0, 0));
     // No table though the first tile has one: mode 0 alone serves 211..225
     // and not 195..210; P with b of mode 1 as mode 0's.
     let one_sided = file(&with(&p_fields(), 15, S(100)));
-    assert_eq!(zeroed_by(|buffer| told(make(&one_sided, buffer))), (9, 0, 0));
+    assert_eq!(zeroed_by(|buffer| told(make(&one_sided, 1, buffer))), (9, 0, 0));
     // And the other way about: 195..210 is written before 211..225 fails.
     let one_sided = file(&with(&p_fields(), 13, S(300)));
-    assert_eq!(zeroed_by(|buffer| told(make(&one_sided, buffer))), (9, 0, 0));
+    assert_eq!(zeroed_by(|buffer| told(make(&one_sided, 1, buffer))), (9, 0, 0));
 }
 
 #[test]
 fn row_10_buffer_too_short() {
     for length in 0..7 {
         let mut buffer = marked(length);
-        assert_eq!(told(make(&P, &mut buffer)), (10, 0, 0));
+        assert_eq!(told(make(&P, 1, &mut buffer)), (10, 0, 0));
         assert!(buffer.iter().all(|byte| *byte == 0));
     }
     for length in [7, 8, 300] {
         let mut buffer = marked(length);
-        assert_eq!(make(&P, &mut buffer), Ok(7));
+        assert_eq!(make(&P, 1, &mut buffer), Ok(7));
         assert_eq!(buffer[..7], T1);
         assert!(buffer[7..].iter().all(|byte| *byte == 0xAA));
     }

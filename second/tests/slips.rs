@@ -26,12 +26,12 @@ fn the_maker_too_minds_the_sign() {
     let mut fields = vec![U(1), U(1), U(1), U(1), U(1), U(0)];
     fields.extend([1, 3, -10, 10, 0, 0, -1, 4].map(S));
     let mut buffer = marked(4);
-    assert_eq!(make(&file(&fields), &mut buffer), Ok(4));
+    assert_eq!(make(&file(&fields), 1, &mut buffer), Ok(4));
     assert_eq!(buffer, [1, 1, 1, 0]);
     // x -> 6 - 2x takes 1..3 to 0..4, outside R; with the corners mixed up
     // its edges would be 4 and 0, and 4 >= 1 and 0 <= 3 would pass.
     let fields = with(&with(&fields, 12, S(-2)), 13, S(6));
-    assert_eq!(told(make(&file(&fields), &mut buffer)), (9, 0, 0));
+    assert_eq!(told(make(&file(&fields), 1, &mut buffer)), (9, 0, 0));
     assert_eq!(told(check(&file(&fields), &[1, 1, 1, 0])), (8, 2, 1));
 }
 
@@ -58,7 +58,7 @@ fn not_only_the_last_image_is_tested() {
     // Line 4: the second image of line 5's table lies in P's R, the first leaves S.
     assert_eq!(told(check(&P, &T5)), (7, 2, 1));
     // So the maker may not answer it for P with D 0 either.
-    assert_eq!(told(make(&file(&with(&p_fields(), 5, U(0))), &mut marked(9))), (9, 0, 0));
+    assert_eq!(told(make(&file(&with(&p_fields(), 5, U(0))), 1, &mut marked(9))), (9, 0, 0));
 }
 
 #[test]

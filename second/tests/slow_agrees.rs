@@ -17,15 +17,17 @@ use second::sheet::{plant_of_sheet, read_sheet, sheet_to_plant, write_sheet, Emi
 use slow::*;
 
 /// Plants with tables of several tiles or a long pattern, for the tests behind
-/// the maker's; at least half of them split.
+/// the maker's; at least half of them split. So many of form 1, then as many of
+/// form 3.
 fn made_tables(seed: u64, wanted: usize) -> Vec<(Plant, Vec<u8>, Vec<u8>)> {
     let mut random = Random(seed);
     let mut made = vec![];
-    while made.len() < wanted {
+    while made.len() < 2 * wanted {
+        let form = if made.len() < wanted { 1 } else { 3 };
         let plant = pulling_plant(&mut random);
         let bytes = plant_bytes(&plant);
-        let mut table = vec![0; 30_039];
-        if let Ok(length) = make(&bytes, &mut table) {
+        let mut table = vec![0; 32_769];
+        if let Ok(length) = make(&bytes, form, &mut table) {
             let several = table[2] == 0;
             let wide_enough = made.len() % 2 == 1 || several;
             if length > 4 && wide_enough {
@@ -45,7 +47,7 @@ fn the_maker_agrees_with_the_slow_one() {
         let plant = pulling_plant(&mut random);
         let bytes = plant_bytes(&plant);
         let mut buffer = marked(4_000);
-        let answer = make(&bytes, &mut buffer);
+        let answer = make(&bytes, 1, &mut buffer);
         match slow_table(&plant, &r_of(&plant), &r_of(&plant)) {
             None => {
                 assert_eq!(told(answer), (9, 0, 0), "{plant:?}");
@@ -73,7 +75,7 @@ fn the_maker_agrees_at_the_limits() {
         let bytes = plant_bytes(&plant);
         assert_eq!(length, bytes.len());
         let mut buffer = marked(200);
-        let answer = make(&bytes, &mut buffer);
+        let answer = make(&bytes, 1, &mut buffer);
         match slow_table(&plant, &r_of(&plant), &r_of(&plant)) {
             None => {
                 assert_eq!(told(answer), (9, 0, 0));
@@ -162,6 +164,23 @@ fn children_cover_the_box_and_are_apart() {
     }
 }
 
+/// A table with a byte changed, put in, taken out or behind, or cut.
+fn damaged(random: &mut Random, table: &[u8]) -> Vec<u8> {
+    let mut other = table.to_vec();
+    let at = random.within(0, table.len() as i64 - 1) as usize;
+    let byte = [0, 1, 2, 3, 0x80, 0x81, random.next() as u8][random.within(0, 6) as usize];
+    match random.within(0, 5) {
+        0 => other.truncate(at),
+        1 => other.insert(at, byte),
+        2 => drop(other.remove(at)),
+        3 => other.push(byte),
+        // the same tree under another form, or under none
+        4 => other[0] = random.within(0, 4) as u8,
+        _ => other[at] = byte,
+    }
+    other
+}
+
 #[test]
 fn the_checker_agrees_on_damaged_tables() {
     let mut random = Random(5);
@@ -169,22 +188,32 @@ fn the_checker_agrees_on_damaged_tables() {
     for (plant, bytes, table) in made_tables(50, 150) {
         assert_eq!(check(&bytes, &table), Ok(()));
         for _ in 0..60 {
-            let mut damaged = table.clone();
-            let at = random.within(0, table.len() as i64 - 1) as usize;
-            let byte = [0, 1, 2, 3, 0x80, 0x81, random.next() as u8][random.within(0, 6) as usize];
-            match random.within(0, 4) {
-                0 => damaged.truncate(at),
-                1 => damaged.insert(at, byte),
-                2 => drop(damaged.remove(at)),
-                3 => damaged.push(byte),
-                _ => damaged[at] = byte,
-            }
-            let answer = told(check(&bytes, &damaged));
-            assert_eq!(answer, slow_check(&plant, &damaged), "{plant:?} {damaged:?}");
+            let other = damaged(&mut random, &table);
+            let answer = told(check(&bytes, &other));
+            assert_eq!(answer, slow_check(&plant, &other), "{plant:?} {other:?}");
             seen[answer.0 as usize] += 1;
         }
     }
     assert!([0, 1, 2, 6, 7, 8].iter().all(|number| seen[*number] > 5), "{seen:?}");
+}
+
+/// What is passed is read as the checker reads it, and nothing behind the tile.
+#[test]
+fn the_call_agrees_on_damaged_tables() {
+    let mut random = Random(51);
+    let mut seen = [0; 9];
+    for (plant, bytes, table) in made_tables(52, 150) {
+        for _ in 0..60 {
+            let other = damaged(&mut random, &table);
+            let reading = reading_in(&plant.edges.r_lo, &plant.edges.r_hi, plant.n as usize, &mut random);
+            let answer = control(&bytes, &other, State { place: 0, left: 0 }, reading);
+            let shown = answer.map(|(mode, next)| (mode, next.place, next.left));
+            let shown = shown.map_err(|refusal| told::<()>(Err(refusal)));
+            assert_eq!(shown, slow_idle(&plant, &other, &reading), "{plant:?} {other:?} {reading:?}");
+            seen[shown.map_or_else(|told| told.0, |_| 0) as usize] += 1;
+        }
+    }
+    assert!([0, 1, 2, 6].iter().all(|number| seen[*number] > 5), "{seen:?}");
 }
 
 #[test]
@@ -219,34 +248,16 @@ fn the_controller_keeps_the_rooms() {
     assert!(longest_seen >= 3, "{longest_seen}");
 }
 
-/// The tile of a reading, by the list of boxes still to come: modes and place.
-fn slow_find(plant: &Plant, table: &[u8], x: &[i64; 4]) -> (usize, Vec<u8>) {
-    let n = plant.n as usize;
-    let mut to_come = vec![wide(&plant.edges.r_lo, &plant.edges.r_hi, n)];
-    let mut at = 2;
-    loop {
-        let here = to_come.pop().expect("a tile holds the reading");
-        let node = table[at] as usize;
-        if node == 0 {
-            at += 1;
-            to_come.extend(slow_children(&here).into_iter().rev());
-        } else {
-            if inside(&wide(x, x, n), &here) {
-                return (at, table[at + 1..at + 1 + node].to_vec());
-            }
-            at += 1 + node;
-        }
-    }
-}
-
 #[test]
 fn the_controller_answers_the_pattern_of_the_tile() {
     let mut random = Random(7);
     for (plant, bytes, table) in made_tables(70, 200) {
+        let tiles = slow_tiles(&plant, &r_of(&plant), &table);
         for _ in 0..30 {
             let n = plant.n as usize;
             let reading = reading_in(&plant.edges.r_lo, &plant.edges.r_hi, n, &mut random);
-            let (place, pattern) = slow_find(&plant, &table, &reading);
+            let holds = |tile: &&SlowTile| inside(&wide(&reading, &reading, n), &tile.of);
+            let SlowTile { place, pattern, .. } = tiles.iter().find(holds).expect("a tile");
             let mut state = State { place: 0, left: 0 };
             for (t, mode) in pattern.iter().enumerate() {
                 let at = if t == 0 {

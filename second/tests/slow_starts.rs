@@ -11,24 +11,19 @@ use second::plant::{read_plant, Plant};
 use second::start::{start_check, start_control, start_make, StartState};
 use slow::*;
 
-/// A number at a place, 1 where it is broken.
-fn number(bytes: &[u8], place: usize) -> Result<(u64, usize), Told> {
-    slow_number(bytes, place).ok_or((1, place as u64, 0))
-}
-
 fn edge(bytes: &[u8], place: usize, least: i128) -> Result<(i128, usize), Told> {
-    let (stored, next) = number(bytes, place)?;
+    let (stored, next) = slow_number_or_1(bytes, place)?;
     let value = if stored % 2 == 0 { i128::from(stored) / 2 } else { -i128::from(stored + 1) / 2 };
     if value < least || value > 1_000_000 { Err((3, place as u64, 0)) } else { Ok((value, next)) }
 }
 
 /// R0..Rm and where the edges end.
 fn slow_chain(plant: &Plant, bytes: &[u8]) -> Result<(Vec<Wide>, usize), Told> {
-    let (form, m_place) = number(bytes, 0)?;
+    let (form, m_place) = slow_number_or_1(bytes, 0)?;
     if form != 1 {
         return Err((2, 0, 0));
     }
-    let (m, mut at) = number(bytes, m_place)?;
+    let (m, mut at) = slow_number_or_1(bytes, m_place)?;
     if m > 8 {
         return Err((3, m_place as u64, 0));
     }
@@ -56,30 +51,18 @@ fn slow_fault(plant: &Plant, boxes: &[Wide]) -> Result<(), Told> {
     }
 }
 
-/// Each box with the box that its patterns end in.
-fn tasks(boxes: &[Wide]) -> Vec<(Wide, Wide)> {
-    let goals = [&boxes[..1], boxes].concat();
-    boxes.iter().cloned().zip(goals).collect()
-}
-
-fn slow_start_make(plant: &Plant, chain: &[u8]) -> Result<Vec<u8>, Told> {
+fn slow_start_make(plant: &Plant, chain: &[u8], form: u64) -> Result<Vec<u8>, Told> {
     let (boxes, end) = slow_chain(plant, chain)?;
     if end < chain.len() {
         return Err((3, end as u64, 0));
     }
     slow_fault(plant, &boxes)?;
-    let mut start = chain.to_vec();
-    for (index, (root, goal)) in tasks(&boxes).iter().enumerate() {
-        let table = slow_table(plant, root, goal).ok_or((9, index as u64, 0))?;
-        start.extend(groups(table.len() as u128));
-        start.extend(table);
-    }
-    Ok(start)
+    slow_start(plant, &boxes[1..], &[form; 9]).map_err(|index| (9, index, 0))
 }
 
 /// The table whose length stands at a place: its own place and its bytes.
 fn slow_part(start: &[u8], place: usize) -> Result<(usize, &[u8]), Told> {
-    let (length, first) = number(start, place)?;
+    let (length, first) = slow_number_or_1(start, place)?;
     if u128::from(length) > (start.len() - first) as u128 {
         return Err((3, place as u64, 0));
     }
@@ -95,7 +78,7 @@ fn moved((number, place, step): Told, by: usize) -> Told {
 fn slow_start_check(plant: &Plant, start: &[u8]) -> Result<(), Told> {
     let (boxes, mut at) = slow_chain(plant, start)?;
     slow_fault(plant, &boxes)?;
-    for (root, goal) in tasks(&boxes) {
+    for (root, goal) in tasks(plant, &boxes[1..]) {
         let (first, table) = slow_part(start, at)?;
         let end = slow_verdict(plant, &root, &goal, table).map_err(|told| moved(told, first))?;
         if end < table.len() {
@@ -171,15 +154,27 @@ fn called(numbers: &mut Numbers, plant: &Plant, bytes: &[u8], start: &[u8], stat
     numbers[answer.map_or_else(|told| told.0, |_| 0) as usize] += 1;
 }
 
-#[test]
-fn the_start_maker_agrees_with_the_slow_one() {
-    let mut random = Random(11);
+/// How many of a start file's tables are split, and how many begin with a longer
+/// pattern.
+fn shapes(start: &[u8], mut at: usize) -> (usize, usize) {
+    let (mut split, mut long) = (0, 0);
+    while at < start.len() {
+        let (first, table) = slow_part(start, at).expect("a table");
+        split += usize::from(table[2] == 0);
+        long += usize::from(table[2] > 1);
+        at = first + table.len();
+    }
+    (split, long)
+}
+
+fn the_start_maker_agrees(form: u64, seed: u64, times: usize) {
+    let mut random = Random(seed);
     let (mut none, mut deep, mut split, mut long) = ([0; 9], 0, 0, 0);
-    for _ in 0..6_000 {
+    for _ in 0..times {
         let (plant, chain) = cold_plant(&mut random);
         let (bytes, chain) = (plant_bytes(&plant), chain_bytes(&chain));
-        let answer = start_make(&bytes, &chain).map_err(|refusal| told::<()>(Err(refusal)));
-        assert_eq!(answer, slow_start_make(&plant, &chain), "{plant:?} {chain:?}");
+        let answer = start_make(&bytes, &chain, form).map_err(|refusal| told::<()>(Err(refusal)));
+        assert_eq!(answer, slow_start_make(&plant, &chain, form), "{plant:?} {chain:?}");
         match answer {
             Err((number, index, _)) => {
                 assert_eq!(number, 9);
@@ -188,13 +183,8 @@ fn the_start_maker_agrees_with_the_slow_one() {
             Ok(start) => {
                 assert_eq!(start_check(&bytes, &start), Ok(()));
                 deep += usize::from(start[1] > 1);
-                let mut at = chain.len();
-                while at < start.len() {
-                    let (first, table) = slow_part(&start, at).expect("a table");
-                    split += usize::from(table[2] == 0);
-                    long += usize::from(table[2] > 1);
-                    at = first + table.len();
-                }
+                let (more_split, more_long) = shapes(&start, chain.len());
+                (split, long) = (split + more_split, long + more_long);
             }
         }
     }
@@ -202,12 +192,22 @@ fn the_start_maker_agrees_with_the_slow_one() {
     assert!(deep > 100 && split > 100 && long > 100, "{deep} {split} {long}");
 }
 
+#[test]
+fn the_start_maker_agrees_with_the_slow_one() {
+    the_start_maker_agrees(1, 11, 6_000);
+}
+
+#[test]
+fn the_start_maker_agrees_with_the_slow_one_in_form_3() {
+    the_start_maker_agrees(3, 45, 4_000);
+}
+
 /// A start file with a byte changed, put in, taken out or behind, or cut.
 fn damaged(random: &mut Random, start: &[u8]) -> Vec<u8> {
     let mut other = start.to_vec();
     let at = random.within(0, start.len() as i64 - 1) as usize;
     let near = other[at].wrapping_add([1, 2, 254, 255][random.within(0, 3) as usize]);
-    let byte = [0, 1, 2, near, near, 0x80, 0x81, random.next() as u8][random.within(0, 7) as usize];
+    let byte = [0, 1, 2, 3, near, near, 0x80, 0x81, random.next() as u8][random.within(0, 8) as usize];
     match random.within(0, 6) {
         0 => other.truncate(at),
         1 => other.insert(at, byte),
@@ -222,7 +222,7 @@ fn damaged(random: &mut Random, start: &[u8]) -> Vec<u8> {
 fn the_start_checker_agrees_on_damaged_files() {
     let mut random = Random(12);
     let mut numbers = [0; 16];
-    for (plant, bytes, _, start) in made_starts(120, 150) {
+    for (plant, bytes, _, start) in made_starts(120, 150).into_iter().chain(mixed_starts(121, 150)) {
         checked(&mut numbers, &plant, &bytes, &start);
         for _ in 0..120 {
             let mut other = damaged(&mut random, &start);
@@ -240,7 +240,7 @@ fn the_start_checker_agrees_on_damaged_files() {
 fn the_call_agrees_with_that_of_the_table_alone() {
     let mut random = Random(13);
     let mut numbers = [0; 16];
-    for (plant, bytes, chain, start) in made_starts(130, 150) {
+    for (plant, bytes, chain, start) in made_starts(130, 150).into_iter().chain(mixed_starts(131, 150)) {
         for _ in 0..150 {
             let index = [0, random.within(0, chain.len() as i64 + 1) as u64, random.next()];
             let place = [0, random.within(2, 14) as u64, random.within(2, start.len() as i64) as u64, random.next()];
@@ -277,7 +277,7 @@ fn every_damage_of_the_worked_examples() {
     let (mut verdicts, mut calls) = ([0; 16], [0; 16]);
     for (bytes, chain) in examples {
         let plant = read_plant(&bytes).expect("a plant");
-        let start = start_make(&bytes, &chain).expect("a start file");
+        let start = start_make(&bytes, &chain, 1).expect("a start file");
         for at in 0..start.len() {
             for byte in 0..=255 {
                 let mut other = start.clone();

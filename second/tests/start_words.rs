@@ -30,7 +30,7 @@ fn run(words: &[&str], files: &[PathBuf]) -> Output {
 
 #[test]
 fn the_example_of_22_bytes() {
-    let start = start_make(&P, &file(&chain_fields(&[[(190, 230)]]))).expect("a start file");
+    let start = start_make(&P, &file(&chain_fields(&[[(190, 230)]])), 1).expect("a start file");
     assert_eq!(said("check", "example", &P, &start), "done\n");
     let lines = "box 0 195 225 : 2 1\n195 210 : 1\n211 225 : 0\nbox 1 190 230 : 2 1\n190 210 : 1\n211 230 : 0\n";
     assert_eq!(said("list", "example", &P, &start), lines);
@@ -39,7 +39,7 @@ fn the_example_of_22_bytes() {
 /// The longest pattern is each table's own.
 #[test]
 fn a_cold_room() {
-    let start = start_make(&cold_p(), &file(&cold_chain())).expect("a start file");
+    let start = start_make(&cold_p(), &file(&cold_chain()), 1).expect("a start file");
     assert_eq!(said("check", "cold", &cold_p(), &start), "done\n");
     let lines = "box 0 195 225 : 1 2\n195 225 : 0 1\n\
                  box 1 180 225 : 2 2\n180 202 : 1 1\n203 225 : 0 1\n\
@@ -52,7 +52,7 @@ fn a_cold_room() {
 #[test]
 fn two_rooms_listed() {
     let plant = file(&two_rooms());
-    let start = start_make(&plant, &file(&chain_fields::<[_; 2]>(&[]))).expect("a start file");
+    let start = start_make(&plant, &file(&chain_fields::<[_; 2]>(&[])), 1).expect("a start file");
     let r0 = "box 0 0 9 10 19 : 1 1\n0 9 10 19 : 0\n";
     assert_eq!(said("list", "alone", &plant, &start), r0);
     let chain = chain_fields(&[[(-5, 14), (5, 24)]]);

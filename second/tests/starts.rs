@@ -42,7 +42,7 @@ fn state(index: u64, place: u64, left: u64) -> StartState {
 /// maker takes the beginning alone.
 fn all_tell(plant: &[u8], beginning: &[Field], wanted: Told) {
     let bytes = file(beginning);
-    assert_eq!(told(start_make(plant, &bytes)), wanted, "make {bytes:02X?}");
+    assert_eq!(told(start_make(plant, &bytes, 1)), wanted, "make {bytes:02X?}");
     let start = file(&start_fields(beginning, &[&T1, &T1]));
     assert_eq!(told(start_check(plant, &start)), wanted, "check {bytes:02X?}");
     assert_eq!(told(idle(plant, &start, 200)), wanted, "call {bytes:02X?}");
@@ -54,7 +54,7 @@ fn all_tell(plant: &[u8], beginning: &[Field], wanted: Told) {
 fn the_example_of_22_bytes() {
     let chain = file(&example_chain());
     assert_eq!(chain, EXAMPLE[..6]);
-    assert_eq!(start_make(&P, &chain), Ok(EXAMPLE.to_vec()));
+    assert_eq!(start_make(&P, &chain, 1), Ok(EXAMPLE.to_vec()));
     assert_eq!(file(&example_fields()), EXAMPLE);
     assert_eq!(start_check(&P, &EXAMPLE), Ok(()));
     assert_eq!(idle(&P, &EXAMPLE, 190), Ok((1, StartState::IDLE)));
@@ -69,7 +69,7 @@ fn the_example_of_22_bytes() {
 #[test]
 fn a_cold_room_comes_home() {
     let plant = cold_p();
-    let start = start_make(&plant, &file(&cold_chain())).expect("a start file");
+    let start = start_make(&plant, &file(&cold_chain()), 1).expect("a start file");
     let tables: [&[u8]; 3] = [&T5, &[1, 1, 0, 2, 1, 1, 2, 0, 1], &[1, 1, 0, 2, 1, 1, 1, 0]];
     assert_eq!(start, file(&start_fields(&cold_chain(), &tables)));
     assert_eq!(start_check(&plant, &start), Ok(()));
@@ -129,11 +129,11 @@ fn a_beginning_cut_at_every_length() {
     let wide = file(&with(&with(&p_fields(), 8, S(-1_000_000)), 9, S(1_000_000)));
     let (bytes, places) = encode(&chain);
     // whole it is in order; no pattern leads from R2 to R1
-    assert_eq!(told(start_make(&wide, &bytes)), (9, 2, 0));
+    assert_eq!(told(start_make(&wide, &bytes, 1)), (9, 2, 0));
     for length in 0..bytes.len() {
         let cut = places.iter().rev().find(|place| **place <= length as u64).expect("a number");
         for answer in [
-            told(start_make(&wide, &bytes[..length])),
+            told(start_make(&wide, &bytes[..length], 1)),
             told(start_check(&wide, &bytes[..length])),
             told(idle(&wide, &bytes[..length], 200)),
         ] {
@@ -147,14 +147,14 @@ fn leftover_bytes_behind_a_chain() {
     let whole = example_chain();
     for behind in [vec![0], vec![1], vec![0x80], vec![0x81, 0], vec![7, 1, 1]] {
         let bytes = file(&[&whole[..], &[Raw(behind.clone())]].concat());
-        assert_eq!(told(start_make(&P, &bytes)), (3, 6, 0));
+        assert_eq!(told(start_make(&P, &bytes, 1)), (3, 6, 0));
         // before 15
         let apart = chain_fields(&[[(196, 230)]]);
         let bytes = file(&[&apart[..], &[Raw(behind.clone())]].concat());
-        assert_eq!(told(start_make(&P, &bytes)), (3, 6, 0));
+        assert_eq!(told(start_make(&P, &bytes, 1)), (3, 6, 0));
         // before 9
         let none = file(&with(&p_fields(), 5, U(0)));
-        assert_eq!(told(start_make(&none, &file(&[&whole[..], &[Raw(behind)]].concat()))), (3, 6, 0));
+        assert_eq!(told(start_make(&none, &file(&[&whole[..], &[Raw(behind)]].concat()), 1)), (3, 6, 0));
         // in a file a length stands there, and 15 comes before it
         assert_eq!(told(start_check(&P, &bytes)), (15, 1, 0));
         assert_eq!(told(idle(&P, &bytes, 200)), (15, 1, 0));
@@ -216,7 +216,7 @@ fn the_plant_comes_first() {
     for (fields, wanted) in damaged {
         let plant = file(&fields);
         for start in [&EXAMPLE[..], &[], &[2], &[1, 9]] {
-            assert_eq!(told(start_make(&plant, start)), wanted);
+            assert_eq!(told(start_make(&plant, start, 1)), wanted);
             assert_eq!(told(start_check(&plant, start)), wanted);
             assert_eq!(told(start_control(&plant, start, state(9, 9, 9), [0; 4])), wanted);
         }
@@ -227,7 +227,7 @@ fn the_plant_comes_first() {
 fn nought_to_eight_boxes_and_no_more() {
     for m in 0..=MOST_BOXES {
         let boxes: Vec<_> = (0..m as i64).map(|i| [(195 - i / 2, 225 + i / 2)]).collect();
-        let start = start_make(&P, &file(&chain_fields(&boxes))).expect("a start file");
+        let start = start_make(&P, &file(&chain_fields(&boxes)), 1).expect("a start file");
         assert_eq!(start[1], m as u8);
         assert_eq!(start, file(&start_fields(&chain_fields(&boxes), &vec![&T1[..]; m + 1])));
         assert_eq!(start_check(&P, &start), Ok(()));
@@ -261,15 +261,15 @@ fn the_first_index_without_a_table() {
         // before 10, and the whole buffer is zeros
         for length in [0, 3, 8, 300] {
             let mut buffer = marked(length);
-            let answer = told(start_make_into(plant, &chain(&boxes), &mut buffer));
+            let answer = told(start_make_into(plant, &chain(&boxes), 1, &mut buffer));
             assert_eq!(answer, (9, index, 0), "{boxes:?}");
             assert_eq!(buffer, vec![0; length]);
         }
-        assert_eq!(told(start_make(plant, &chain(&boxes))), (9, index, 0), "{boxes:?}");
+        assert_eq!(told(start_make(plant, &chain(&boxes), 1)), (9, index, 0), "{boxes:?}");
     }
     // the table that is missing at 2 above is there without R2, and that of 1 with D 1
-    assert!(start_make(&shallow, &chain(&[(195, 225)])).is_ok());
-    assert!(start_make(&file(&with(&with(&p_fields(), 8, S(150)), 9, S(240))), &chain(&[(180, 225)])).is_ok());
+    assert!(start_make(&shallow, &chain(&[(195, 225)]), 1).is_ok());
+    assert!(start_make(&file(&with(&with(&p_fields(), 8, S(150)), 9, S(240))), &chain(&[(180, 225)]), 1).is_ok());
 }
 
 /// 10 for every buffer too short, also one that ends within the beginning, a
@@ -278,10 +278,10 @@ fn the_first_index_without_a_table() {
 fn buffers_of_every_length() {
     for (plant, chain) in [(P.to_vec(), example_chain()), (cold_p(), cold_chain())] {
         let chain = file(&chain);
-        let start = start_make(&plant, &chain).expect("a start file");
+        let start = start_make(&plant, &chain, 1).expect("a start file");
         for length in 0..start.len() + 5 {
             let mut buffer = marked(length);
-            let answer = start_make_into(&plant, &chain, &mut buffer);
+            let answer = start_make_into(&plant, &chain, 1, &mut buffer);
             if length < start.len() {
                 assert_eq!(told(answer), (10, 0, 0), "{length}");
                 assert_eq!(buffer, vec![0; length]);
@@ -298,7 +298,7 @@ fn buffers_of_every_length() {
 fn a_refused_chain_zeros_the_buffer() {
     for chain in [&[][..], &[2], &[1, 9], &[1, 1, 0, 0]] {
         let mut buffer = marked(40);
-        assert!(start_make_into(&P, chain, &mut buffer).is_err());
+        assert!(start_make_into(&P, chain, 1, &mut buffer).is_err());
         assert_eq!(buffer, [0; 40]);
     }
 }
@@ -366,7 +366,7 @@ fn byte_lengths_that_cut_a_table_or_leave_bytes() {
 #[test]
 fn a_start_file_cut_at_every_length() {
     let plant = cold_p();
-    let start = start_make(&plant, &file(&cold_chain())).expect("a start file");
+    let start = start_make(&plant, &file(&cold_chain()), 1).expect("a start file");
     // lengths at 10, 16 and 26, their tables behind them; 160 is only in R2
     for length in 10..start.len() {
         let (number, place) = match length {
@@ -459,7 +459,7 @@ fn the_last_image_lies_in_the_box_below() {
 #[test]
 fn the_smallest_box_answers() {
     let plant = cold_p();
-    let start = start_make(&plant, &file(&cold_chain())).expect("a start file");
+    let start = start_make(&plant, &file(&cold_chain()), 1).expect("a start file");
     for x in 150..=240 {
         let wanted = match x {
             195..=225 => Some(0),
@@ -477,7 +477,7 @@ fn the_smallest_box_answers() {
     }
     // R1 = R: table 0 answers in R; R2 = R3: table 2 answers outside it
     let chain = chain_fields(&[[(195, 225)], [(180, 225)], [(180, 225)]]);
-    let start = start_make(&plant, &file(&chain)).expect("a start file");
+    let start = start_make(&plant, &file(&chain), 1).expect("a start file");
     assert_eq!(start_check(&plant, &start), Ok(()));
     assert_eq!(idle(&plant, &start, 195), Ok((0, state(0, 4, 1))));
     assert_eq!(idle(&plant, &start, 194), Ok((1, state(2, 5, 1))));
@@ -529,7 +529,7 @@ fn an_index_that_cannot_be() {
 #[test]
 fn a_state_that_cannot_be_within_its_table() {
     let plant = cold_p();
-    let start = start_make(&plant, &file(&cold_chain())).expect("a start file");
+    let start = start_make(&plant, &file(&cold_chain()), 1).expect("a start file");
     // table 2 is 01 01 00 02 01 01 01 00, K 2, N 2; a reading outside S tells that 12 comes first
     let outside = [0; 4];
     for (place, left) in [
@@ -600,7 +600,7 @@ fn the_order_of_a_call() {
 #[test]
 fn a_call_reads_its_own_table_alone() {
     let plant = cold_p();
-    let start = start_make(&plant, &file(&cold_chain())).expect("a start file");
+    let start = start_make(&plant, &file(&cold_chain()), 1).expect("a start file");
     // lengths, header, and the tree up to the tile's last mode or the modes left there
     let calls: [(StartState, i64, &[usize]); 5] = [
         (StartState::IDLE, 160, &[10, 16, 26, 27, 28, 29, 30, 31, 32]),
@@ -638,7 +638,7 @@ fn without_boxes_the_answers_are_the_tables() {
         answer.map(|(mode, next)| (mode, state(0, next.place, next.left)))
     };
     for (plant, table) in [(P.to_vec(), &T1[..]), (p_prime(), &T5), (cold_p(), &T5)] {
-        let start = start_make(&plant, &[1, 0]).expect("a start file");
+        let start = start_make(&plant, &[1, 0], 1).expect("a start file");
         assert_eq!(start, [&[1, 0, table.len() as u8], table].concat());
         assert_eq!(start_check(&plant, &start), Ok(()));
         let mut numbers = [0; 16];
@@ -688,15 +688,15 @@ fn the_largest_start_file_of_short_modes() {
     fields.extend([4, -13, 0, 1, -3, 0].map(S));
     let plant = file(&fields);
     let chain = chain_fields(&[[(9000, 9063), (9000, 9063)]; MOST_BOXES]);
-    let start = start_make(&plant, &file(&chain)).expect("a start file");
+    let start = start_make(&plant, &file(&chain), 1).expect("a start file");
     assert_eq!(start.len(), 270_476);
     assert_eq!(start_check(&plant, &start), Ok(()));
     let mut table = vec![0; 30_039];
-    assert_eq!(make(&plant, &mut table), Ok(30_039));
+    assert_eq!(make(&plant, 1, &mut table), Ok(30_039));
     assert_eq!(start, file(&start_fields(&chain, &[&table[..]; MOST_BOXES + 1])));
     let mut buffer = marked(270_476);
-    assert_eq!(start_make_into(&plant, &file(&chain), &mut buffer), Ok(270_476));
-    assert_eq!(told(start_make_into(&plant, &file(&chain), &mut buffer[1..])), (10, 0, 0));
+    assert_eq!(start_make_into(&plant, &file(&chain), 1, &mut buffer), Ok(270_476));
+    assert_eq!(told(start_make_into(&plant, &file(&chain), 1, &mut buffer[1..])), (10, 0, 0));
     // the last mode of the last table
     let last = state(8, 30_038, 1);
     assert_eq!(start_control(&plant, &start, last, [9063; 4]), Ok((0, StartState::IDLE)));

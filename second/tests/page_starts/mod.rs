@@ -1,7 +1,7 @@
 //! Start files (request 2026-03) on the page: a small plant of one room and one of two, each with a chain and the file made of
 //! it; then these files are spoilt and buffers, states and readings drawn until each number has been told that can be.
 
-use super::{bytes, left, refused, verdict, wholes, Page};
+use super::{bytes, left, refused, verdict, wholes, Page, FORM};
 use crate::common::{chain_fields, file, marked, Field, Random, S, U};
 use second::refusal::Refusal;
 use second::start::{start_check, start_control, start_make, start_make_into, StartState};
@@ -37,8 +37,8 @@ fn check(plant: &[u8], start: &[u8]) -> Said {
 
 fn make(plant: &[u8], chain: &[u8], length: usize) -> Said {
     let mut buffer = marked(length);
-    let answer = start_make_into(plant, chain, &mut buffer);
-    let lent = format!("startLeft ({}) ({}) (lent {length})", bytes(plant), bytes(chain));
+    let answer = start_make_into(plant, chain, FORM, &mut buffer);
+    let lent = format!("startLeft ({}) ({}) {FORM} (lent {length})", bytes(plant), bytes(chain));
     Said { number: number(&answer), left: lent, right: left(&answer, &buffer) }
 }
 
@@ -125,7 +125,7 @@ fn drawn(random: &mut Random, n: usize, m: usize) -> Option<Cold> {
     }
     let plant = file(&small_plant(random, &r, &boxes[m + 1]));
     let chain = file(&chain_fields(&boxes[1..=m]));
-    let start = start_make(&plant, &chain).ok().filter(|start| (25..48).contains(&start.len()))?;
+    let start = start_make(&plant, &chain, FORM).ok().filter(|start| (25..48).contains(&start.len()))?;
     let mut corner = [0; 4];
     boxes[m].iter().zip(&mut corner).for_each(|(side, x)| *x = side.0);
     let (_, running) = start_control(&plant, &start, StartState::IDLE, corner).expect("an answer in Rm");

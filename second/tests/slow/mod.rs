@@ -86,6 +86,30 @@ pub fn slow_children(of: &Wide) -> Vec<Wide> {
     list
 }
 
+/// The two halves of the longest side, by counts, the first of the longest; the
+/// box alone where every side is one count.
+pub fn slow_halves(of: &Wide) -> Vec<Wide> {
+    let n = of.0.len();
+    let longest = (0..n).rev().max_by_key(|i| of.1[*i] - of.0[*i]).expect("a side");
+    let mut only = (vec![0; n], vec![0; n]);
+    (only.0[longest], only.1[longest]) = (of.0[longest], of.1[longest]);
+    let put = |half: &Wide| {
+        let mut child = of.clone();
+        (child.0[longest], child.1[longest]) = (half.0[longest], half.1[longest]);
+        child
+    };
+    slow_children(&only).iter().map(put).collect()
+}
+
+/// How a form of table splits a box, and how deep.
+pub fn slow_split(form: u64, of: &Wide) -> Vec<Wide> {
+    if form == 3 { slow_halves(of) } else { slow_children(of) }
+}
+
+pub fn slow_depth(form: u64, plant: &Plant) -> u64 {
+    if form == 3 { plant.n * plant.d } else { plant.d }
+}
+
 /// The box R.
 pub fn r_of(plant: &Plant) -> Wide {
     wide(&plant.edges.r_lo, &plant.edges.r_hi, plant.n as usize)
@@ -122,27 +146,32 @@ pub fn slow_pattern(plant: &Plant, goal: &Wide, of: &Wide) -> Option<Vec<u8>> {
     None
 }
 
-/// The tree of a box, None where there is no table.
-pub fn slow_tree(plant: &Plant, goal: &Wide, of: &Wide, depth: u64) -> Option<Vec<u8>> {
+/// The tree of a box in a form, None where there is no table.
+pub fn slow_tree(form: u64, plant: &Plant, goal: &Wide, of: &Wide, depth: u64) -> Option<Vec<u8>> {
     if let Some(pattern) = slow_pattern(plant, goal, of) {
         let modes = pattern.iter().flat_map(|mode| groups(u128::from(*mode)));
         return Some([pattern.len() as u8].into_iter().chain(modes).collect());
     }
-    let children = slow_children(of);
+    let children = slow_split(form, of);
     if depth == 0 || children.len() == 1 {
         return None;
     }
     let mut tree = vec![0];
     for child in children {
-        tree.extend(slow_tree(plant, goal, &child, depth - 1)?);
+        tree.extend(slow_tree(form, plant, goal, &child, depth - 1)?);
     }
     Some(tree)
 }
 
 /// The defined table that covers `root` with patterns that end in `goal`.
 pub fn slow_table(plant: &Plant, root: &Wide, goal: &Wide) -> Option<Vec<u8>> {
-    let tree = slow_tree(plant, goal, root, plant.d)?;
-    Some([&[1, plant.n as u8], &tree[..]].concat())
+    slow_table_in(1, plant, root, goal)
+}
+
+/// The same in a form.
+pub fn slow_table_in(form: u64, plant: &Plant, root: &Wide, goal: &Wide) -> Option<Vec<u8>> {
+    let tree = slow_tree(form, plant, goal, root, slow_depth(form, plant))?;
+    Some([&[form as u8, plant.n as u8], &tree[..]].concat())
 }
 
 /// A plant of numbers drawn around a small R, its coefficients still zeros.
@@ -313,49 +342,109 @@ pub fn slow_number(table: &[u8], place: usize) -> Option<(u64, usize)> {
     Some((value, place + length))
 }
 
-/// The checker as a list of boxes still to come: where the last tile ends, or
-/// the refusal.
-pub fn slow_verdict(plant: &Plant, root: &Wide, goal: &Wide, table: &[u8]) -> Result<usize, Told> {
-    let number = |place: usize| slow_number(table, place).ok_or((1, place as u64, 0));
-    let wrong = |place: usize| Err((6, place as u64, 0));
-    let (form, second) = number(0)?;
-    if form != 1 {
-        return Err((2, 0, 0));
-    }
-    let (n, mut at) = number(second)?;
-    if n != plant.n {
-        return wrong(second);
-    }
-    let mut to_come = vec![(root.clone(), plant.d)];
-    while let Some((here, depth)) = to_come.pop() {
+/// The same, 1 where it is broken.
+pub fn slow_number_or_1(table: &[u8], place: usize) -> Result<(u64, usize), Told> {
+    slow_number(table, place).ok_or((1, place as u64, 0))
+}
+
+/// A tile of a table: its place, the place behind its first mode, its modes, its
+/// box and how many splits lie above it.
+pub struct SlowTile {
+    pub place: usize,
+    pub second: usize,
+    pub pattern: Vec<u8>,
+    pub of: Wide,
+    pub depth: u64,
+}
+
+/// Reads a table by the list of boxes still to come and hands each tile to `with`,
+/// which may refuse it or say that it is the last one wanted: where that one ends.
+pub fn slow_walk(
+    plant: &Plant,
+    root: &Wide,
+    table: &[u8],
+    mut with: impl FnMut(SlowTile) -> Result<bool, Told>,
+) -> Result<usize, Told> {
+    let (form, mut at) = slow_header(plant, table)?;
+    let mut to_come = vec![(root.clone(), 0)];
+    while let Some((of, depth)) = to_come.pop() {
         let place = at;
         let node;
-        (node, at) = number(place)?;
+        (node, at) = slow_number_or_1(table, place)?;
         if node == 0 {
-            let children = slow_children(&here);
-            if depth == 0 || children.len() == 1 {
-                return wrong(place);
+            let children = slow_split(form, &of);
+            if depth == slow_depth(form, plant) || children.len() == 1 {
+                return Err((6, place as u64, 0));
             }
-            to_come.extend(children.into_iter().rev().map(|child| (child, depth - 1)));
+            to_come.extend(children.into_iter().rev().map(|child| (child, depth + 1)));
             continue;
         }
         if node > plant.k {
-            return wrong(place);
+            return Err((6, place as u64, 0));
         }
-        let mut pattern = vec![];
-        for _ in 0..node {
-            let (mode, next) = number(at)?;
-            if mode >= plant.modes {
-                return wrong(at);
-            }
-            pattern.push(mode as u8);
-            at = next;
-        }
-        if let Some((number, step)) = slow_tile(plant, goal, &here, &pattern) {
-            return Err((number.into(), place as u64, step));
+        let (pattern, ends) = slow_modes(plant, table, at, node)?;
+        at = ends[node as usize - 1];
+        if with(SlowTile { place, second: ends[0], pattern, of, depth })? {
+            break;
         }
     }
     Ok(at)
+}
+
+/// A table's form, and where its tree begins.
+fn slow_header(plant: &Plant, table: &[u8]) -> Result<(u64, usize), Told> {
+    let (form, place) = slow_number_or_1(table, 0)?;
+    if ![1, 3].contains(&form) {
+        return Err((2, 0, 0));
+    }
+    let (n, tree) = slow_number_or_1(table, place)?;
+    if n == plant.n { Ok((form, tree)) } else { Err((6, place as u64, 0)) }
+}
+
+/// So many modes from a place on, and where each of them ends.
+fn slow_modes(plant: &Plant, table: &[u8], mut at: usize, count: u64) -> Result<(Vec<u8>, Vec<usize>), Told> {
+    let (mut modes, mut ends) = (vec![], vec![]);
+    for _ in 0..count {
+        let (mode, next) = slow_number_or_1(table, at)?;
+        if mode >= plant.modes {
+            return Err((6, at as u64, 0));
+        }
+        modes.push(mode as u8);
+        ends.push(next);
+        at = next;
+    }
+    Ok((modes, ends))
+}
+
+/// The tiles of a sound table in file order.
+pub fn slow_tiles(plant: &Plant, root: &Wide, table: &[u8]) -> Vec<SlowTile> {
+    let mut tiles = vec![];
+    let walked = slow_walk(plant, root, table, |tile| {
+        tiles.push(tile);
+        Ok(false)
+    });
+    assert_eq!(walked, Ok(table.len()));
+    tiles
+}
+
+/// An idle call in R: mode, place and left, by the first tile that holds the reading.
+pub fn slow_idle(plant: &Plant, table: &[u8], reading: &[i64; 4]) -> Result<(u8, u64, u64), Told> {
+    let here = wide(reading, reading, plant.n as usize);
+    let mut answer = (0, 0, 0);
+    slow_walk(plant, &r_of(plant), table, |tile| {
+        let left = tile.pattern.len() as u64 - 1;
+        answer = (tile.pattern[0], if left == 0 { 0 } else { tile.second as u64 }, left);
+        Ok(inside(&here, &tile.of))
+    })?;
+    Ok(answer)
+}
+
+/// The checker's verdict: where the last tile ends, or the refusal.
+pub fn slow_verdict(plant: &Plant, root: &Wide, goal: &Wide, table: &[u8]) -> Result<usize, Told> {
+    slow_walk(plant, root, table, |tile| match slow_tile(plant, goal, &tile.of, &tile.pattern) {
+        Some((number, step)) => Err((number.into(), tile.place as u64, step)),
+        None => Ok(false),
+    })
 }
 
 /// What the checker tells of a plant's own table.
@@ -425,24 +514,64 @@ pub fn chain_bytes(chain: &[Wide]) -> Vec<u8> {
     file(&chain_fields(&chain.iter().map(sides).collect::<Vec<_>>()))
 }
 
-/// Made start files of chains that reach beyond R, with their plants: the
-/// plant, its bytes, the chain, the start file.
-pub fn made_starts(seed: u64, wanted: usize) -> Vec<(Plant, Vec<u8>, Vec<Wide>, Vec<u8>)> {
+/// A plant, its bytes, a chain that reaches beyond R, and a start file for both.
+pub type Drawn = (Plant, Vec<u8>, Vec<Wide>, Vec<u8>);
+
+/// Made start files, all their tables of form 1.
+pub fn made_starts(seed: u64, wanted: usize) -> Vec<Drawn> {
+    drawn_starts(seed, wanted, |_, bytes, chain, _| start_make(bytes, &chain_bytes(chain), 1).ok())
+}
+
+/// Start files with for each box a table of one form or the other, as it is drawn.
+pub fn mixed_starts(seed: u64, wanted: usize) -> Vec<Drawn> {
+    drawn_starts(seed, wanted, |plant, _, chain, random| {
+        let forms: Vec<u64> = (0..=chain.len()).map(|_| [1, 3][random.within(0, 1) as usize]).collect();
+        // With one form there is nothing mixed, and one room's trees are the same in both.
+        let mixed = plant.n > 1 && forms.contains(&1) && forms.contains(&3);
+        if mixed { slow_start(plant, chain, &forms).ok() } else { None }
+    })
+}
+
+/// Draws plants and chains until `start` has given so many start files.
+fn drawn_starts(
+    seed: u64,
+    wanted: usize,
+    start: impl Fn(&Plant, &[u8], &[Wide], &mut Random) -> Option<Vec<u8>>,
+) -> Vec<Drawn> {
     let mut random = Random(seed);
-    let mut made = vec![];
+    let mut drawn = vec![];
     for tried in 0.. {
-        if made.len() == wanted {
+        if drawn.len() == wanted {
             break;
         }
-        assert!(tried < 1_000 * wanted, "{} of {wanted} start files", made.len());
+        assert!(tried < 1_000 * wanted, "{} of {wanted} start files", drawn.len());
         let (plant, chain) = cold_plant(&mut random);
         let bytes = plant_bytes(&plant);
         if chain.last().is_none_or(|last| *last == r_of(&plant)) {
             continue;
         }
-        if let Ok(start) = start_make(&bytes, &chain_bytes(&chain)) {
-            made.push((plant, bytes, chain, start));
+        if let Some(start) = start(&plant, &bytes, &chain, &mut random) {
+            drawn.push((plant, bytes, chain, start));
         }
     }
-    made
+    drawn
+}
+
+/// Each of R0..Rm with the box that its patterns end in.
+pub fn tasks(plant: &Plant, chain: &[Wide]) -> Vec<(Wide, Wide)> {
+    let boxes = [&[r_of(plant)], chain].concat();
+    let goals = [&boxes[..1], &boxes].concat();
+    boxes.into_iter().zip(goals).collect()
+}
+
+/// The start file with a table of the form told for each of R0..Rm; else the
+/// first index without one.
+pub fn slow_start(plant: &Plant, chain: &[Wide], forms: &[u64]) -> Result<Vec<u8>, u64> {
+    let mut start = chain_bytes(chain);
+    for (index, (root, goal)) in tasks(plant, chain).iter().enumerate() {
+        let table = slow_table_in(forms[index], plant, root, goal).ok_or(index as u64)?;
+        start.extend(groups(table.len() as u128));
+        start.extend(table);
+    }
+    Ok(start)
 }
