@@ -4,6 +4,7 @@
 
 use crate::files::boxes::{self, Sides};
 use crate::files::chains::Inner;
+use crate::files::forms::{FORMS, TABLE_FORMS};
 use crate::files::houses::accepted;
 use crate::files::numbers::Reader;
 use crate::files::plants::Bounds;
@@ -19,10 +20,27 @@ pub fn plant(bytes: &[u8], refusal: Refusal) -> String {
     let cause = match refusal.number {
         4 => outside(&whole(Plant::read(bytes)).rooms, refusal),
         5 => narrow_in_plant(&whole(Plant::read(bytes)), refusal),
-        9 => no_table(),
         _ => standing(bytes, refusal, |file| Plant::follow(file).is_some()),
     };
     line(refusal, cause)
+}
+
+/// Why no table of a form was made of a plant that was accepted: 2 or 9.
+pub fn made(plant: &Plant, form: u64, refusal: Refusal) -> String {
+    match refusal.number {
+        9 => line(refusal, no_table(plant, form)),
+        _ => not_a_form(form),
+    }
+}
+
+/// Why no start file with tables of a form was made of a plant that was accepted and a chain.
+pub fn start_made(plant: &Plant, chain: &[u8], form: u64, refusal: Refusal) -> String {
+    match refusal.number {
+        9 => line(refusal, format!("{} has no table: {}", boxed(refusal.place), no_table(plant, form))),
+        // both are told at 0: the chain's own form comes first, and is right where its byte is 01
+        2 if chain.first() == Some(&1) => not_a_form(form),
+        _ => self::chain(plant, chain, refusal),
+    }
 }
 
 /// Why a sheet's file was refused.
@@ -54,7 +72,6 @@ pub fn table(plant: &Plant, bytes: &[u8], refusal: Refusal) -> String {
 /// Why a chain's file was refused for a plant that was accepted.
 pub fn chain(plant: &Plant, bytes: &[u8], refusal: Refusal) -> String {
     let cause = match refusal.number {
-        9 => format!("{} has no table: {}", boxed(refusal.place), no_table()),
         15 => not_a_chain(plant, &accepted(Chain::read(bytes, plant.rooms.len())), refusal),
         _ => standing(bytes, refusal, |file| Chain::follow(file, plant.rooms.len()).is_some()),
     };
@@ -139,8 +156,20 @@ fn narrow(name: &str, w: boxes::Side, q: u64) -> String {
     format!("{name} is {w}, which is {} wide, wanted at least q - 1 = {}", w.hi - w.lo, q - 1)
 }
 
-fn no_table() -> String {
-    "some box that can be split no further has no pattern that works; a larger longest pattern or depth, a wider R or S, or a narrower w may help".into()
+/// 9. Where boxes of more than one room may be split, the forms split them otherwise, and some plants have a table of one form alone; whether this is such
+/// a plant would take another search, so that it is not asked.
+fn no_table(plant: &Plant, form: u64) -> String {
+    let cause = "some box that can be split no further has no pattern that works; a larger longest pattern or depth, a wider R or S, or a narrower w may help";
+    let others: Vec<String> = FORMS.iter().map(|other| other.number()).filter(|&other| other != form).map(|other| format!("form {other}")).collect();
+    match plant.rooms.len() > 1 && plant.depth > 0 {
+        true => format!("{cause}, and so may {}: some plants have a table of one form alone", others.join(" or ")),
+        false => cause.into(),
+    }
+}
+
+/// 2 of a maker: the form that it was told.
+fn not_a_form(form: u64) -> String {
+    format!("2: the form asked for is {form}, wanted {TABLE_FORMS}")
 }
 
 /// 7 and 8: the images of a tile up to the step, of which the last is at fault.

@@ -6,7 +6,7 @@ use crate::drawings;
 use crate::drives;
 use crate::files::houses::accepted;
 use crate::files::tables::counted;
-use crate::files::{Chain, House, Plant, Start, Table};
+use crate::files::{Chain, Form, House, Plant, Sides, Start, Table};
 use crate::kinds::{self, As, Kind, NotOne, Reason, ALONE, FOR_A_HOUSE};
 use crate::library;
 use crate::papers;
@@ -20,15 +20,16 @@ pub const USAGE: &str = "\
 usage: hoachulim write TEXT FILE                    a sheet, plant or chain of its text
        hoachulim show [KIND] FILE [HOUSE]           the text of a file; a table, chain or start file needs its house, which is a sheet or a plant
        hoachulim sheet SHEET PLANT                  the plant of a sheet
-       hoachulim make PLANT TABLE                   the table of a plant
+       hoachulim make PLANT TABLE [FORM]            the table of a plant
        hoachulim check PLANT TABLE                  whether a table is safe for a plant
        hoachulim drive PLANT TABLE X..              the controller's answers to readings
        hoachulim drive PLANT TABLE any COUNT SEED   the same for a room that does what the plant allows
-       hoachulim make start PLANT CHAIN START, check start PLANT START, drive start PLANT START ..   the same with start files
-       hoachulim list < PLANT, list start PLANT START, check_table PLANT TABLE, check_table start PLANT START   the proved programs
+       hoachulim make start PLANT CHAIN START [FORM], check start PLANT START, drive start PLANT START ..   the same with start files
+       hoachulim list [FORM] < PLANT, list start PLANT START, check_table PLANT TABLE, check_table start PLANT START   the proved programs
        hoachulim picture [KIND] HOUSE FILE OUT.svg                 the tiles of a table, or the chain of a start file and a run home
        hoachulim picture-run [KIND] HOUSE FILE OUT.svg COUNT SEED  a run as a chart
        hoachulim release [KIND] HOUSE FILE OUT.html                the page of a release
+         FORM is 1, boxes split along all sides, as where none is said, or 3, along the longest alone;
          HOUSE is a sheet or a plant, FILE its table or start file, KIND `table` or `start` where it has to be said;
          `--degrees R` behind the words of a plant gives its counts a degree";
 
@@ -53,14 +54,24 @@ pub fn run(words: &[&str], out: &mut dyn Write) -> Ran {
         ["show", file, house] => show(None, file, Some(house), out),
         ["show", kind, file, house] if Kind::of(kind).is_some() => show(Kind::of(kind), file, Some(house), out),
         ["sheet", sheet, plant] => sheet_to_plant(sheet, plant, out),
-        ["make", plant, table] => make(plant, table, out),
+        ["make", "start", plant, chain, start, ref form @ ..] => start_make(plant, chain, start, form_of(form)?, out),
+        ["make", plant, table, ref form @ ..] => make(plant, table, form_of(form)?, out),
         ["check", plant, table] => check(Kind::Table, plant, table, out),
-        ["make", "start", plant, chain, start] => start_make(plant, chain, start, out),
         ["check", "start", plant, start] => check(Kind::Start, plant, start, out),
         ["drive", "start", plant, start, ref rest @ ..] if !rest.is_empty() => drives::drive(Kind::Start, plant, start, rest, out),
         ["drive", plant, table, ref rest @ ..] if !rest.is_empty() => drives::drive(Kind::Table, plant, table, rest, out),
         _ => Err(USAGE.into()),
     }
+}
+
+/// The form that is asked for, in digits, 1 where none is; whether there is such a form is the library's to say.
+fn form_of(words: &[&str]) -> Result<u64, String> {
+    let number = match *words {
+        [] => Some(Form::default().number()),
+        [word] if word.bytes().all(|byte| byte.is_ascii_digit()) => word.parse().ok(),
+        _ => None,
+    };
+    number.ok_or_else(|| USAGE.into())
 }
 
 /// A line on standard output. Who closed it wants no more, and is told nothing.
@@ -176,19 +187,21 @@ fn sheet_to_plant(sheet: &str, path: &str, out: &mut dyn Write) -> Ran {
     }
 }
 
-fn make(plant: &str, path: &str, out: &mut dyn Write) -> Ran {
+fn make(plant: &str, path: &str, form: u64, out: &mut dyn Write) -> Ran {
     let bytes = papers::read(plant)?;
-    let made = library::plant(&bytes).and_then(|()| {
-        let plant = accepted(Plant::read(&bytes));
-        progress::searching("making the table", &Search::of(&plant, &[]), || library::make(&bytes))
-    });
-    match made {
-        Err(refusal) => refused(out, refusal, &causes::plant(&bytes, refusal)),
-        Ok(made) => {
-            let table = accepted(Table::read(&made, &accepted(Plant::read(&bytes))));
-            done(out, path, &made, &summary(&table, made.len()))
-        }
+    if let Err(refusal) = library::plant(&bytes) {
+        return refused(out, refusal, &causes::plant(&bytes, refusal));
     }
+    let plant = accepted(Plant::read(&bytes));
+    match progress::searching("making the table", &search(&plant, &[], form), || library::make(&bytes, form)) {
+        Err(refusal) => refused(out, refusal, &causes::made(&plant, form, refusal)),
+        Ok(made) => done(out, path, &made, &summary(&accepted(Table::read(&made, &plant)), made.len())),
+    }
+}
+
+/// The search beside the library's; a form that is not known the library refuses before any search.
+fn search<'a>(plant: &'a Plant, chain: &[Sides], form: u64) -> Search<'a> {
+    Search::of(plant, chain, Form::of(form).unwrap_or_default())
 }
 
 /// A table, or a start file, for a plant.
@@ -207,24 +220,24 @@ fn check(kind: Kind, plant: &str, path: &str, out: &mut dyn Write) -> Ran {
     }
 }
 
-fn start_make(plant: &str, chain: &str, path: &str, out: &mut dyn Write) -> Ran {
+fn start_make(plant: &str, chain: &str, path: &str, form: u64, out: &mut dyn Write) -> Ran {
     let chain = papers::read(chain)?;
     let Some(house) = plant_at(plant, out)? else {
         return Ok(Outcome::Refused);
     };
     let sound = library::chain(&house.bytes, &chain).ok().and_then(|()| Chain::read(&chain, house.plant.rooms.len()));
-    let search = Search::of(&house.plant, &sound.map_or(Vec::new(), |chain| chain.boxes));
-    match progress::searching("making the tables", &search, || library::start_make(&house.bytes, &chain)) {
-        Err(refusal) => refused(out, refusal, &causes::chain(&house.plant, &chain, refusal)),
+    let search = search(&house.plant, &sound.map_or(Vec::new(), |chain| chain.boxes), form);
+    match progress::searching("making the tables", &search, || library::start_make(&house.bytes, &chain, form)) {
+        Err(refusal) => refused(out, refusal, &causes::start_made(&house.plant, &chain, form, refusal)),
         Ok(made) => done(out, path, &made, &start_summary(&accepted(Start::read(&made, &house.plant)), made.len())),
     }
 }
 
-/// Tables, tiles, and within how many samples a room is home from the largest box (request 2026-03).
+/// Tables, tiles, and within how many samples a room is home from the largest box (request 2026-03). All tables have one form, as they were made.
 fn start_summary(start: &Start, length: usize) -> String {
     let tiles: usize = start.tables.iter().map(|inner| inner.table.tiles.len()).sum();
     let samples: usize = start.tables[1..].iter().map(|inner| inner.table.longest()).sum();
     let [tables, tiles, samples, bytes] = [(start.tables.len(), "table"), (tiles, "tile"), (samples, "sample"), (length, "byte")]
         .map(|(count, word)| counted(count as u64, word));
-    format!("{tables}, {tiles}, home within {samples}, {bytes}")
+    format!("{}{tables}, {tiles}, home within {samples}, {bytes}", start.tables[0].table.form.words())
 }

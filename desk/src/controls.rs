@@ -1,7 +1,6 @@
 //! A control file: a table or a start file that the library accepted for a house. Which of them a file is, is found elsewhere (`kinds`).
 
 use crate::files::houses::accepted;
-use crate::files::tables::counted;
 use crate::files::{House, Sides, Start, Table};
 use crate::kinds::Kind;
 use crate::runs::Controller;
@@ -58,11 +57,5 @@ impl Control {
     /// Within how many samples a room is home that begins in box `index`: the longest patterns of tables 1..index, added up.
     pub fn home(&self, index: usize) -> usize {
         self.tables()[1..=index].iter().map(|table| table.longest()).sum()
-    }
-
-    /// Its size in words: tiles and longest pattern of R's own table.
-    pub fn words(&self) -> String {
-        let table = self.tables()[0];
-        format!("{}, longest pattern {}", counted(table.tiles.len() as u64, "tile"), table.longest())
     }
 }

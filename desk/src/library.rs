@@ -6,8 +6,8 @@ use crate::refusals::Refusal;
 
 /// The largest file of each kind, in bytes (docs/FORMATS.md, "Lengths").
 pub const LARGEST_PLANT: usize = 27_704;
-pub const LARGEST_TABLE: usize = 54_615;
-pub const LARGEST_START: usize = 491_660;
+pub const LARGEST_TABLE: usize = 57_345;
+pub const LARGEST_START: usize = 516_326;
 
 /// What a controller keeps from call to call; idle is zeros. `index` is 0 wherever a table alone is called.
 #[derive(Clone, Copy, Debug, Default, PartialEq, Eq)]
@@ -31,7 +31,7 @@ mod face {
         pub fn hoachulim_plant(plant: *const u8, plant_length: u64, out: *mut u64) -> u64;
         pub fn hoachulim_sheet(sheet: *const u8, sheet_length: u64, buffer: *mut u8, buffer_length: u64, out: *mut u64) -> u64;
         pub fn hoachulim_check(plant: *const u8, plant_length: u64, table: *const u8, table_length: u64, out: *mut u64) -> u64;
-        pub fn hoachulim_make(plant: *const u8, plant_length: u64, buffer: *mut u8, buffer_length: u64, out: *mut u64) -> u64;
+        pub fn hoachulim_make(plant: *const u8, plant_length: u64, form: u64, buffer: *mut u8, buffer_length: u64, out: *mut u64) -> u64;
         pub fn hoachulim_control(
             plant: *const u8,
             plant_length: u64,
@@ -50,6 +50,7 @@ mod face {
             plant_length: u64,
             chain: *const u8,
             chain_length: u64,
+            form: u64,
             buffer: *mut u8,
             buffer_length: u64,
             out: *mut u64,
@@ -107,10 +108,10 @@ pub fn sheet(sheet: &[u8]) -> Result<Vec<u8>, Refusal> {
     })
 }
 
-/// The table's file of a plant's.
-pub fn make(plant: &[u8]) -> Result<Vec<u8>, Refusal> {
+/// The table's file of a plant's, of the form with this number; whether there is such a form is the library's to say.
+pub fn make(plant: &[u8], form: u64) -> Result<Vec<u8>, Refusal> {
     made(LARGEST_TABLE, |buffer, out| unsafe {
-        face::hoachulim_make(plant.as_ptr(), plant.len() as u64, buffer.as_mut_ptr(), buffer.len() as u64, out.as_mut_ptr())
+        face::hoachulim_make(plant.as_ptr(), plant.len() as u64, form, buffer.as_mut_ptr(), buffer.len() as u64, out.as_mut_ptr())
     })
 }
 
@@ -156,14 +157,15 @@ pub fn chain(plant: &[u8], chain: &[u8]) -> Result<(), Refusal> {
     }
 }
 
-/// The start file of a plant's file and a chain's.
-pub fn start_make(plant: &[u8], chain: &[u8]) -> Result<Vec<u8>, Refusal> {
+/// The start file of a plant's file and a chain's, all its tables of one form.
+pub fn start_make(plant: &[u8], chain: &[u8], form: u64) -> Result<Vec<u8>, Refusal> {
     made(LARGEST_START, |buffer, out| unsafe {
         face::hoachulim_start_make(
             plant.as_ptr(),
             plant.len() as u64,
             chain.as_ptr(),
             chain.len() as u64,
+            form,
             buffer.as_mut_ptr(),
             buffer.len() as u64,
             out.as_mut_ptr(),

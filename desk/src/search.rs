@@ -2,13 +2,13 @@
 //! maker is one call and tells nothing on its way. This one goes the same way (document 01, "The defined table") at its own pace, so that it says about how
 //! far the work is, and nothing but words comes of it.
 
-use crate::files::boxes::{self, Side, Sides};
-use crate::files::Plant;
+use crate::files::{Form, Plant, Side, Sides};
 use crate::images::image;
 use std::sync::atomic::{AtomicBool, AtomicU64, Ordering::Relaxed};
 
 pub struct Search<'a> {
     plant: &'a Plant,
+    form: Form,
     s: Sides,
     /// Each box that gets a table, with the box that its patterns end in.
     roots: Vec<(Sides, Sides)>,
@@ -18,17 +18,17 @@ pub struct Search<'a> {
 }
 
 impl<'a> Search<'a> {
-    /// For R, and for each box of a chain around it.
-    pub fn of(plant: &'a Plant, chain: &[Sides]) -> Search<'a> {
+    /// For tables of a form, of R and of each box of a chain around it.
+    pub fn of(plant: &'a Plant, chain: &[Sides], form: Form) -> Search<'a> {
         let boxes = [&[plant.r()], chain].concat();
         let below = [&[plant.r()], &boxes[..chain.len()]].concat();
         let roots = boxes.into_iter().zip(below).collect();
-        Search { plant, s: plant.s(), roots, done: AtomicU64::new(0), length: AtomicU64::new(1), stopped: AtomicBool::new(false) }
+        Search { plant, form, s: plant.s(), roots, done: AtomicU64::new(0), length: AtomicU64::new(1), stopped: AtomicBool::new(false) }
     }
 
     /// To the end, or until it is stopped: whether every box has a table.
     pub fn run(&self) -> bool {
-        self.roots.iter().all(|(root, goal)| self.tree(root, goal, self.plant.depth))
+        self.roots.iter().all(|(root, goal)| self.tree(root, goal, self.form.depth(self.plant)))
     }
 
     pub fn stop(&self) {
@@ -46,8 +46,8 @@ impl<'a> Search<'a> {
 
     /// The boxes of a full division.
     fn most(&self) -> u64 {
-        let children = 1_u64 << self.plant.rooms.len();
-        self.roots.len() as u64 * (0..=self.plant.depth as u32).map(|depth| children.pow(depth)).sum::<u64>()
+        let (children, depth) = (self.form.children(self.plant.rooms.len()), self.form.depth(self.plant));
+        self.roots.len() as u64 * (0..=depth as u32).map(|depth| children.pow(depth)).sum::<u64>()
     }
 
     /// Whether a box with so much depth left has a table.
@@ -57,7 +57,7 @@ impl<'a> Search<'a> {
             self.leads(here, goal, length)
         });
         self.done.fetch_add(1, Relaxed);
-        let children = if works || depth == 0 { Vec::new() } else { boxes::split(here) };
+        let children = if works || depth == 0 { Vec::new() } else { self.form.split(here) };
         works || !children.is_empty() && children.iter().all(|child| self.tree(child, goal, depth - 1))
     }
 

@@ -8,10 +8,11 @@ use hoachulim::files::{House, Plant};
 use hoachulim::library::{self, State};
 use hoachulim::refusals::Refusal;
 use side::common::{file, in_form_2, line_13, p_fields, p_prime, two_room_sheet, two_rooms, with, Field, F, P, S, T1, T5, U};
-use side::inputs::{any_tree, damaged, made_table, other_forms, other_table, plant_fields, random, rounds, sheet_fields, spoiled};
+use side::inputs::{damaged, other_forms, plant_fields, random, rounds, sheet_fields, spoiled};
+use side::tables::{any_form, any_tree, made_tables, other_table, FORMS, NO_FORMS};
 
 fn of_plant(plant: &[u8]) -> String {
-    causes::plant(plant, library::make(plant).unwrap_err())
+    causes::plant(plant, library::plant(plant).unwrap_err())
 }
 
 fn of_p(index: usize, field: Field) -> String {
@@ -34,7 +35,30 @@ fn causes_of_plants() {
     assert_eq!(of_plant(&[&P[..], &[0, 0]].concat()), "3 at byte 22: 2 bytes left over behind the last number");
     assert_eq!(of_p(8, S(196)), "4 in room 1: R is 195 .. 225, S is 196 .. 230");
     assert_eq!(of_p(11, S(3)), "5 in room 1: w is -5 .. 3, which is 8 wide, wanted at least q - 1 = 9");
-    assert!(of_p(5, U(0)).starts_with("9: some box that can be split no further has no pattern that works"));
+}
+
+fn of_maker(plant: &[u8], form: u64) -> String {
+    causes::made(&Plant::read(plant).unwrap(), form, library::make(plant, form).unwrap_err())
+}
+
+const NO_TABLE: &str = "9: some box that can be split no further has no pattern that works; \
+                        a larger longest pattern or depth, a wider R or S, or a narrower w may help";
+
+#[test]
+fn causes_of_makers() {
+    // P without a split, and P without heat: with nothing to split or in one room alone the forms have the same tables
+    for plant in [with(&p_fields(), 5, U(0)), with(&p_fields(), 15, S(100))].map(|fields| file(&fields)) {
+        assert_eq!(FORMS.map(|form| of_maker(&plant, form)), [NO_TABLE; 2]);
+        NO_FORMS.iter().for_each(|&form| assert_eq!(of_maker(&plant, form), format!("2: the form asked for is {form}, wanted 1 or 3")));
+    }
+    // the gallery split twice has a table of form 3 alone, split once none
+    let mut gallery = Plant::read(&sample("gallery.plant")).unwrap();
+    let says_other = |other| format!("{NO_TABLE}, and so may form {other}: some plants have a table of one form alone");
+    gallery.depth = 2;
+    assert_eq!(of_maker(&gallery.write(), 1), says_other(3));
+    assert!(library::make(&gallery.write(), 3).is_ok());
+    gallery.depth = 1;
+    assert_eq!(of_maker(&gallery.write(), 3), says_other(1));
 }
 
 /// P with S 190..230 and two rooms in form 2: bands of a mode named by it.
@@ -93,10 +117,33 @@ fn causes_of_tables() {
     assert_eq!(of_table(&one_count, &[1, 1, 0]), "6 at byte 2: box 200 .. 200 is split, and no side of it has more than one count");
     assert_eq!(of_table(&P, &[&T1[..], &[0]].concat()), "6 at byte 7: 1 byte left over behind the last number");
     assert_eq!(of_table(&P, &[1, 1, 0, 1]), "1 at byte 4: a mode of tile 195 .. 210 ends early");
-    assert_eq!(of_table(&P, &[2]), "2 at byte 0: the form is 2, wanted 1");
+    assert_eq!(of_table(&P, &[2]), "2 at byte 0: the form is 2, wanted 1 or 3");
     assert_eq!(of_table(&P, &[1, 1, 1, 1]), "7 at byte 2, step 1: tile 195 .. 225 with modes 1: room 1 comes to 205 .. 232, S is 190 .. 230");
     assert_eq!(of_table(&p_prime(), &[1, 1, 1, 1]), "8 at byte 2, step 1: tile 195 .. 225 with modes 1: room 1 comes to 205 .. 232, R is 195 .. 225");
     assert_eq!(of_table(&P, &T5), "7 at byte 2, step 1: tile 195 .. 225 with modes 0 1: room 1 comes to 185 .. 212, S is 190 .. 230");
+}
+
+/// Of form 3: depth counts halvings, and the boxes are those of its own split.
+#[test]
+fn causes_of_halved_tables() {
+    let one_count = file(&with(&with(&p_fields(), 6, S(200)), 7, S(200)));
+    assert_eq!(of_table(&one_count, &[3, 1, 0]), "6 at byte 2: box 200 .. 200 is split, and no side of it has more than one count");
+    assert_eq!(of_table(&P, &[3, 1, 0, 0]), "6 at byte 3: box 195 .. 210 is split at depth 1, n·D is 1");
+    assert_eq!(of_table(&P, &[3, 2]), "6 at byte 1: the table is for 2 rooms, the plant has 1");
+    let gallery = sample("gallery.plant");
+    let table = library::make(&gallery, 3).unwrap();
+    let halvings = |count: usize| [vec![3, 2], vec![0; count], vec![1]].concat();
+    assert_eq!(of_table(&gallery, &halvings(8)), "1 at byte 11: a mode of tile 1400 .. 1437 by 2300 .. 2320 ends early");
+    assert_eq!(of_table(&gallery, &halvings(9)), "6 at byte 10: box 1400 .. 1437 by 2300 .. 2320 is split at depth 8, n·D is 8");
+    let in_form_1 = [&[1], &halvings(5)[1..]].concat();
+    assert_eq!(of_table(&gallery, &in_form_1), "6 at byte 6: box 1400 .. 1475 by 2300 .. 2310 is split at depth 4, D is 4");
+    assert_eq!(of_table(&gallery, &[&table[..], &[0]].concat()), "6 at byte 44: 1 byte left over behind the last number");
+    let mut cold = table.clone();
+    cold[16] = 0;
+    assert_eq!(
+        of_table(&gallery, &cold),
+        "7 at byte 15, step 1: tile 1701 .. 1850 by 2300 .. 2460 with modes 0: room 2 comes to 2106 .. 2264, S is 2210 .. 2550"
+    );
 }
 
 #[test]
@@ -149,8 +196,9 @@ fn whatever_table_is_refused_has_a_cause() {
             }
         };
         (0..20).for_each(|_| judged(&any_tree(&mut random, n)));
-        let other = other_table(&mut random, &second::plant::read_plant(&house.bytes).unwrap());
-        for table in made_table(&house.bytes).into_iter().chain(other).filter(|table| table.len() < 500) {
+        let form = any_form(&mut random);
+        let other = other_table(&mut random, &second::plant::read_plant(&house.bytes).unwrap(), form);
+        for table in made_tables(&house.bytes).into_iter().chain(other).filter(|table| table.len() < 500) {
             damaged(&mut random, &table, judged);
         }
     }

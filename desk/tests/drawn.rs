@@ -21,7 +21,7 @@ fn house(name: &str) -> Folder {
     let folder = Folder::new(name);
     let sheet = sample("house.sheet");
     let plant = kinds::house(&sheet).unwrap().bytes;
-    folder.put("house.table", library::make(&plant).unwrap());
+    folder.put("house.table", library::make(&plant, 1).unwrap());
     folder.put("house.sheet", sheet);
     folder.put("house.plant", plant);
     folder.put("bad.table", [1, 2, 1, 0]);
@@ -31,14 +31,24 @@ fn house(name: &str) -> Folder {
 #[test]
 fn the_samples_are_drawn() {
     let folder = house("drawn");
-    folder.put("nursery.txt", sample("nursery.txt"));
-    let calls: [(&[&str], &str); 6] = [
+    for text in ["nursery.txt", "gallery.txt"] {
+        folder.put(text, sample(text));
+    }
+    let calls: [(&[&str], &str); 14] = [
         (&["write", "nursery.txt", "nursery.sheet"], "done: a sheet of 117 bytes\n"),
         (&["sheet", "nursery.sheet", "nursery.plant"], "done: 2 rooms, 4 modes, 103 bytes\n"),
         (&["make", "nursery.plant", "nursery.table"], "done: 13 tiles, longest pattern 3, 44 bytes\n"),
         (&["picture", "nursery.sheet", "nursery.table", "nursery.svg"], "done: a picture of "),
         (&["picture", "house.sheet", "house.table", "house.svg"], "done: a picture of "),
         (&["release", "house.sheet", "house.table", "house.html"], "done: a release page of "),
+        (&["write", "gallery.txt", "gallery.sheet"], "done: a sheet of 117 bytes\n"),
+        (&["sheet", "gallery.sheet", "gallery.plant"], "done: 2 rooms, 4 modes, 99 bytes\n"),
+        (&["make", "gallery.plant", "gallery.table", "3"], "done: form 3, 9 tiles, longest pattern 4, 44 bytes\n"),
+        (&["make", "gallery.plant", "gallery-1.table"], "done: 55 tiles, longest pattern 4, 183 bytes\n"),
+        (&["picture", "gallery.sheet", "gallery.table", "gallery.svg"], "done: a picture of "),
+        (&["picture", "gallery.sheet", "gallery-1.table", "gallery-1.svg"], "done: a picture of "),
+        (&["picture-run", "gallery.sheet", "gallery.table", "gallery-run.svg", "40", "1"], "done: a picture of "),
+        (&["release", "gallery.sheet", "gallery.table", "gallery.html"], "done: a release page of "),
     ];
     for (words, done) in calls {
         let (status, told) = told(&hoachulim(&folder, words));
@@ -46,7 +56,7 @@ fn the_samples_are_drawn() {
     }
     let readme = String::from_utf8(sample("../README.md")).unwrap();
     assert!(readme.contains(&format!("done: a release page of {} bytes\n", sample("house.html").len())), "README has what ./house prints");
-    for name in ["nursery.svg", "house.svg", "house.html"] {
+    for name in ["nursery.svg", "house.svg", "house.html", "gallery.plant", "gallery.svg", "gallery-1.svg"] {
         let drawn = std::fs::read(folder.path(name)).unwrap();
         assert!(drawn == sample(name), "samples/{name} is not what is drawn: tools/drawn draws it anew");
     }

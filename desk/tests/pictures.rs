@@ -6,7 +6,7 @@ use common::xml::{self, Element};
 use common::{sample, shapes, within_a_second};
 use hoachulim::controls::Control;
 use hoachulim::courses::course;
-use hoachulim::files::{House, Side, Table};
+use hoachulim::files::{Form, House, Side, Table};
 use hoachulim::kinds;
 use hoachulim::library;
 use hoachulim::pictures::{chain, tiles, Chart};
@@ -83,7 +83,9 @@ fn tiles_are_the_table_s(svg: &Element, house: &House, table: &Table) {
     assert!(boxes.iter().zip(frames).all(|(r, frame)| within(edges(r), edges(frame))));
     let size = |rect: &&Element| rect.number("width") * rect.number("height");
     let (whole, parts): (f64, f64) = (boxes.iter().map(size).sum(), drawn.iter().map(size).sum());
-    assert!((whole - parts).abs() < whole * 0.01 + 0.5, "tiles cover {parts} of {whole}");
+    // thousands of slivers are each rounded to a hundredth of a pixel
+    let rounded: f64 = drawn.iter().map(|rect| 0.005 * (rect.number("width") + rect.number("height"))).sum();
+    assert!((whole - parts).abs() < (whole * 0.01 + 0.5).max(rounded), "tiles cover {parts} of {whole}");
     if house.plant.rooms.len() <= 2 {
         assert_eq!(drawn.len(), table.tiles.len());
     }
@@ -116,7 +118,7 @@ fn the_largest_tables_are_short_and_quick() {
         let table = table_of(&house, &bytes);
         assert_eq!(table.tiles.len(), 4_096);
         let picture = within_a_second(|| tiles::picture(&house, &table, Units::of(Some(1_000))));
-        let most = if house.plant.modes.len() > 16 { 1_400_000 } else { 700_000 };
+        let most = if house.plant.modes.len() > 16 { 1_500_000 } else { 700_000 };
         assert!(picture.len() < most, "{} bytes", picture.len());
         let svg = xml::read(&picture);
         tiles_are_the_table_s(&svg, &house, &table);
@@ -128,7 +130,7 @@ fn the_largest_tables_are_short_and_quick() {
 #[test]
 fn the_house_in_degrees_and_counts() {
     let house = kinds::house(&sample("house.sheet")).unwrap();
-    let table = table_of(&house, &library::make(&house.bytes).unwrap());
+    let table = table_of(&house, &library::make(&house.bytes, 1).unwrap());
     let svg = xml::read(&tiles::picture(&house, &table, Units::of(Some(100))));
     let labels: Vec<String> = svg.classed("label").iter().map(|label| label.text()).collect();
     for wanted in ["19.00", "20.00", "22.00", "23.00", "1900", "2000", "2200", "2300", "room 1, degrees", "room 2, degrees"] {
@@ -136,6 +138,37 @@ fn the_house_in_degrees_and_counts() {
     }
     let patterns: Vec<String> = svg.classed("pattern").iter().map(|pattern| pattern.text()).collect();
     assert_eq!(patterns, table.tiles.iter().map(tiles::modes_words).collect::<Vec<_>>());
+}
+
+#[test]
+fn the_gallery_says_its_form() {
+    let house = House::of(sample("gallery.plant"), None);
+    let heading = |form| {
+        let table = table_of(&house, &library::make(&house.bytes, form).unwrap());
+        let svg = xml::read(&tiles::picture(&house, &table, Units::of(Some(100))));
+        (svg.classed("heading")[0].text(), svg.classed("pattern").len())
+    };
+    assert_eq!(heading(3), ("2 rooms, form 3, 9 tiles, longest pattern 4".into(), 9));
+    assert_eq!(heading(1).0, "2 rooms, 55 tiles, longest pattern 4");
+}
+
+/// Four rooms of which the last is cut into 512, the one before into eight: in form 3 one map with these across and up. In form 1 it is always rooms 1 and 2.
+#[test]
+fn rooms_that_are_cut_most_are_on_the_map() {
+    let rooms = shapes::lengthening(4, 8);
+    let house = shapes::steady_in(rooms, 1, 1, 3);
+    let drawn = |form| {
+        let table = table_of(&house, &shapes::table(&mut shapes::Random(1), &house, form, 4));
+        let svg = xml::read(&tiles::picture(&house, &table, Units::of(None)));
+        let words = svg.classed("label").iter().map(|label| label.text()).find(|label| label.starts_with("across")).unwrap();
+        let tiles = svg.classed("tile");
+        let place = |tile: &&&Element| table.tiles[tile.number("data-tile") as usize].sides[3].lo;
+        let rightmost = tiles.iter().max_by(|one, other| one.number("x").total_cmp(&other.number("x"))).unwrap();
+        (words, svg.classed("frame").len(), tiles.iter().map(|tile| place(&tile)).max() == Some(place(&rightmost)))
+    };
+    assert_eq!(drawn(Form::Three), ("across each panel room 4, up each panel room 3".into(), 1, true));
+    let (words, panels, _) = drawn(Form::One);
+    assert_eq!((words.as_str(), panels), ("across each panel room 1, up each panel room 2", 64));
 }
 
 /// A run of so many samples of a house that has a table.
@@ -149,7 +182,7 @@ fn run_of(house: &House, bytes: &[u8], count: usize) -> Vec<hoachulim::courses::
 fn a_run_has_its_readings_and_modes() {
     for name in ["house.sheet", "P.plant"] {
         let house = kinds::house(&sample(name)).unwrap();
-        let bytes = library::make(&house.bytes).unwrap();
+        let bytes = library::make(&house.bytes, 1).unwrap();
         let control = Control::table(&house, &bytes);
         for count in [1, 2, 40, 121, 2_000] {
             let samples = run_of(&house, &bytes, count);

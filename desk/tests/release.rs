@@ -7,15 +7,17 @@ use common::{sample, shapes, within_a_second};
 use hoachulim::causes;
 use hoachulim::files::numbers::Writer;
 use hoachulim::files::plants::{Bounds, Row};
-use hoachulim::files::{Chain, House, Plant, Side, Table};
+use hoachulim::files::{Chain, House, Plant, Side, Start, Table};
 use hoachulim::judged::{Judged, Not};
 use hoachulim::kinds::{self, Kind};
 use hoachulim::library;
 use hoachulim::release::{self, File, Files};
 use hoachulim::sha256;
+use hoachulim::text;
 use second::start_listing::start_listing;
 use side::common::file;
 use side::inputs::{plant_fields, random, rounds};
+use side::tables::any_form;
 
 fn files<'a>(house: &'a [u8], control: &'a [u8]) -> Files<'a> {
     Files { house: File { name: "a.house", bytes: house }, control: File { name: "a.table", bytes: control } }
@@ -82,7 +84,7 @@ fn sums_are_told(text: &str, files: &[&[u8]]) {
 fn the_house_in_plain_words() {
     let sheet = sample("house.sheet");
     let house = kinds::house(&sheet).unwrap();
-    let bytes = library::make(&house.bytes).unwrap();
+    let bytes = library::make(&house.bytes, 1).unwrap();
     let table = Table::read(&bytes, &house.plant).unwrap();
     let (page, accepted) = page(&sheet, &bytes);
     let text = read(&page);
@@ -101,11 +103,29 @@ fn the_house_in_plain_words() {
     assert_eq!(page.classed("picture").len(), 2);
 }
 
+/// The gallery's table of form 3 says so; one of form 1 says nothing of forms.
+#[test]
+fn a_page_says_the_form() {
+    let sheet = text::read(&sample("gallery.txt")).unwrap().write();
+    let house = kinds::house(&sheet).unwrap();
+    for (form, words) in [(1, "the modes; behind them the tile in degrees. 55 tiles, longest pattern 4."), (3, "form 3, 9 tiles, longest pattern 4.")] {
+        let bytes = library::make(&house.bytes, form).unwrap();
+        let (page, accepted) = page(&sheet, &bytes);
+        let text = read(&page);
+        assert!(accepted);
+        says(&text, words);
+        says(&text, "room 2 is never read below 22.10 or above 25.50 degrees.");
+        says(&text, "all rooms are back in R within 4 samples, which is 20 minutes");
+        assert_eq!(tiles(&page), second::listing::listing(&house.bytes, form).lines().skip(1).collect::<Vec<_>>());
+        assert_eq!(text.contains("form 3"), form == 3);
+    }
+}
+
 /// The fan's room: the modeller answers for the band of each mode.
 #[test]
 fn a_band_for_each_mode_in_plain_words() {
     let plant = sample("fan.plant");
-    let bytes = library::make(&plant).unwrap();
+    let bytes = library::make(&plant, 1).unwrap();
     let (of_fan, accepted) = page(&plant, &bytes);
     assert!(accepted);
     says(&read(&of_fan), "by no more than the band of the mode applied: in mode 0 room 1 by −0.5 to 0.4 counts; in mode 1 room 1 by −6 to 5.9 counts;");
@@ -122,7 +142,7 @@ fn bands_of_many_modes_in_plain_words() {
     house.plant.modes[128..].iter_mut().for_each(|mode| mode[0].w = Side { lo: -20, hi: 19 });
     house.plant.modes[255][0].w = Side { lo: -10, hi: 9 };
     let plant = house.plant.write();
-    let (of_valves, accepted) = page(&plant, &library::make(&plant).unwrap());
+    let (of_valves, accepted) = page(&plant, &library::make(&plant, 1).unwrap());
     assert!(accepted);
     let bands = "in modes 0 to 127 room 1 by −0.5 to 0.45 counts; in modes 128 to 254 room 1 by −1 to 0.95 counts; in mode 255 room 1 by −0.5 to 0.45 counts;";
     says(&read(&of_valves), &format!("the band of the mode applied: {bands}"));
@@ -135,8 +155,9 @@ fn page_and_picture_are_the_listing_s() {
     let mut made = 0;
     for _ in 0..rounds(200) {
         let plant = file(&plant_fields(&mut random));
-        let Ok(bytes) = library::make(&plant) else { continue };
-        let listing = second::listing::listing(&plant);
+        let form = any_form(&mut random);
+        let Ok(bytes) = library::make(&plant, form) else { continue };
+        let listing = second::listing::listing(&plant, form);
         let (header, lines) = listing.split_once('\n').unwrap();
         let [_, count, longest] = header.strip_prefix("table ").unwrap().split(' ').map(|number| number.parse().unwrap()).collect::<Vec<usize>>()[..] else {
             panic!("{header}");
@@ -159,6 +180,7 @@ fn a_page_s_numbers_are_its_table_s() {
         let (page, accepted) = page(&house.bytes, &bytes);
         let (text, table) = (read(&page), Table::read(&bytes, &house.plant).unwrap());
         assert!(accepted && library::check(&house.bytes, &bytes).is_ok());
+        says(&text, &table.words());
         says(&text, &format!("{} tile", table.tiles.len()));
         says(&text, &format!("longest pattern {}", table.longest()));
         says(&text, &format!("back in R within {} sample", table.longest()));
@@ -218,7 +240,7 @@ fn a_refused_house_s_page_promises_nothing() {
 #[test]
 fn a_page_needs_nothing_else() {
     let sheet = sample("house.sheet");
-    let bytes = library::make(&kinds::house(&sheet).unwrap().bytes).unwrap();
+    let bytes = library::make(&kinds::house(&sheet).unwrap().bytes, 1).unwrap();
     let files = Files { house: File { name: "<&\">.sheet", bytes: &sheet }, control: File { name: "a\u{1}'b</title>.table", bytes: &bytes } };
     let Ok(judged) = Judged::read(files, None, None) else { panic!("the house has a table") };
     let text = judged.page().unwrap();
@@ -268,6 +290,19 @@ fn a_start_file_s_page_tells_of_arrival() {
     says(&text, "Room 1 is never read below 10.0 or above 30.0 degrees.");
     let listing = start_listing(&house.bytes, &bytes);
     assert_eq!(tiles(&page), listing.lines().filter(|line| !line.starts_with("box")).collect::<Vec<_>>());
+    says(&text, "R1: 4 tiles, longest pattern 2 ");
+}
+
+/// In one room both forms have the same tree: the same page, but that the table of R1 says its form.
+#[test]
+fn a_start_file_s_page_says_the_form_of_each_table() {
+    let (house, mut bytes) = far();
+    let place = Start::read(&bytes, &house.plant).unwrap().tables[1].place;
+    let words = |bytes: &[u8]| read(&xml::read(&judged(files(&house.bytes, bytes), Some(Kind::Start), 10).page().unwrap()));
+    let before = words(&bytes).replace(&sha256::sum(&bytes), "");
+    bytes[place] = 3;
+    assert_eq!(words(&bytes).replace(&sha256::sum(&bytes), ""), before.replace("R1: 4 tiles", "R1: form 3, 4 tiles"));
+    assert!(before.contains("R1: 4 tiles"));
 }
 
 #[test]
@@ -279,19 +314,23 @@ fn the_run_of_a_start_file_is_home_last_from_its_first_reading() {
     assert!(home > 0 && home <= 5 && samples[home..].iter().all(|sample| sample.idle && (195..=225).contains(&sample.reading[0])));
 }
 
-/// Nine tables of 4,096 tiles, which is the largest start file.
+/// Nine tables of 4,096 tiles, which is the largest start file, in either form.
 #[test]
-fn the_largest_start_file_s_page_is_quick() {
-    let (house, table) = shapes::largest().swap_remove(0);
-    let mut bytes = Chain { boxes: vec![house.plant.r(); 8] }.write();
-    for _ in 0..9 {
-        let mut length = Writer::default();
-        length.number(table.len() as u64);
-        bytes.extend([length.0, table.clone()].concat());
+fn the_largest_start_files_pages_are_quick() {
+    let of_two_rooms = shapes::largest().into_iter().step_by(6).take(2);
+    for (house, table) in of_two_rooms {
+        let mut bytes = Chain { boxes: vec![house.plant.r(); 8] }.write();
+        for _ in 0..9 {
+            let mut length = Writer::default();
+            length.number(table.len() as u64);
+            bytes.extend([length.0, table.clone()].concat());
+        }
+        let text = within_a_second(|| judged(files(&house.bytes, &bytes), Some(Kind::Start), 1_000).page().unwrap());
+        assert!(text.len() < 5_000_000, "{} bytes", text.len());
+        let page = xml::read(&text);
+        assert_eq!(tiles(&page).len(), 9 * 4_096);
+        assert_eq!(read(&page).contains("R8: form 3, 4096 tiles"), table[0] == 3);
+        let picture = within_a_second(|| judged(files(&house.bytes, &bytes), Some(Kind::Start), 1_000).picture().unwrap());
+        xml::read(&picture);
     }
-    let text = within_a_second(|| judged(files(&house.bytes, &bytes), Some(Kind::Start), 1_000).page().unwrap());
-    assert!(text.len() < 5_000_000, "{} bytes", text.len());
-    assert_eq!(tiles(&xml::read(&text)).len(), 9 * 4_096);
-    let picture = within_a_second(|| judged(files(&house.bytes, &bytes), Some(Kind::Start), 1_000).picture().unwrap());
-    xml::read(&picture);
 }

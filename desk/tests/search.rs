@@ -4,7 +4,8 @@ mod common;
 
 use common::sample;
 use hoachulim::files::numbers::Reader;
-use hoachulim::files::{Chain, House};
+use hoachulim::files::forms::FORMS;
+use hoachulim::files::{Chain, Form, House};
 use hoachulim::library;
 use hoachulim::search::Search;
 use side::common::{cold_chain, cold_p, file, in_form_2, p_fields, with, U};
@@ -24,28 +25,46 @@ fn boxes(table: &[u8]) -> u64 {
 
 #[test]
 fn it_goes_the_library_s_way() {
-    let (mut random, mut without, mut split) = (random(50), 0, 0);
-    let mut plants = vec![sample("house.plant"), sample("fan.plant"), sample("valves.plant"), file(&p_fields()), file(&in_form_2(&p_fields()))];
+    let mut random = random(50);
+    let mut plants: Vec<_> = ["house.plant", "fan.plant", "valves.plant", "gallery.plant"].map(sample).into();
+    plants.extend([file(&p_fields()), file(&in_form_2(&p_fields()))]);
     plants.extend((0..rounds(4_000)).map(|_| file(&plant_fields(&mut random))));
-    for bytes in plants {
-        let house = House::of(bytes, None);
-        let search = Search::of(&house.plant, &[]);
-        match (library::make(&house.bytes), search.run()) {
-            (Ok(table), true) => {
-                assert_eq!(search.done(), boxes(&table), "{:?}", house.bytes);
-                split += usize::from(boxes(&table) > 1);
+    let houses: Vec<_> = plants.into_iter().map(|bytes| House::of(bytes, None)).collect();
+    for form in FORMS {
+        let (mut without, mut split) = (0, 0);
+        for house in &houses {
+            let search = Search::of(&house.plant, &[], form);
+            match (library::make(&house.bytes, form.number()), search.run()) {
+                (Ok(table), true) => {
+                    assert_eq!(search.done(), boxes(&table), "{form:?} {:?}", house.bytes);
+                    split += usize::from(boxes(&table) > 1);
+                }
+                (Err(_), false) => without += 1,
+                (made, found) => panic!("{form:?} {made:?}, {found}: {:?}", house.bytes),
             }
-            (Err(_), false) => without += 1,
-            (made, found) => panic!("{made:?}, {found}: {:?}", house.bytes),
         }
+        assert!(without > 20 && split > 20, "{form:?} {without} {split}");
     }
-    assert!(without > 20 && split > 20, "{without} {split}");
+}
+
+/// The gallery: in form 1 55 tiles and 18 splits of up to 4^4 tiles and 1 + 4 + 16 + 64 splits, in form 3 9 tiles and 8 halvings of up to 2^8 and 2^8 - 1.
+#[test]
+fn it_says_how_many_boxes_there_may_be() {
+    let house = House::of(sample("gallery.plant"), None);
+    for (form, words) in [(Form::One, "73 boxes done of up to 341"), (Form::Three, "17 boxes done of up to 511")] {
+        let search = Search::of(&house.plant, &[], form);
+        assert!(search.run());
+        assert!(search.words().starts_with(&format!("own search: {words}, length ")), "{}", search.words());
+    }
+    let (house, chain) = (House::of(sample("gallery.plant"), None), vec![house.plant.r(); 2]);
+    let search = Search::of(&house.plant, &chain, Form::Three);
+    assert!(search.run() && search.words().starts_with("own search: 51 boxes done of up to 1533, "), "{}", search.words());
 }
 
 #[test]
 fn it_goes_through_a_chain() {
     let (house, chain) = (House::of(cold_p(), None), file(&cold_chain()));
-    let search = Search::of(&house.plant, &Chain::read(&chain, 1).unwrap().boxes);
+    let search = Search::of(&house.plant, &Chain::read(&chain, 1).unwrap().boxes, Form::One);
     assert!(search.run());
     // samples/cold.start: one tile, then two and their split, twice
     assert_eq!(search.done(), 1 + 3 + 3);
@@ -57,7 +76,7 @@ fn it_goes_through_a_chain() {
 fn it_stops() {
     let bytes = side::four_rooms(256, 6);
     let house = House::of(bytes, None);
-    let search = Search::of(&house.plant, &[]);
+    let search = Search::of(&house.plant, &[], Form::One);
     std::thread::scope(|scope| {
         let running = scope.spawn(|| search.run());
         while !search.words().ends_with("length 3") {
@@ -67,6 +86,6 @@ fn it_stops() {
         assert!(!running.join().unwrap());
     });
     let depth_0 = House::of(file(&with(&p_fields(), 5, U(0))), None);
-    let search = Search::of(&depth_0.plant, &[]);
+    let search = Search::of(&depth_0.plant, &[], Form::One);
     assert!(!search.run() && search.words() == "own search: 1 boxes done of up to 1, length 2");
 }

@@ -4,14 +4,17 @@ mod common;
 
 use common::{goes_round, sample, sample_path, tool, within_a_second, Folder};
 use hoachulim::causes;
-use hoachulim::files::{Chain, House, Start};
+use hoachulim::files::{Chain, House, Sides, Start};
+use hoachulim::files::numbers::Writer;
+use hoachulim::files::Plant;
 use hoachulim::kinds::As;
 use hoachulim::library::{self, State};
 use hoachulim::refusals::Refusal;
 use hoachulim::runs::{allowed, Controller, Draws};
 use side::common::{chain_fields, file, p_fields, with, Field, P, S, T1, U};
 use side::inputs::{damaged, plant_fields, random, rounds};
-use side::starts::{any_chain, any_start, made_start, other_start, spoiled_chain, spoiled_lengths, turning};
+use side::starts::{any_chain, any_start, made_starts, other_start, spoiled_chain, spoiled_lengths, turning};
+use side::tables::any_form;
 
 fn house(plant: &[u8]) -> House {
     House::of(plant.to_vec(), None)
@@ -59,9 +62,60 @@ fn the_sample_s_cold_room() {
     assert_eq!(std::fs::read(&start).unwrap(), sample("cold.start"));
 }
 
+/// A start file of a chain and tables.
+fn start_of(boxes: Vec<Sides>, tables: &[&[u8]]) -> Vec<u8> {
+    let mut file = Writer(Chain { boxes }.write());
+    for table in tables {
+        file.number(table.len() as u64);
+        file.0.extend(*table);
+    }
+    file.0
+}
+
+/// The gallery and one box about R, as large as it: all tables are of the form that is asked for.
+#[test]
+fn start_files_of_the_form_that_is_asked_for() {
+    let folder = Folder::new("forms");
+    let (plant, start, house) = (sample_path("gallery.plant"), folder.path("start"), house(&sample("gallery.plant")));
+    let chain = folder.put("chain", Chain { boxes: vec![house.plant.r()] }.write());
+    let (one, three) = ("done: 2 tables, 110 tiles, home within 4 samples, 380 bytes\n", "done: form 3, 2 tables, 18 tiles, home within 4 samples, 100 bytes\n");
+    for (words, told, form) in [(&[][..], one, 1), (&["1"], one, 1), (&["3"], three, 3)] {
+        let (status, out, _) = tool(&[&["make", "start", &plant, &chain, &start], words].concat());
+        assert_eq!((status, out.as_str()), (0, told));
+        let table = library::make(&house.bytes, form).unwrap();
+        assert_eq!(std::fs::read(&start).unwrap(), start_of(vec![house.plant.r()], &[&table, &table]));
+    }
+    let shallow = folder.put("shallow", Plant { depth: 1, ..house.plant }.write());
+    let (status, told, _) = tool(&["make", "start", &shallow, &chain, &start, "3"]);
+    assert!(status == 1 && told.starts_with("refused 9 0 0: no table\n9: R has no table: ") && told.contains(", and so may form 1: "), "{told}");
+}
+
+/// Each table of a start file has its own form: shown, judged, explained and driven by it.
+#[test]
+fn tables_of_either_form_side_by_side() {
+    let folder = Folder::new("mixed");
+    let (plant, house) = (sample_path("gallery.plant"), house(&sample("gallery.plant")));
+    let [one, three] = [1, 3].map(|form| library::make(&house.bytes, form).unwrap());
+    let of = |tables: &[&[u8]]| start_of(vec![house.plant.r()], tables);
+    let heads = ["form 3, 9 tiles, longest pattern 4, 44 bytes", "55 tiles, longest pattern 4, 183 bytes"];
+    for (tables, heads) in [([&three, &one], heads), ([&one, &three], [heads[1], heads[0]])] {
+        let start = folder.put("start", of(&tables.map(|table| &table[..])));
+        assert_eq!(tool(&["check", "start", &plant, &start]).1, "accepted\n");
+        let (_, shown, _) = tool(&["show", &start, &plant]);
+        assert_eq!(shown.lines().filter(|line| line.contains("longest pattern")).collect::<Vec<_>>(), heads, "{shown}");
+        let (status, lines, _) = tool(&["drive", "start", &plant, &start, "any", "300", "1"]);
+        assert!(status == 0 && lines.ends_with("\ndriven 300 samples\n"), "{lines}");
+    }
+    let cause = |start: &[u8]| causes::start(&house.plant, start, library::start_check(&house.bytes, start).unwrap_err());
+    let deep = |form: u8, splits: usize| [vec![form, 2], vec![0; splits], vec![1, 0]].concat();
+    assert_eq!(cause(&of(&[&one, &deep(3, 9)])), "6 at byte 206: box 1400 .. 1437 by 2300 .. 2320 is split at depth 8, n·D is 8");
+    assert_eq!(cause(&of(&[&three, &deep(1, 5)])), "6 at byte 62: box 1400 .. 1475 by 2300 .. 2310 is split at depth 4, D is 4");
+    assert_eq!(cause(&of(&[&three, &[2, 2, 1, 0]])), "2 at byte 56: the form is 2, wanted 1 or 3");
+}
+
 /// What the second program tells of a chain, but for the tables that it would make.
 fn chain_told(plant: &[u8], chain: &[u8]) -> Option<(u64, u64, u64)> {
-    let refusal = second::start::start_make_into(plant, chain, &mut []).unwrap_err();
+    let refusal = second::start::start_make_into(plant, chain, 1, &mut []).unwrap_err();
     let told = (u64::from(refusal.number), refusal.place, refusal.step);
     Some(told).filter(|told| ![9, 10].contains(&told.0))
 }
@@ -120,7 +174,8 @@ fn whatever_start_file_is_refused_has_a_cause() {
             }
         };
         judged(&any_start(&mut random, &plant, &chain).bytes());
-        let sound = made_start(&house.bytes, &chain).into_iter().chain(other_start(&mut random, &plant, &chain));
+        let made_by_the_second = made_starts(&mut random, &house.bytes, &chain).into_iter();
+        let sound = made_by_the_second.chain(other_start(&mut random, &plant, &chain));
         for start in sound.filter(|start| start.bytes().len() < 3_000) {
             let read = Start::read(&start.bytes(), &house.plant).unwrap();
             assert_eq!(read.chain.write(), file(&chain));
@@ -151,7 +206,7 @@ fn causes_of_start_files() {
     assert_eq!(with_byte(6, 17), "3 at byte 6: table 0 is to have 17 bytes, 15 are left");
     assert_eq!(with_byte(6, 8), "3 at byte 6: table 0 is to have 8 bytes and ends before");
     assert_eq!(with_byte(6, 6), "1 at byte 13: a mode of tile 211 .. 225 ends early");
-    assert_eq!(with_byte(15, 2), "2 at byte 15: the form is 2, wanted 1");
+    assert_eq!(with_byte(15, 2), "2 at byte 15: the form is 2, wanted 1 or 3");
     assert_eq!(with_byte(16, 3), "6 at byte 16: the table is for 3 rooms, the plant has 1");
     assert_eq!(with_byte(19, 0), "7 at byte 18, step 1: tile 190 .. 210 with modes 0: room 1 comes to 181 .. 199, S is 190 .. 230");
     assert_eq!(of(&[&START[..], &[0, 0, 0]].concat()), "3 at byte 22: 3 bytes left over behind the last number");
@@ -165,8 +220,8 @@ fn causes_of_start_files() {
     );
     let none: [Field; 2] = [U(1), U(0)];
     let shallow = file(&with(&p_fields(), 5, U(0)));
-    let refusal = library::start_make(&shallow, &file(&none)).unwrap_err();
-    assert!(causes::chain(&house.plant, &file(&none), refusal).starts_with("9: R has no table: "));
+    let refusal = library::start_make(&shallow, &file(&none), 1).unwrap_err();
+    assert!(causes::start_made(&house.plant, &file(&none), 1, refusal).starts_with("9: R has no table: "));
 }
 
 #[test]
@@ -176,7 +231,7 @@ fn cold_rooms_come_home() {
     for _ in 0..rounds(200) {
         let house = house(&small(&mut random));
         let chain = any_chain(&mut random, &second::plant::read_plant(&house.bytes).unwrap());
-        let Ok(bytes) = library::start_make(&house.bytes, &file(&chain)) else { continue };
+        let Ok(bytes) = library::start_make(&house.bytes, &file(&chain), any_form(&mut random)) else { continue };
         let start = Start::read(&bytes, &house.plant).unwrap();
         let mut draws = Draws(random.next());
         let (mut x, mut state) = (draws.reading(start.boxes(&house.plant).last().unwrap()), State::default());
@@ -194,15 +249,25 @@ fn cold_rooms_come_home() {
     assert!(runs > 20, "only {runs} runs");
 }
 
+/// A start file with these tables is shown whole and soon.
+fn shown_soon(house: &House, chain: &[u8], bytes: &[u8]) {
+    let text = within_a_second(|| As::Start(bytes, house).verdict().map(|()| As::Start(bytes, house).text())).unwrap();
+    let tiles = text.lines().filter(|line| line.starts_with("tile ")).count();
+    let start = Start::read(bytes, &house.plant).unwrap();
+    assert_eq!(tiles, start.tables.iter().map(|inner| inner.table.tiles.len()).sum::<usize>());
+    assert_eq!(Chain::read(chain, house.plant.rooms.len()), Some(start.chain));
+}
+
 #[test]
 fn the_largest_start_files_are_shown_within_a_second() {
     let (plant, chain) = turning();
-    let house = house(&plant);
-    let bytes = library::start_make(&plant, &chain).unwrap();
+    let bytes = library::start_make(&plant, &chain, 1).unwrap();
     assert!(bytes.len() > 250_000, "{} bytes", bytes.len());
-    let text = within_a_second(|| As::Start(&bytes, &house).verdict().map(|()| As::Start(&bytes, &house).text())).unwrap();
-    let tiles = text.lines().filter(|line| line.starts_with("tile ")).count();
-    let start = Start::read(&bytes, &house.plant).unwrap();
-    assert_eq!(tiles, start.tables.iter().map(|inner| inner.table.tiles.len()).sum::<usize>());
-    assert_eq!(Chain::read(&chain, 2), Some(start.chain));
+    shown_soon(&house(&plant), &chain, &bytes);
+    // four rooms, eight boxes as large as R, tables of form 3
+    let house = house(&side::turn_as_mode(4, 128, 9_000));
+    let chain = Chain { boxes: vec![house.plant.r(); 8] }.write();
+    let bytes = library::start_make(&house.bytes, &chain, 3).unwrap();
+    assert_eq!(bytes.len(), library::LARGEST_START);
+    shown_soon(&house, &chain, &bytes);
 }

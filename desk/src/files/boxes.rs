@@ -1,4 +1,4 @@
-//! Boxes: a side for each room, and document 01's split. Relies on nothing.
+//! Boxes: a side for each room, document 01's split, and request 2026-06's. Relies on nothing.
 
 use std::fmt;
 
@@ -29,7 +29,7 @@ pub fn words(sides: &[Side]) -> String {
     sides.iter().map(Side::to_string).collect::<Vec<_>>().join(" by ")
 }
 
-/// The children of a box, in their order; none where no side has more than one count.
+/// The children of a box along all its sides at once, in their order; none where no side has more than one count.
 pub fn split(sides: &[Side]) -> Vec<Sides> {
     if sides.iter().all(|side| side.lo == side.hi) {
         return Vec::new();
@@ -41,6 +41,16 @@ pub fn split(sides: &[Side]) -> Vec<Sides> {
         children = halves.iter().flat_map(|half| children.iter().map(|child| [child.as_slice(), &[*half]].concat())).collect();
     }
     children
+}
+
+/// The lower and the upper half of a box along its longest side, by counts; none where that has one count.
+pub fn halve(sides: &[Side]) -> Vec<Sides> {
+    // the last of equals is taken, which from behind is the lowest room
+    let longest = (0..sides.len()).rev().max_by_key(|&room| sides[room].hi - sides[room].lo).expect("a box has a side");
+    match halves(sides[longest])[..] {
+        [lower, upper] => [lower, upper].map(|half| [&sides[..longest], &[half], &sides[longest + 1..]].concat()).into(),
+        _ => Vec::new(),
+    }
 }
 
 /// The lower and the upper half of a side; a side of one count stays.

@@ -3,6 +3,7 @@
 
 pub mod boxes;
 pub mod chains;
+pub mod forms;
 pub mod houses;
 pub mod numbers;
 pub mod plants;
@@ -12,6 +13,7 @@ pub mod tables;
 
 pub use boxes::{Side, Sides};
 pub use chains::{Chain, Start};
+pub use forms::Form;
 pub use houses::House;
 pub use plants::Plant;
 pub use sheets::Sheet;

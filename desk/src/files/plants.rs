@@ -109,7 +109,7 @@ impl Head {
     }
 }
 
-/// The forms of a plant, and of every other file.
+/// The forms of a plant, and of every other file but a table (`forms`).
 const PLANT_FORMS: &str = "1 or 2";
 pub const FORM_1: &str = "1";
 

@@ -1,12 +1,14 @@
-//! A table's file: its tiles, each with its place, box, depth and modes. Relies on the plant that it is for: the boxes are not in the file.
+//! A table's file: its form, and its tiles, each with its place, box, depth and modes. Relies on the plant that it is for: the boxes are not in the file.
 
 use super::boxes::{self, Side, Sides};
+use super::forms::{Form, TABLE_FORMS};
 use super::numbers::Reader;
-use super::plants::{form, Plant, FORM_1};
+use super::plants::{form, Plant};
 
-/// A table's tiles in file order, which is that of the listing.
+/// A table's form, and its tiles in file order, which is that of the listing.
 #[derive(Clone, Debug, Default, PartialEq, Eq)]
 pub struct Table {
+    pub form: Form,
     pub tiles: Vec<Tile>,
 }
 
@@ -33,9 +35,19 @@ impl Table {
         self.tiles.iter().map(|tile| tile.modes.len()).max().unwrap_or(0)
     }
 
+    /// Its size in words, without its form.
+    pub fn sizes(&self) -> String {
+        format!("{}, longest pattern {}", counted(self.tiles.len() as u64, "tile"), self.longest())
+    }
+
+    /// Its size in words, behind its form where that is not 1.
+    pub fn words(&self) -> String {
+        self.form.words() + &self.sizes()
+    }
+
     /// The table's numbers in file order, from box `root` on. What was read before the reader ended stays in the table.
     pub fn follow(&mut self, file: &mut Reader, plant: &Plant, root: &[Side]) -> Option<()> {
-        form(file, FORM_1)?;
+        self.form = Form::of(form(file, TABLE_FORMS)?)?;
         let rooms = plant.rooms.len();
         file.number(|| "the table's n".into(), |n| format!("the table is for {}, the plant has {rooms}", counted(n, "room")))?;
         self.node(file, plant, root, 0)
@@ -44,10 +56,10 @@ impl Table {
     /// A node and all below it.
     fn node(&mut self, file: &mut Reader, plant: &Plant, sides: &[Side], depth: u64) -> Option<()> {
         let place = file.place();
-        let children = boxes::split(sides);
+        let children = self.form.split(sides);
         let node = file.number(
             || format!("the number of box {}", boxes::words(sides)),
-            |node| node_cause(node, plant, sides, depth),
+            |node| node_cause(node, plant, self.form, sides, depth),
         )?;
         if node == 0 {
             return children.iter().try_for_each(|child| self.node(file, plant, child, depth + 1));
@@ -66,13 +78,14 @@ fn mode(file: &mut Reader, plant: &Plant, sides: &[Side]) -> Option<u64> {
 }
 
 /// Why a node cannot be: a split that may not be, or a pattern that is too long.
-fn node_cause(node: u64, plant: &Plant, sides: &[Side], depth: u64) -> String {
+fn node_cause(node: u64, plant: &Plant, form: Form, sides: &[Side], depth: u64) -> String {
     let sides_words = boxes::words(sides);
     if node > 0 {
         return format!("box {sides_words} has a pattern of {node} modes, K is {}", plant.longest);
     }
-    if depth >= plant.depth {
-        return format!("box {sides_words} is split at depth {depth}, D is {}", plant.depth);
+    let most = form.depth(plant);
+    if depth >= most {
+        return format!("box {sides_words} is split at depth {depth}, {} is {most}", form.depth_name());
     }
     format!("box {sides_words} is split, and no side of it has more than one count")
 }

@@ -11,6 +11,9 @@ use std::fmt::Write;
 /// The pixels between two lines of one direction, where a tile has space for two.
 const APART: f64 = 8.0;
 
+/// A tile of fewer pixels across or up has one line of each direction, however long it is: of thousands side by side each would have a hundred.
+const SLIVER: f64 = 1.0;
+
 /// A tile's shade, which is a class of the style.
 pub fn shade(tile: &Tile) -> String {
     length_shade(tile.modes.len())
@@ -32,17 +35,18 @@ pub fn lines(path: &mut String, mode: u64, area: Area) {
 
 fn directed(path: &mut String, bits: u64, area: Area, stands: &'static [f64]) {
     let Area { width, height, .. } = area;
+    let spread = |length: f64| spread(length, stands, width.min(height) < SLIVER);
     let mut line = |x: f64, y: f64, to: String| {
         let _ = write!(path, "M{} {}{to}", px(area.x + x), px(area.y + y));
     };
     if bits & 1 != 0 {
-        spread(height, stands).for_each(|y| line(0.0, y, format!("h{}", px(width))));
+        spread(height).for_each(|y| line(0.0, y, format!("h{}", px(width))));
     }
     if bits & 2 != 0 {
-        spread(width, stands).for_each(|x| line(x, 0.0, format!("v{}", px(height))));
+        spread(width).for_each(|x| line(x, 0.0, format!("v{}", px(height))));
     }
     // a slant leaves the left or lower side at its distance along both, and comes in at the upper or right side
-    for distance in spread(width + height, stands).filter(|_| bits & 12 != 0) {
+    for distance in spread(width + height).filter(|_| bits & 12 != 0) {
         let (left, right) = ((distance - height).max(0.0), distance.min(width));
         let (low, high) = (distance.min(height), (distance - width).max(0.0));
         if bits & 4 != 0 {
@@ -54,9 +58,9 @@ fn directed(path: &mut String, bits: u64, area: Area, stands: &'static [f64]) {
     }
 }
 
-/// The places of lines in equal parts of a length, as many parts as there is space for.
-fn spread(length: f64, stands: &'static [f64]) -> impl Iterator<Item = f64> {
-    let parts = (length / APART).round().max(1.0);
+/// The places of lines in equal parts of a length, as many parts as there is space for, or the whole of it alone.
+fn spread(length: f64, stands: &'static [f64], whole: bool) -> impl Iterator<Item = f64> {
+    let parts = if whole { 1.0 } else { (length / APART).round().max(1.0) };
     (0..parts as u32).flat_map(move |part| stands.iter().map(move |stand| (f64::from(part) + stand) * length / parts))
 }
 

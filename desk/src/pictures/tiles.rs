@@ -1,4 +1,4 @@
-//! The tiles of a table: one room as a strip, two as a map, three and four as panels, a map of rooms 1 and 2 for each slice of the others.
+//! The tiles of a table: one room as a strip, two as a map, three and four as panels, a map of two rooms for each slice of the others.
 //! Relies on `axes` and `hatches`. A pattern stands in its tile where it fits; lines and shade say its first mode and its length everywhere.
 
 use super::axes::{across, margin, upwards, widest, window, Axis, GAP, LINE};
@@ -6,8 +6,9 @@ use super::hatches;
 use super::svg::{at, escape, fitting, wide, Area, Stands, Svg, LETTER, WIDTH};
 use crate::files::boxes;
 use crate::files::tables::counted;
-use crate::files::{House, Side, Table, Tile};
+use crate::files::{Form, House, Side, Table, Tile};
 use crate::units::Units;
+use std::cmp::Reverse;
 use std::collections::BTreeSet;
 
 /// Above so many tiles there are neither words in a tile nor words for a pointer that rests on it, which keeps the largest file short.
@@ -20,18 +21,16 @@ const SMALL_SHARE: f64 = 0.08;
 /// The space that a letter beside a box takes.
 const LETTERED: f64 = 18.0;
 
+/// The space between two panels, where they are not small.
+const BETWEEN: f64 = 8.0;
+
 /// The picture of a table that was accepted for this house.
 pub fn picture(house: &House, table: &Table, units: Units) -> String {
     let mut svg = Svg::default();
     let rooms = house.plant.rooms.len();
-    let heading = format!(
-        "{}, {}, longest pattern {}",
-        counted(rooms as u64, "room"),
-        counted(table.tiles.len() as u64, "tile"),
-        table.longest()
-    );
+    let heading = format!("{}, {}", counted(rooms as u64, "room"), table.words());
     svg.words("label heading", (24.0, 22.0), Stands::Behind, &heading);
-    let mut drawing = Drawing { house, table, units, svg };
+    let mut drawing = Drawing { house, table, units, order: order(table, rooms), svg };
     let below = match rooms {
         1 => drawing.strip(32.0),
         2 => drawing.map(32.0),
@@ -47,6 +46,8 @@ struct Drawing<'a> {
     house: &'a House,
     table: &'a Table,
     units: Units,
+    /// The rooms across, up, from panel to panel in a row, and from row to row.
+    order: Vec<usize>,
     svg: Svg,
 }
 
@@ -83,25 +84,26 @@ impl Drawing<'_> {
         frame.y + side + 2.0 * LINE
     }
 
-    /// Three or four rooms: room 3's slices from left to right, room 4's from top to bottom; with three rooms the slices go on below.
+    /// Three or four rooms: the third's slices from left to right, the fourth's from top to bottom; with three rooms the slices go on below.
     fn panels(&mut self, top: f64) -> f64 {
-        let thirds = self.slices(2);
-        let fourths = if self.house.plant.rooms.len() > 3 { self.slices(3) } else { Vec::new() };
+        let thirds = self.slices(self.order[2]);
+        let fourths = self.order.get(3).map_or(Vec::new(), |&fourth| self.slices(fourth));
         let columns = if fourths.is_empty() { thirds.len().min(4) } else { thirds.len() };
-        let left = if fourths.is_empty() { 24.0 } else { 24.0 + self.widest_edge(3) + GAP };
+        let left = self.order.get(3).map_or(24.0, |&fourth| 24.0 + self.widest_edge(fourth) + GAP);
         let step = ((WIDTH - 24.0 - left) / columns as f64).min(176.0);
         let mut y = top;
         for (row, line) in thirds.chunks(columns).cycle().take(thirds.len().div_ceil(columns) * fourths.len().max(1)).enumerate() {
             y = self.panel_row(line, fourths.get(row).copied(), (left, y, step), fourths.is_empty() || row == 0);
         }
-        self.svg.words("label", (24.0, y + LINE), Stands::Behind, "across each panel room 1, up each panel room 2");
+        let words = format!("across each panel {}, up each panel {}", self.name(0), self.name(1));
+        self.svg.words("label", (24.0, y + LINE), Stands::Behind, &words);
         y + LINE
     }
 
-    /// A row of panels at (left, top), a step apart, with their slices of room 3 above where that is told, and of room 4 on the left.
+    /// A row of panels at (left, top), a step apart, with their slices of the third room above where that is told, and of the fourth on the left.
     fn panel_row(&mut self, thirds: &[Side], fourth: Option<Side>, (left, top, step): (f64, f64, f64), told: bool) -> f64 {
         let top = if told { top + 4.0 * LINE } else { top };
-        let side = step - 8.0;
+        let side = step - BETWEEN.min(step / 4.0);
         for (column, &third) in thirds.iter().enumerate() {
             let frame = Area { x: left + column as f64 * step, y: top, width: side, height: side };
             if told {
@@ -112,41 +114,42 @@ impl Drawing<'_> {
         if let Some(fourth) = fourth {
             let (lo, hi) = self.slice_words(fourth);
             let size = LETTER.min(side / 3.75);
-            for (line, words) in (1..).zip(["room 4".into(), lo, hi]) {
+            for (line, words) in (1..).zip([self.name(3), lo, hi]) {
                 self.svg.sized("label", (left - GAP, top + (f64::from(line) - 0.2) * size * 1.25), Stands::Before, size, &words);
             }
         }
-        top + side + 8.0
+        top + side + BETWEEN
     }
 
-    /// A slice of room 3 above its panel, in letters that fit it.
+    /// A slice of the third room above its panel, in letters that fit it.
     fn third_words(&mut self, third: Side, frame: Area, step: f64) {
         let (lo, hi) = self.slice_words(third);
-        let lines = ["room 3".into(), lo, hi];
+        let lines = [self.name(2), lo, hi];
         let size = lines.iter().map(|words| fitting(words, step - 4.0)).fold(LETTER, f64::min);
         for (line, words) in (1..).zip(lines.iter().rev()) {
             self.svg.sized("label", (frame.x, frame.y - GAP - f64::from(line - 1) * size * 1.25), Stands::Behind, size, words);
         }
     }
 
-    /// The tiles that have the slices, in rooms 1 and 2.
+    /// The tiles that have the slices, in the first two rooms.
     fn panel(&mut self, frame: Area, third: Side, fourth: Option<Side>) {
-        let x = Axis::new(self.window(0, SMALL_SHARE), frame.x, frame.x + frame.width);
-        let y = Axis::new(self.window(1, SMALL_SHARE), frame.y + frame.height, frame.y);
+        let order = self.order.clone();
+        let x = Axis::new(self.window(order[0], SMALL_SHARE), frame.x, frame.x + frame.width);
+        let y = Axis::new(self.window(order[1], SMALL_SHARE), frame.y + frame.height, frame.y);
         self.ground(frame, &[x, y]);
-        let shows = |tile: &Tile| tile.sides[2].holds(third) && fourth.is_none_or(|fourth| tile.sides[3].holds(fourth));
-        self.tiles(x, y, shows, |tile| (tile.sides[0], tile.sides[1]));
+        let shows = |tile: &Tile| tile.sides[order[2]].holds(third) && fourth.is_none_or(|fourth| tile.sides[order[3]].holds(fourth));
+        self.tiles(x, y, shows, |tile| (tile.sides[order[0]], tile.sides[order[1]]));
     }
 
     /// S within the frame, and its edges where the frame reaches them.
     fn ground(&mut self, frame: Area, axes: &[Axis]) {
         self.svg.rect("s", frame);
         self.svg.rect("frame", frame);
-        for (room, axis) in axes.iter().enumerate() {
-            let s = self.house.plant.rooms[room].s;
+        for (direction, axis) in axes.iter().enumerate() {
+            let s = self.house.plant.rooms[self.order[direction]].s;
             for edge in [s.lo, s.hi].iter().filter(|&&edge| edge == axis.window.lo || edge == axis.window.hi) {
                 let at = axis.at(*edge as f64 + if *edge == s.lo { -0.5 } else { 0.5 });
-                let (from, to) = match room {
+                let (from, to) = match direction {
                     0 => ((at, frame.y), (at, frame.y + frame.height)),
                     _ => ((frame.x, at), (frame.x + frame.width, at)),
                 };
@@ -221,19 +224,19 @@ impl Drawing<'_> {
     /// The values that an axis marks: S's edges, R's, then where tiles begin, the middle ones first.
     fn values(&self, room: usize) -> Vec<i64> {
         let bounds = &self.house.plant.rooms[room];
-        [vec![bounds.s.lo, bounds.s.hi, bounds.r.lo, bounds.r.hi], middles(&self.beginnings(room))].concat()
+        [vec![bounds.s.lo, bounds.s.hi, bounds.r.lo, bounds.r.hi], middles(&beginnings(self.table, room))].concat()
     }
 
     /// The slices of a room that no tile cuts.
     fn slices(&self, room: usize) -> Vec<Side> {
-        let los = self.beginnings(room);
+        let los = beginnings(self.table, room);
         let ends = los.iter().skip(1).map(|lo| lo - 1).chain([self.house.plant.rooms[room].r.hi]);
         los.iter().zip(ends).map(|(&lo, hi)| Side { lo, hi }).collect()
     }
 
-    /// Where tiles begin in a room, from the lowest on.
-    fn beginnings(&self, room: usize) -> Vec<i64> {
-        self.table.tiles.iter().map(|tile| tile.sides[room].lo).collect::<BTreeSet<_>>().into_iter().collect()
+    /// The room of a direction.
+    fn name(&self, direction: usize) -> String {
+        format!("room {}", self.order[direction] + 1)
     }
 
     fn slice_words(&self, slice: Side) -> (String, String) {
@@ -244,6 +247,21 @@ impl Drawing<'_> {
         let r = self.house.plant.rooms[room].r;
         [r.lo, r.hi].iter().map(|&edge| wide(&format!("to {}", self.units.value(edge)), LETTER)).fold(wide("room 4", LETTER), f64::max)
     }
+}
+
+/// The rooms by their numbers in form 1, which cuts them all alike, and where one map shows all. Else those that are cut most first, so that few panels are
+/// left: of four rooms one alone may be cut a thousand times.
+fn order(table: &Table, rooms: usize) -> Vec<usize> {
+    let mut order: Vec<usize> = (0..rooms).collect();
+    if table.form != Form::One && rooms > 2 {
+        order.sort_by_key(|&room| Reverse(beginnings(table, room).len()));
+    }
+    order
+}
+
+/// Where tiles begin in a room, from the lowest on.
+fn beginnings(table: &Table, room: usize) -> Vec<i64> {
+    table.tiles.iter().map(|tile| tile.sides[room].lo).collect::<BTreeSet<_>>().into_iter().collect()
 }
 
 /// A tile's pattern, across or upwards, in the largest letters that fit.

@@ -70,8 +70,8 @@ pub fn tiles(accepted: &Accepted) -> String {
 
 /// A line a tile. One text, since a browser takes minutes to print thousands of rows in columns.
 fn list(accepted: &Accepted, index: usize, table: &Table, named: bool) -> String {
-    let sizes = format!("{}, longest pattern {}", counted(table.tiles.len() as u64, "tile"), table.longest());
-    let heading = if named { format!("<h3>R{index}: {sizes}</h3>\n") } else { format!("<p>{sizes}.</p>\n") };
+    let words = table.words();
+    let heading = if named { format!("<h3>R{index}: {words}</h3>\n") } else { format!("<p>{words}.</p>\n") };
     let listed: Vec<String> = table.tiles.iter().map(line).collect();
     let widest = listed.iter().map(String::len).max().unwrap_or(0);
     let both = |(tile, line): (&Tile, &String)| match accepted.units.has_degrees() {

@@ -8,9 +8,9 @@ use crate::files::{House, Start, Table, Tile};
 
 /// A table of so many bytes for a house.
 pub fn show(table: &Table, length: usize, house: &House, shown: &mut Shown) {
-    shown.line("table form 1");
+    shown.line(format!("table form {}", table.form.number()));
     shown.line(format!("rooms {}", house.plant.rooms.len()));
-    shown.line(summary(table, length));
+    shown.line(with_bytes(table.sizes(), length));
     shown.gap();
     show_tiles(table, house, shown);
 }
@@ -29,8 +29,11 @@ pub fn show_start(start: &Start, house: &House, shown: &mut Shown) {
 
 /// What `make` says of a table, too.
 pub fn summary(table: &Table, length: usize) -> String {
-    let tiles = counted(table.tiles.len() as u64, "tile");
-    format!("{tiles}, longest pattern {}, {}", table.longest(), counted(length as u64, "byte"))
+    with_bytes(table.words(), length)
+}
+
+fn with_bytes(words: String, length: usize) -> String {
+    format!("{words}, {}", counted(length as u64, "byte"))
 }
 
 fn below(index: usize) -> String {

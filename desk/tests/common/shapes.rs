@@ -1,8 +1,8 @@
-//! Plants for which every table is right, and seeded tables for them: tables of every shape and size, which no maker would make.
+//! Plants for which every table is right, and seeded tables for them: tables of either form and of every shape and size, which no maker would make.
 
 use hoachulim::files::numbers::Writer;
 use hoachulim::files::plants::{Bounds, Row};
-use hoachulim::files::{House, Plant, Side};
+use hoachulim::files::{Form, House, Plant, Side};
 
 /// A seeded generator: three shifts.
 pub struct Random(pub u64);
@@ -18,23 +18,34 @@ impl Random {
 
 /// A plant whose every mode leads to the middle of R whatever the reading, so that every table of sound shape is accepted for it.
 pub fn steady(rooms: usize, modes: usize, longest: u64, depth: u64, r: Side, s: Side) -> House {
-    let row = Row { w: Side { lo: 0, hi: 0 }, a: vec![0; rooms], b: (r.lo + r.hi).div_euclid(2) };
-    let plant = Plant { form: 1, q: 1, longest, depth, rooms: vec![Bounds { r, s }; rooms], modes: vec![vec![row; rooms]; modes] };
-    House::of(plant.write(), None)
+    steady_in(vec![Bounds { r, s }; rooms], modes, longest, depth)
+}
+
+/// The same with R and S of each room.
+pub fn steady_in(rooms: Vec<Bounds>, modes: usize, longest: u64, depth: u64) -> House {
+    let row = |room: &Bounds| Row { w: Side { lo: 0, hi: 0 }, a: vec![0; rooms.len()], b: (room.r.lo + room.r.hi).div_euclid(2) };
+    let mode = rooms.iter().map(row).collect();
+    House::of(Plant { form: 1, q: 1, longest, depth, rooms, modes: vec![mode; modes] }.write(), None)
+}
+
+/// R of rooms of which the last is the longest, each other one 2^`narrower` times as narrow as the next.
+pub fn lengthening(rooms: u32, narrower: u32) -> Vec<Bounds> {
+    let (lo, s) = (-1_000_000, Side { lo: -1_000_000, hi: 1_000_000 });
+    (0..rooms).rev().map(|behind| Bounds { r: Side { lo, hi: lo + (2_000_000 >> (narrower * behind)).max(1) - 1 }, s }).collect()
 }
 
 /// A table for such a plant: a box with depth left is split in `split` of four cases, and patterns are drawn.
-pub fn table(random: &mut Random, house: &House, split: u64) -> Vec<u8> {
-    let mut bytes = vec![1, house.plant.rooms.len() as u8];
-    node(random, house, &house.plant.r(), split, 0, &mut bytes);
+pub fn table(random: &mut Random, house: &House, form: Form, split: u64) -> Vec<u8> {
+    let mut bytes = vec![form.number() as u8, house.plant.rooms.len() as u8];
+    node(random, house, form, &house.plant.r(), split, 0, &mut bytes);
     bytes
 }
 
-fn node(random: &mut Random, house: &House, sides: &[Side], split: u64, depth: u64, bytes: &mut Vec<u8>) {
-    let children = hoachulim::files::boxes::split(sides);
-    if depth < house.plant.depth && !children.is_empty() && random.below(4) < split {
+fn node(random: &mut Random, house: &House, form: Form, sides: &[Side], split: u64, depth: u64, bytes: &mut Vec<u8>) {
+    let children = form.split(sides);
+    if depth < form.depth(&house.plant) && !children.is_empty() && random.below(4) < split {
         bytes.push(0);
-        return children.iter().for_each(|child| node(random, house, child, split, depth + 1, bytes));
+        return children.iter().for_each(|child| node(random, house, form, child, split, depth + 1, bytes));
     }
     let length = 1 + random.below(house.plant.longest);
     bytes.push(length as u8);
@@ -43,8 +54,13 @@ fn node(random: &mut Random, house: &House, sides: &[Side], split: u64, depth: u
     bytes.extend(modes.0);
 }
 
-/// Plants of one to four rooms with tables of every depth; narrow and wide R, S far and near.
+/// Plants of one to four rooms with tables of either form and every depth.
 pub fn many() -> Vec<(House, Vec<u8>)> {
+    [split_at_once(), halved()].concat()
+}
+
+/// Of form 1: narrow and wide R, S far and near.
+fn split_at_once() -> Vec<(House, Vec<u8>)> {
     let mut random = Random(20_261_116);
     let boxes = [((2_000, 2_200), (1_900, 2_300)), ((-7, 8), (-7, 8)), ((0, 3), (-1_000_000, 1_000_000)), ((-1_000_000, 1_000_000), (-1_000_000, 1_000_000)), ((5, 5), (5, 6))];
     let mut many = Vec::new();
@@ -53,7 +69,7 @@ pub fn many() -> Vec<(House, Vec<u8>)> {
             for depth in 0..=(12 / rooms as u64).min(if rooms == 1 { 6 } else { 3 }) {
                 for modes in [16, 256] {
                     let house = steady(rooms, 1 + random.below(modes) as usize, 1 + random.below(6), depth, r, s);
-                    let bytes = table(&mut random, &house, 3);
+                    let bytes = table(&mut random, &house, Form::One, 3);
                     many.push((house, bytes));
                 }
             }
@@ -62,14 +78,32 @@ pub fn many() -> Vec<(House, Vec<u8>)> {
     many
 }
 
-/// The largest tables there are: 4,096 tiles of six modes, in two, three and four rooms, of sixteen modes and of 256.
+/// Of form 3: rooms as long as each other, and ones of which one is cut far more often than the others, or alone.
+fn halved() -> Vec<(House, Vec<u8>)> {
+    let mut random = Random(20_261_117);
+    let mut many = Vec::new();
+    for rooms in 1..=4 {
+        for (depth, narrower) in (0..=(12 / u64::from(rooms)).min(6)).flat_map(|depth| [0, 1, 4, 20].map(|narrower| (depth, narrower))) {
+            let (modes, longest) = (1 + random.below(256) as usize, 1 + random.below(6));
+            let house = steady_in(lengthening(rooms, narrower), modes, longest, depth);
+            let bytes = table(&mut random, &house, Form::Three, 3);
+            many.push((house, bytes));
+        }
+    }
+    many
+}
+
+/// The largest tables there are: 4,096 tiles of six modes, in two, three and four rooms, of sixteen modes and of 256; of form 1, and of form 3 with rooms as
+/// long as each other, longer ones, and one that alone is cut.
 pub fn largest() -> Vec<(House, Vec<u8>)> {
     let mut random = Random(4_096);
-    let (r, s) = (Side { lo: -1_000_000, hi: 999_999 }, Side { lo: -1_000_000, hi: 1_000_000 });
-    let of = |(rooms, modes): (usize, usize)| {
-        let house = steady(rooms, modes, 6, 12 / rooms as u64, r, s);
-        let bytes = table(&mut random, &house, 4);
-        (house, bytes)
-    };
-    [(2, 16), (3, 16), (4, 16), (2, 256), (3, 256), (4, 256)].map(of).into()
+    let mut largest = Vec::new();
+    for (form, narrower) in [(Form::One, 0), (Form::Three, 0), (Form::Three, 4), (Form::Three, 20)] {
+        for (rooms, modes) in [(2, 16), (3, 16), (4, 16), (2, 256), (3, 256), (4, 256)] {
+            let house = steady_in(lengthening(rooms, narrower), modes, 6, 12 / u64::from(rooms));
+            let bytes = table(&mut random, &house, form, 4);
+            largest.push((house, bytes));
+        }
+    }
+    largest
 }
