@@ -14,10 +14,12 @@ STORED(house_plant, "house.plant")
 STORED(house_table, "house.table")
 STORED(four_plant, "four.plant")
 STORED(four_table, "four.table")
+STORED(four_halved_table, "four_halved.table")
 STORED(valves_plant, "valves.plant")
 STORED(valves_table, "valves.table")
 STORED(table_plant, "table.plant")
 STORED(table_table, "table.table")
+STORED(table_halved_table, "table_halved.table")
 STORED(largest_plant, "plant.plant")
 STORED(largest_table, "plant.table")
 STORED(sheet_sheet, "sheet.sheet")
@@ -26,13 +28,15 @@ STORED(cold_start, "cold.start")
 STORED(start_plant, "start.plant")
 STORED(start_chain, "start.chain")
 STORED(start_start, "start.start")
+STORED(start_halved_start, "start_halved.start")
 
-/* What a call takes: a plant (or a sheet) with a table, a start file or a chain, the state, and the reading. */
+/* What a call takes: a plant (or a sheet) with a table, a start file or a chain, the state, the reading, and the form that a maker is told. */
 struct input {
     const char *name;
     struct stored s;
     uint64_t index, place, left;
     int64_t x[4];
+    uint64_t form;
 };
 
 static const struct input *in;
@@ -41,13 +45,13 @@ static uint64_t out[8], number;
 
 static void call_plant(void) { number = hoachulim_plant(in->s.plant, in->s.plant_length, out); }
 static void call_sheet(void) { number = hoachulim_sheet(in->s.plant, in->s.plant_length, buffer, sizeof buffer, out); }
-static void call_make(void) { number = hoachulim_make(in->s.plant, in->s.plant_length, buffer, sizeof buffer, out); }
+static void call_make(void) { number = hoachulim_make(in->s.plant, in->s.plant_length, in->form, buffer, sizeof buffer, out); }
 static void call_check(void) { number = hoachulim_check(in->s.plant, in->s.plant_length, in->s.file, in->s.file_length, out); }
 static void call_start_check(void) { number = hoachulim_start_check(in->s.plant, in->s.plant_length, in->s.file, in->s.file_length, out); }
 
 static void call_start_make(void)
 {
-    number = hoachulim_start_make(in->s.plant, in->s.plant_length, in->s.file, in->s.file_length, buffer, sizeof buffer, out);
+    number = hoachulim_start_make(in->s.plant, in->s.plant_length, in->s.file, in->s.file_length, in->form, buffer, sizeof buffer, out);
 }
 
 static void call_control(void)
@@ -111,7 +115,7 @@ static void measure(const char *function, void (*call)(void), const char *state,
 
 static void a_table(const char *name, struct stored s, int64_t x0, int64_t x1, int64_t x2, int64_t x3, uint64_t place, uint64_t left, uint32_t times)
 {
-    struct input idle = {name, s, 0, 0, 0, {x0, x1, x2, x3}}, running = {name, s, 0, place, left, {x0, x1, x2, x3}};
+    struct input idle = {name, s, 0, 0, 0, {x0, x1, x2, x3}, 0}, running = {name, s, 0, place, left, {x0, x1, x2, x3}, 0};
     measure("plant", call_plant, "once", idle, times);
     measure("check", call_check, "once", idle, times);
     measure("control", call_control, "idle", idle, times);
@@ -120,33 +124,49 @@ static void a_table(const char *name, struct stored s, int64_t x0, int64_t x1, i
 
 static void a_start(const char *name, struct stored s, int64_t x, uint64_t index, uint64_t place, uint64_t left, uint32_t times)
 {
-    struct input idle = {name, s, 0, 0, 0, {x, x}}, running = {name, s, index, place, left, {x, x}};
+    struct input idle = {name, s, 0, 0, 0, {x, x}, 0}, running = {name, s, index, place, left, {x, x}, 0};
     measure("start_check", call_start_check, "once", idle, times);
     measure("start_control", call_start_control, "idle", idle, times);
     measure("start_control", call_start_control, "running", running, times);
 }
 
-static void a_make(const char *name, struct stored s)
+static void a_make(const char *name, struct stored s, uint64_t form)
 {
-    measure("make", call_make, "once", (struct input){name, s, 0, 0, 0, {0}}, 1);
+    measure("make", call_make, "once", (struct input){name, s, 0, 0, 0, {0}, form}, 1);
 }
 
-int main(void)
+static void a_start_make(const char *name, uint64_t form)
+{
+    measure("start_make", call_start_make, "once", (struct input){name, BOTH(start_plant, start_chain), 0, 0, 0, {0}, form}, 1);
+}
+
+static void tables(void)
 {
     a_table("P", (struct stored)BOTH(p_plant, p_table), 225, 0, 0, 0, 4, 1, 1000);
     a_table("house", (struct stored)BOTH(house_plant, house_table), 2200, 2200, 0, 0, 4, 4, 1000);
     a_table("four", (struct stored)BOTH(four_plant, four_table), 3000, 2200, 3000, 2200, 5, 2, 1000);
+    a_table("four_halved", (struct stored)BOTH(four_plant, four_halved_table), 3000, 2200, 3000, 2200, 8, 2, 1000);
     a_table("table", (struct stored)BOTH(table_plant, table_table), 1063, 1063, 0, 0, 9, 6, 1);
+    a_table("table_halved", (struct stored)BOTH(table_plant, table_halved_table), 1063, 1063, 0, 0, 15, 6, 1);
     a_table("valves", (struct stored)BOTH(valves_plant, valves_table), 225, 0, 0, 0, 5, 1, 100);
     a_table("plant", (struct stored)BOTH(largest_plant, largest_table), 500003, 500003, 500003, 500003, 6, 6, 1);
-    a_make("P", (struct stored)BOTH(p_plant, p_table));
-    a_make("house", (struct stored)BOTH(house_plant, house_table));
-    a_make("four", (struct stored)BOTH(four_plant, four_table));
-    a_make("valves", (struct stored)BOTH(valves_plant, valves_table));
-    a_make("table", (struct stored)BOTH(table_plant, table_table));
+}
+
+int main(void)
+{
+    tables();
+    a_make("P", (struct stored)BOTH(p_plant, p_table), 1);
+    a_make("house", (struct stored)BOTH(house_plant, house_table), 1);
+    a_make("four", (struct stored)BOTH(four_plant, four_table), 1);
+    a_make("four_halved", (struct stored)BOTH(four_plant, four_table), 3);
+    a_make("valves", (struct stored)BOTH(valves_plant, valves_table), 1);
+    a_make("table", (struct stored)BOTH(table_plant, table_table), 1);
+    a_make("table_halved", (struct stored)BOTH(table_plant, table_table), 3);
     a_start("cold", (struct stored)BOTH(cold_plant, cold_start), 230, 2, 5, 1, 1000);
     a_start("start", (struct stored)BOTH(start_plant, start_start), 1063, 8, 9, 6, 1);
-    measure("start_make", call_start_make, "once", (struct input){"start", BOTH(start_plant, start_chain), 0, 0, 0, {0}}, 1);
-    measure("sheet", call_sheet, "once", (struct input){"sheet", BOTH(sheet_sheet, sheet_sheet), 0, 0, 0, {0}}, 100);
+    a_start("start_halved", (struct stored)BOTH(start_plant, start_halved_start), 1063, 8, 15, 6, 1);
+    a_start_make("start", 1);
+    a_start_make("start_halved", 3);
+    measure("sheet", call_sheet, "once", (struct input){"sheet", BOTH(sheet_sheet, sheet_sheet), 0, 0, 0, {0}, 0}, 100);
     return 0;
 }

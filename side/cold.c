@@ -1,4 +1,5 @@
-/* A cold room brought home the way firmware does it: the start file is made once of plant and chain, checked once, then one call a sample.
+/* A cold room brought home the way firmware does it: the start file is made once of plant and chain, with tables of form 1 and then of form 3, checked
+   once, then one call a sample.
    The plant is document 01's P with S 150..240, the chain R1 180..225 and R2 160..230. The room begins at each reading of R2; the next reading
    is the lowest or the highest that the mode's equation and band allow, or one between, by turns. Every answer is held against what is promised:
    no call is refused, every reading lies in S, an idle call meets a reading in R within the sum of the longest patterns of tables 1 up to that
@@ -83,12 +84,15 @@ static int run(int64_t first, int kind)
     return 1;
 }
 
-/* What must be refused: a buffer too short, a reading outside R2, an index over 2, an index with an idle state, and a file cut short. */
+/* What must be refused: a buffer too short, a form that is not known, a reading outside R2, an index over 2, an index with an idle state, and a file
+   cut short. */
 static int refusals(void)
 {
     uint64_t out[6];
     uint8_t small[20];
-    if (hoachulim_start_make(plant, sizeof plant, chain, sizeof chain, small, sizeof small, out) != 10)
+    if (hoachulim_start_make(plant, sizeof plant, chain, sizeof chain, 3, small, sizeof small, out) != 10)
+        return 0;
+    if (hoachulim_start_make(plant, sizeof plant, chain, sizeof chain, 2, small, sizeof small, out) != 2 || out[0] != 0)
         return 0;
     if (hoachulim_start_control(plant, sizeof plant, start, start_length, 0, 0, 0, 159, 0, 0, 0, out) != NO_MODE || out[0] != 11)
         return 0;
@@ -101,23 +105,31 @@ static int refusals(void)
     return out[3] + out[4] + out[5] == 0;
 }
 
-int main(void)
+/* The start file with tables of a form, made and checked; then a run of each kind from each reading of R2. 0 where all came home. */
+static int brought_home(uint64_t form)
 {
     uint64_t out[2];
-    if (hoachulim_start_make(plant, sizeof plant, chain, sizeof chain, start, sizeof start, out) != 0)
+    if (hoachulim_start_make(plant, sizeof plant, chain, sizeof chain, form, start, sizeof start, out) != 0)
         return 1;
     start_length = out[0];
-    if (hoachulim_start_check(plant, sizeof plant, start, start_length, out) != 0)
+    if (start[sizeof chain + 1] != form || hoachulim_start_check(plant, sizeof plant, start, start_length, out) != 0)
         return 2;
-    int runs = 0;
     for (int64_t first = 160; first <= 230; first++)
-        for (int kind = 0; kind < 4; kind++, runs++)
+        for (int kind = 0; kind < 4; kind++)
             if (!run(first, kind)) {
                 printf("from %lld, kind %d\n", (long long)first, kind);
                 return 3;
             }
-    if (!refusals())
-        return 4;
-    printf("came home %d times\n", runs);
+    return refusals() ? 0 : 4;
+}
+
+int main(void)
+{
+    for (uint64_t form = 1; form <= 3; form += 2) {
+        int status = brought_home(form);
+        if (status != 0)
+            return status;
+    }
+    printf("came home %d times\n", 2 * 71 * 4);
     return 0;
 }

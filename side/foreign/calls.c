@@ -46,10 +46,10 @@ void answer(const struct call *c, uint64_t said[ANSWERS])
     switch (c->function) {
     case PLANT: number = hoachulim_plant(a, al, out); break;
     case SHEET: number = hoachulim_sheet(a, al, c->buffer, c->buffer_length, out); break;
-    case MAKE: number = hoachulim_make(a, al, c->buffer, c->buffer_length, out); break;
+    case MAKE: number = hoachulim_make(a, al, c->form, c->buffer, c->buffer_length, out); break;
     case CHECK: number = hoachulim_check(a, al, b, bl, out); break;
     case CONTROL: control(c, said); return;
-    case START_MAKE: number = hoachulim_start_make(a, al, b, bl, c->buffer, c->buffer_length, out); break;
+    case START_MAKE: number = hoachulim_start_make(a, al, b, bl, c->form, c->buffer, c->buffer_length, out); break;
     case START_CHECK: number = hoachulim_start_check(a, al, b, bl, out); break;
     case START_CONTROL: start_control(c, said); return;
     }

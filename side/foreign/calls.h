@@ -12,6 +12,7 @@ struct call {
     uint64_t lengths[2];
     uint64_t index, place, left;
     int64_t x[4];
+    uint64_t form;
     uint8_t *buffer;
     uint64_t buffer_length;
 };

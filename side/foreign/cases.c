@@ -58,6 +58,7 @@ static int differs(uint64_t function)
     call.left = next();
     for (int i = 0; i < 4; i++)
         call.x[i] = (int64_t)next();
+    call.form = next();
     call.buffer_length = next();
     for (int i = 0; i < ANSWERS; i++)
         expected[i] = next();

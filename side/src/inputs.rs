@@ -1,13 +1,11 @@
-//! The inputs of every test here: seeded plants, sheets and tables, each number
-//! of a file spoiled with the refusal that document 01 tells of it, and files
-//! cut and damaged. HOACHULIM_SEED gives another seed, HOACHULIM_ROUNDS a
-//! factor for longer runs.
+//! The inputs of every test here: seeded plants and sheets, each number of a
+//! file spoiled with the refusal that document 01 tells of it, and files cut
+//! and damaged; `tables` has the tables. HOACHULIM_SEED gives another seed,
+//! HOACHULIM_ROUNDS a factor for longer runs.
 
-use crate::common::{broken, encode, file, groups, in_form_2, p_fields, two_rooms, with, Field, Random, Raw, F, S, U};
+use crate::common::{broken, encode, file, in_form_2, p_fields, two_rooms, with, Field, Random, Raw, F, S, U};
 use crate::Told;
-use second::boxes::Box;
 use second::plant::Plant;
-use second::tile::tile_rule;
 
 fn from_environment(name: &str, otherwise: u64) -> u64 {
     std::env::var(name).map_or(otherwise, |value| value.parse().expect("a whole number"))
@@ -43,12 +41,25 @@ impl Random {
     }
 }
 
+/// R's sides, hi − lo of each: any; all alike, or all but one that is a count shorter, so that several are the longest; or one long, the others short.
+fn lengths(random: &mut Random, n: i64) -> Vec<i64> {
+    let (kind, long, own) = (random.within(0, 5), random.within(1, 40), random.within(0, n - 1));
+    let length = |i| match kind {
+        0 => long,
+        1 => long - i64::from(i == own),
+        2 if i == own => long,
+        2 => random.within(0, 3),
+        _ => random.within(0, 40),
+    };
+    (0..n).map(length).collect()
+}
+
 /// R, S and the one band of n rooms, sound; wild ones reach the ends of the ranges.
 fn edges(random: &mut Random, wild: bool, n: i64, q: i64) -> Vec<Field> {
     let mut fields = Vec::new();
-    for _ in 0..n {
+    for length in lengths(random, n) {
         let lo = random.extreme(wild, -40, 40, EDGE).min(EDGE - 40);
-        let hi = lo + random.within(0, 40);
+        let hi = lo + length;
         let s_lo = if wild && random.chance(3) { -EDGE } else { (lo - random.within(0, 30)).max(-EDGE) };
         let s_hi = if wild && random.chance(3) { EDGE } else { (hi + random.within(0, 30)).min(EDGE) };
         fields.extend([lo, hi, s_lo, s_hi].map(S));
@@ -66,7 +77,7 @@ fn band(random: &mut Random, wild: bool, q: i64) -> [Field; 2] {
 
 /// A sound plant of either form.
 pub fn plant_fields(random: &mut Random) -> Vec<Field> {
-    let fields = form_1_fields(random);
+    let fields = if random.chance(5) { parted_fields(random) } else { form_1_fields(random) };
     if random.chance(2) { fields } else { with_own_bands(random, &fields) }
 }
 
@@ -86,10 +97,10 @@ fn with_own_bands(random: &mut Random, fields: &[Field]) -> Vec<Field> {
 }
 
 /// A sound plant of form 1, of 1 to 4 rooms. Half of them are steered: each mode draws towards a point in or about R, so that many have a table. Some of
-/// one room have over a hundred modes, the first of them leading far away, so that tables have modes of two bytes.
+/// one room or two have over a hundred modes, the first of them leading far away, so that tables have modes of two bytes.
 fn form_1_fields(random: &mut Random) -> Vec<Field> {
     let (wild, steered, many) = (random.chance(8), random.chance(2), random.chance(30));
-    let n = if many { 1 } else { random.within(1, 4) };
+    let n = if many { random.one(&[1, 1, 2]) } else { random.within(1, 4) };
     let q = if wild { random.one(&[1, 2, 10_000]) } else { random.within(1, 20) };
     let (few, hundreds) = (random.within(1, 4), random.one(&[127, 128, 129, 255, 256]));
     let modes = if many { hundreds } else if random.chance(20) { 16 } else { few };
@@ -99,7 +110,7 @@ fn form_1_fields(random: &mut Random) -> Vec<Field> {
     let d = random.within(0, if deep { 6.min(12 / n) } else { 2 });
     let mut fields = vec![U(1), U(n as u64), U(modes as u64), U(q as u64), U(k as u64), U(d as u64)];
     fields.extend(edges(random, wild, n, q));
-    fields.extend([0, B].repeat(away as usize).into_iter().map(S));
+    fields.extend([vec![0; n as usize], vec![B]].concat().repeat((n * away) as usize).into_iter().map(S));
     for _ in away..modes {
         let r = fields[6..6 + 4 * n as usize].chunks(4).map(|room| (signed(&room[0]), signed(&room[1])));
         let towards: Vec<i64> = r.map(|(lo, hi)| random.within(lo - 3, hi + 3)).collect();
@@ -114,6 +125,54 @@ fn form_1_fields(random: &mut Random) -> Vec<Field> {
         }
     }
     fields
+}
+
+/// A sound plant of form 1 whose tiles have to be small: each side of R has some parts, and each mode takes one part of every side over all of R, so that
+/// no much larger box works. In some the parts are a count off.
+fn parted_fields(random: &mut Random) -> Vec<Field> {
+    let (n, q, reach, off) = (random.within(1, 4), random.within(1, 20), random.one(&[0, 0, 5, 30]), random.one(&[0, 0, 1]));
+    let parts = parts(random, n);
+    let modes: i64 = parts.iter().product();
+    let (k, d) = (random.within(1, if modes > 4 { 2 } else { 3 }), depth_for(random, &parts));
+    let mut fields = [1, n, modes, q, k, d].map(|number| U(number as u64)).to_vec();
+    let alike = random.within(1, 8);
+    let lengths = if random.chance(2) { lengths(random, n) } else { parts.iter().map(|parts| parts * alike - 1).collect() };
+    let mut r = Vec::new();
+    for length in lengths {
+        let (lo, [below, above]) = (random.within(-60, 40), [0; 2].map(|_| random.within(0, reach)));
+        r.push((lo, lo + length));
+        fields.extend([lo, lo + length, lo - below, lo + length + above].map(S));
+    }
+    fields.extend([-(q / 2), q - 1 - q / 2].repeat(n as usize).into_iter().map(S));
+    for mut mode in 0..modes {
+        for (i, ((lo, hi), parts)) in r.iter().zip(&parts).enumerate() {
+            let first = lo + mode % parts * (hi - lo + 1) / parts + random.within(-off, off);
+            mode /= parts;
+            fields.extend((0..n as usize).map(|j| S(if i == j { q * parts } else { 0 })).chain([S(q * (lo - parts * first))]));
+        }
+    }
+    fields
+}
+
+/// How many parts each side has, a power of 2; at most sixteen of all sides.
+fn parts(random: &mut Random, n: i64) -> Vec<i64> {
+    let mut left = 16;
+    let mut parts = Vec::new();
+    for _ in 0..n {
+        parts.push(random.one(&[1, 2, 4, 8]).min(left));
+        left /= parts[parts.len() - 1];
+    }
+    parts.rotate_left(random.within(0, n - 1) as usize);
+    parts
+}
+
+/// D, often just as much as one of the forms needs: all halvings there are, over n, and the most of one side.
+fn depth_for(random: &mut Random, parts: &[i64]) -> i64 {
+    let n = parts.len() as i64;
+    let halvings = parts.iter().map(|parts| i64::from(parts.ilog2()));
+    let (all, most) = (halvings.clone().sum::<i64>(), halvings.max().unwrap_or(0));
+    let any = random.within(1, 6.min(12 / n));
+    random.one(&[(all + n - 1) / n, most, any]).min(12 / n)
 }
 
 /// A float whose product with `factor` lies within a few ulps of a half, often of the one behind the limit.
@@ -374,50 +433,6 @@ pub fn damaged(random: &mut Random, bytes: &[u8], mut one: impl FnMut(&[u8])) {
     for behind in [0, 1, 0x80] {
         one(&[bytes, &[behind]].concat());
     }
-}
-
-/// The defined table, where the plant has one.
-pub fn made_table(plant: &[u8]) -> Option<Vec<u8>> {
-    let mut table = vec![0; second::LARGEST_TABLE];
-    let length = second::maker::make(plant, &mut table).ok()?;
-    table.truncate(length);
-    Some(table)
-}
-
-/// Bytes that are often splits, short tiles and modes, and now and then the first of a mode of two bytes.
-pub fn any_tree(random: &mut Random, n: u8) -> Vec<u8> {
-    let mut table = vec![1, n];
-    table.extend((0..random.within(1, 60)).map(|_| if random.chance(40) { random.one(&[127, 128, 200, 255]) } else { random.within(0, 3) as u8 }));
-    table
-}
-
-/// A table that keeps every rule, with whatever patterns and splits chance tries first; None where it does not come upon one.
-pub fn other_table(random: &mut Random, plant: &Plant) -> Option<Vec<u8>> {
-    other_table_of(random, plant, &plant.r(), &plant.r())
-}
-
-/// The same of a table that covers `root` with patterns that end in `goal`.
-pub fn other_table_of(random: &mut Random, plant: &Plant, root: &Box, goal: &Box) -> Option<Vec<u8>> {
-    let mut table = vec![1, plant.n as u8];
-    grown(random, plant, goal, root, plant.d, &mut table).then_some(table)
-}
-
-fn grown(random: &mut Random, plant: &Plant, goal: &Box, here: &Box, depth_left: u64, table: &mut Vec<u8>) -> bool {
-    let split = if depth_left > 0 { here.split() } else { None };
-    if split.is_none() || !random.chance(3) {
-        for _ in 0..40 {
-            let length = random.within(1, plant.k as i64);
-            let pattern: Vec<u8> = (0..length).map(|_| random.within(0, plant.modes as i64 - 1) as u8).collect();
-            if tile_rule(plant, goal, here, &pattern, 0).is_ok() {
-                table.push(length as u8);
-                table.extend(pattern.into_iter().flat_map(|mode| groups(mode.into())));
-                return true;
-            }
-        }
-    }
-    let Some(mut children) = split else { return false };
-    table.push(0);
-    children.all(|child| grown(random, plant, goal, &child, depth_left - 1, table))
 }
 
 /// A reading at, beside or between the edges of R and S, now and then as far off as can be.

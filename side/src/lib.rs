@@ -8,6 +8,7 @@ pub mod largest;
 pub mod rooms;
 pub mod seen;
 pub mod starts;
+pub mod tables;
 
 /// Number, place, step.
 pub type Told = (u64, u64, u64);
@@ -34,6 +35,7 @@ extern "C" {
     fn hoachulim_make(
         plant: *const u8,
         plant_length: u64,
+        form: u64,
         buffer: *mut u8,
         buffer_length: u64,
         out: *mut u64,
@@ -56,6 +58,7 @@ extern "C" {
         plant_length: u64,
         chain: *const u8,
         chain_length: u64,
+        form: u64,
         buffer: *mut u8,
         buffer_length: u64,
         out: *mut u64,
@@ -108,11 +111,11 @@ pub fn check(plant: &[u8], table: &[u8]) -> Told {
     (number, out[0], out[1])
 }
 
-/// The table that the library makes of a plant's bytes: number, and length written or place, and step.
-pub fn make(plant: &[u8], buffer: &mut [u8]) -> Told {
+/// The table of a form that the library makes of a plant's bytes: number, and length written or place, and step.
+pub fn make(plant: &[u8], form: u64, buffer: &mut [u8]) -> Told {
     let mut out = [u64::MAX; 2];
     let number = unsafe {
-        hoachulim_make(plant.as_ptr(), plant.len() as u64, buffer.as_mut_ptr(), buffer.len() as u64, out.as_mut_ptr())
+        hoachulim_make(plant.as_ptr(), plant.len() as u64, form, buffer.as_mut_ptr(), buffer.len() as u64, out.as_mut_ptr())
     };
     (number, out[0], out[1])
 }
@@ -138,8 +141,8 @@ pub fn control(plant: &[u8], table: &[u8], place: u64, left: u64, x: [i64; 4]) -
     (mode, out)
 }
 
-/// The start file that the library makes of a plant's and a chain's bytes: number, and length written or place, and step.
-pub fn start_make(plant: &[u8], chain: &[u8], buffer: &mut [u8]) -> Told {
+/// The start file that the library makes of a plant's and a chain's bytes, its tables of a form: number, and length written or place, and step.
+pub fn start_make(plant: &[u8], chain: &[u8], form: u64, buffer: &mut [u8]) -> Told {
     let mut out = [u64::MAX; 2];
     let number = unsafe {
         hoachulim_start_make(
@@ -147,6 +150,7 @@ pub fn start_make(plant: &[u8], chain: &[u8], buffer: &mut [u8]) -> Told {
             plant.len() as u64,
             chain.as_ptr(),
             chain.len() as u64,
+            form,
             buffer.as_mut_ptr(),
             buffer.len() as u64,
             out.as_mut_ptr(),
@@ -189,25 +193,31 @@ pub fn start_control(plant: &[u8], start: &[u8], [index, place, left]: Standing,
     (mode, out)
 }
 
-/// The plant whose defined table has 30,039 bytes, the most there can be of modes of one byte.
+/// The plant whose defined table has the most bytes there can be of modes of one byte: 30,039 in form 1, 32,769 in form 3.
 pub fn largest_table_plant() -> Vec<u8> {
-    turn_as_mode(0, 1000)
+    turn_as_mode(2, 0, 1000)
 }
 
-/// The plant whose defined table has 54,615 bytes, the most there can be.
+/// The plant whose defined table has the most bytes there can be: 54,615 in form 1, 57,345 in form 3.
 pub fn longest_table_plant() -> Vec<u8> {
-    turn_as_mode(128, 1000)
+    turn_as_mode(2, 128, 1000)
 }
 
-/// R is 64 by 64 counts from `lo` on. The last mode turns a reading by a sixth, so that six times it is back, and no larger tile works; each mode before
-/// it leads out of S at once.
-pub fn turn_as_mode(mode: usize, lo: i64) -> Vec<u8> {
+/// R is 64 by 64 counts from `lo` on, or in four rooms 8 counts in each. The last mode turns a reading by a sixth, in each pair of rooms, so that six
+/// times it is back, and no larger tile works; each mode before it leads out of S at once.
+pub fn turn_as_mode(rooms: usize, mode: usize, lo: i64) -> Vec<u8> {
     use common::{file, S, U};
-    let limit = 1_000_000;
-    let mut fields = vec![U(1), U(2), U(mode as u64 + 1), U(1), U(6), U(6)];
-    fields.extend([lo, lo + 63, -limit, limit, lo, lo + 63, -limit, limit, 0, 0, 0, 0].map(S));
-    fields.extend([0, 0, 2 * limit, 0, 0, 0].repeat(mode).into_iter().map(S));
-    fields.extend([4, -13, 0, 1, -3, 0].map(S));
+    let (n, limit, counts) = (rooms as u64, 1_000_000, if rooms == 2 { 64 } else { 8 });
+    let mut fields = [1, n, mode as u64 + 1, 1, 6, 12 / n].map(U).to_vec();
+    let away = [vec![0; rooms], vec![2 * limit], vec![0; (rooms - 1) * (rooms + 1)]].concat();
+    let row = |i: usize| {
+        let turn = [[4, -13], [1, -3]][i % 2];
+        (0..rooms).map(move |j| if j / 2 == i / 2 { turn[j % 2] } else { 0 }).chain([0])
+    };
+    fields.extend([lo, lo + counts - 1, -limit, limit].repeat(rooms).into_iter().map(S));
+    fields.extend(vec![S(0); 2 * rooms]);
+    fields.extend(away.repeat(mode).into_iter().map(S));
+    fields.extend((0..rooms).flat_map(row).map(S));
     file(&fields)
 }
 

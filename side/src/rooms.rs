@@ -1,7 +1,6 @@
 //! Rooms that do what the plant allows, for the tests that drive them.
 
 use crate::common::Random;
-use second::numbers::read_unsigned;
 use second::plant::Plant;
 
 /// Which of the readings that may follow does.
@@ -34,18 +33,4 @@ pub fn following(random: &mut Random, next: Next, sample: usize, plant: &Plant, 
         };
     }
     y
-}
-
-/// The longest pattern of an accepted table: tiles and splits stand in a row, a split being a pattern of no modes.
-pub fn longest_pattern(table: &[u8]) -> usize {
-    let (mut at, mut longest) = (2, 0);
-    while at < table.len() {
-        let length = usize::from(table[at]);
-        longest = longest.max(length);
-        at += 1;
-        for _ in 0..length {
-            (_, at) = read_unsigned(table, at).expect("a mode");
-        }
-    }
-    longest
 }

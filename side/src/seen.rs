@@ -68,8 +68,13 @@ impl Seen {
         answer
     }
 
-    pub fn make(&mut self, plant: &[u8], length: usize) -> Told {
-        let answer = written(plant, length, crate::make, second::maker::make);
+    pub fn make(&mut self, plant: &[u8], form: u64, length: usize) -> Told {
+        let answer = written(
+            &(plant, form),
+            length,
+            |(plant, form), buffer| crate::make(plant, *form, buffer),
+            |(plant, form), buffer| second::maker::make(plant, *form, buffer),
+        );
         self.make[answer.0 as usize] += 1;
         answer
     }
@@ -93,12 +98,12 @@ impl Seen {
         answer
     }
 
-    pub fn start_make(&mut self, plant: &[u8], chain: &[u8], length: usize) -> Told {
+    pub fn start_make(&mut self, plant: &[u8], chain: &[u8], form: u64, length: usize) -> Told {
         let answer = written(
-            &(plant, chain),
+            &(plant, chain, form),
             length,
-            |(plant, chain), buffer| crate::start_make(plant, chain, buffer),
-            |(plant, chain), buffer| second::start::start_make_into(plant, chain, buffer),
+            |(plant, chain, form), buffer| crate::start_make(plant, chain, *form, buffer),
+            |(plant, chain, form), buffer| second::start::start_make_into(plant, chain, *form, buffer),
         );
         self.start_make[answer.0 as usize] += 1;
         answer

@@ -5,7 +5,8 @@
 //! about the boxes.
 
 use crate::common::{broken, chain_fields, encode, file, start_fields, with, Field, Random, Raw, S, U};
-use crate::inputs::{any_tree, other_table_of, outside, signed, EDGE};
+use crate::inputs::{outside, signed, EDGE};
+use crate::tables::{any_form, any_tree, other_table_of, FORMS};
 use crate::{Standing, Told};
 use second::chain::Chain;
 use second::file::File;
@@ -49,6 +50,10 @@ impl Start {
         other
     }
 
+    pub fn has_both_forms(&self) -> bool {
+        FORMS.iter().all(|form| self.tables.iter().any(|table| u64::from(table[0]) == *form))
+    }
+
     /// Where the byte length of a table stands among the fields.
     pub fn length_field(&self, index: usize) -> usize {
         self.chain.len() + 2 * index
@@ -78,15 +83,33 @@ pub fn any_chain(random: &mut Random, plant: &Plant) -> Vec<Field> {
     chain_fields(&boxes)
 }
 
-/// The made start file, where there is one.
-pub fn made_start(plant: &[u8], chain: &[Field]) -> Option<Start> {
-    start_make(plant, &file(chain)).ok().map(|bytes| Start::of(chain, &bytes))
+/// The made start file, its tables of a form, where there is one.
+pub fn made_start(plant: &[u8], chain: &[Field], form: u64) -> Option<Start> {
+    start_make(plant, &file(chain), form).ok().map(|bytes| Start::of(chain, &bytes))
 }
 
-/// A start file that keeps every rule, with tables that chance came upon; None where it does not for some box.
+/// The made start files of both forms, as far as there are any, and one with tables of both.
+pub fn made_starts(random: &mut Random, plant: &[u8], chain: &[Field]) -> Vec<Start> {
+    with_mixed(random, FORMS.iter().filter_map(|form| made_start(plant, chain, *form)).collect())
+}
+
+/// Start files of one plant and chain; where there are two, also one that has each table from either by chance.
+pub fn with_mixed(random: &mut Random, mut all: Vec<Start>) -> Vec<Start> {
+    if let [one, other] = &all[..] {
+        let pairs = one.tables.iter().zip(&other.tables);
+        let tables = pairs.map(|(one, other)| if random.chance(2) { one.clone() } else { other.clone() }).collect();
+        all.push(Start { chain: one.chain.clone(), tables });
+    }
+    all
+}
+
+/// A start file that keeps every rule, with tables of either form that chance came upon; None where it does not for some box.
 pub fn other_start(random: &mut Random, plant: &Plant, chain: &[Field]) -> Option<Start> {
     let boxes = boxes_of(plant, chain);
-    let table = |index| other_table_of(random, plant, boxes.root(index), boxes.goal(index));
+    let table = |index| {
+        let form = any_form(random);
+        other_table_of(random, plant, form, boxes.root(index), boxes.goal(index))
+    };
     let tables: Option<Vec<_>> = (0..=boxes.m()).map(table).collect();
     tables.map(|tables| Start { chain: chain.to_vec(), tables })
 }

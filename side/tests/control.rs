@@ -1,17 +1,21 @@
 //! The controller's call side by side: readings around R and S, states that
-//! can be and cannot, tables whole, cut and damaged.
+//! can be and cannot, tables of both forms whole, cut, damaged and under every
+//! other form.
 
-use side::inputs::{made_table, papers_plants, random, rounds};
-use side::seen::Seen;
+use second::plant::read_plant;
+use side::common::file;
+use side::inputs::{any_reading, any_state, papers_plants, plant_fields, random, rounds};
+use side::seen::{each_came, Seen};
+use side::tables::{in_no_form, in_other_form, made_table, made_tables, FORMS};
 use side::{largest_table_plant, longest_table_plant, NO_MODE};
 
 #[test]
 fn states_and_readings_of_the_papers_plants() {
     let (mut random, mut seen) = (random(3), Seen::default());
-    for plant in papers_plants() {
-        let Some(table) = made_table(&plant) else { continue };
+    let with_tables = papers_plants().into_iter().flat_map(|plant| made_tables(&plant).into_iter().map(move |table| (plant.clone(), table)));
+    for (plant, table) in with_tables {
         let length = table.len() as i64;
-        for _ in 0..rounds(20_000) {
+        for _ in 0..rounds(10_000) {
             let mut other = table.clone();
             match random.within(0, 3) {
                 0 => other.truncate(random.within(0, length) as usize),
@@ -30,7 +34,7 @@ fn states_and_readings_of_the_papers_plants() {
             seen.control(&plant, &other, place, left, x);
         }
     }
-    for number in [0, 1, 6, 11, 12] {
+    for number in [0, 1, 2, 6, 11, 12] {
         assert!(seen.control[number] > 100, "{number}: {:?}", seen.control);
     }
 }
@@ -38,13 +42,15 @@ fn states_and_readings_of_the_papers_plants() {
 #[test]
 fn every_corner_of_the_largest_tables() {
     for plant in [largest_table_plant(), longest_table_plant()] {
-        every_corner(&plant);
+        for form in FORMS {
+            every_corner(&plant, form);
+        }
     }
 }
 
-fn every_corner(plant: &[u8]) {
+fn every_corner(plant: &[u8], form: u64) {
     let mut seen = Seen::default();
-    let table = made_table(plant).expect("a plant with a table");
+    let table = made_table(plant, form).expect("a plant with a table");
     for (a, b) in [(1000, 1000), (1063, 1063), (1000, 1063), (1031, 1032), (999, 1000), (1063, 1064)] {
         let (mut place, mut left) = (0, 0);
         let mut x = [a, b, 0, 0];
@@ -58,4 +64,30 @@ fn every_corner(plant: &[u8]) {
             x = [4 * x[0] - 13 * x[1], x[0] - 3 * x[1], 0, 0];
         }
     }
+    assert!(seen.control[0] > 20 && seen.control[11] > 1, "{:?}", seen.control);
+}
+
+/// Under the other form a call finds other tiles, and under none it tells so before the state and the reading.
+#[test]
+fn tables_under_another_form() {
+    let (mut random, mut seen, mut others) = (random(11), Seen::default(), Seen::default());
+    let mut otherwise = 0;
+    for _ in 0..rounds(4_000) {
+        let bytes = file(&plant_fields(&mut random));
+        let plant = read_plant(&bytes).expect("a sound plant");
+        for table in made_tables(&bytes) {
+            let ((place, left), x) = (any_state(&mut random, &table), any_reading(&mut random, &plant));
+            for (other, wanted) in in_no_form(&table) {
+                assert_eq!(seen.control(&bytes, &other, place, left, x), (NO_MODE, [wanted.0, 0, 0, 0, 0]));
+            }
+            for x in [plant.edges.r_lo, plant.edges.r_hi, any_reading(&mut random, &plant)] {
+                let own = others.control(&bytes, &table, 0, 0, x);
+                otherwise += usize::from(others.control(&bytes, &in_other_form(&table), 0, 0, x) != own);
+            }
+        }
+    }
+    println!("{otherwise} calls answered otherwise");
+    assert!(otherwise > 100, "{otherwise}");
+    each_came("control, the other form", &others.control, &[0, 1, 6, 11], 20);
+    each_came("control, no form", &seen.control, &[1, 2], 1_000);
 }

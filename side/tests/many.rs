@@ -7,10 +7,9 @@
 
 use second::plant::read_plant;
 use side::common::{file, Field, Random, S, U};
-use side::inputs::{
-    any_reading, any_state, any_tree, damaged, made_table, other_forms, other_table, plant_fields, random, rounds, sheet_fields, spoiled,
-};
+use side::inputs::{any_reading, any_state, damaged, other_forms, plant_fields, random, rounds, sheet_fields, spoiled};
 use side::seen::{each_came, Seen};
+use side::tables::{any_form, any_told_form, any_tree, in_no_form, in_other_form, made_table, other_table, FORMS};
 use side::NO_MODE;
 
 /// The numbers that each function can tell.
@@ -25,8 +24,10 @@ const CAN_BE_TOLD: [&[usize]; 5] = [
 #[test]
 fn many_comparisons() {
     let (mut random, mut seen) = (random(7), Seen::default());
-    every_kind_of_place_in_tables(&mut seen);
-    every_kind_of_state_and_reading(&mut seen);
+    for form in FORMS {
+        every_kind_of_place_in_tables(&mut seen, form as u8);
+        every_kind_of_state_and_reading(&mut seen, form as u8);
+    }
     for _ in 0..rounds(400) {
         let fields = plant_fields(&mut random);
         plants(&mut random, &mut seen, &fields);
@@ -35,7 +36,8 @@ fn many_comparisons() {
         sheets(&mut random, &mut seen, &fields);
         for _ in 0..20 {
             let length = random.one(&[0, 3, 20, second::LARGEST_TABLE]);
-            seen.make(&file(&plant_fields(&mut random)), length);
+            let form = any_told_form(&mut random);
+            seen.make(&file(&plant_fields(&mut random)), form, length);
             seen.sheet(&file(&sheet_fields(&mut random)), second::LARGEST_PLANT);
         }
     }
@@ -49,10 +51,11 @@ fn many_comparisons() {
 /// What is told of a plant is told by every function that takes one.
 fn plants(random: &mut Random, seen: &mut Seen, fields: &[Field]) {
     for (bytes, wanted) in spoiled(fields) {
+        let form = any_form(random);
         assert_eq!(seen.plant(&bytes), wanted);
-        assert_eq!(seen.make(&bytes, 9), wanted);
-        assert_eq!(seen.check(&bytes, &[1, 1, 1, 0]), wanted);
-        assert_eq!(seen.control(&bytes, &[1, 1, 1, 0], 0, 0, [0; 4]), (NO_MODE, [wanted.0, wanted.1, wanted.2, 0, 0]));
+        assert_eq!(seen.make(&bytes, form, 9), wanted);
+        assert_eq!(seen.check(&bytes, &[form as u8, 1, 1, 0]), wanted);
+        assert_eq!(seen.control(&bytes, &[form as u8, 1, 1, 0], 0, 0, [0; 4]), (NO_MODE, [wanted.0, wanted.1, wanted.2, 0, 0]));
     }
     for bytes in other_forms(fields) {
         seen.plant(&bytes);
@@ -67,21 +70,22 @@ fn plants(random: &mut Random, seen: &mut Seen, fields: &[Field]) {
 
 /// The made table, another one and a tree of any bytes, in the maker, the checker and the controller.
 fn tables(random: &mut Random, seen: &mut Seen, bytes: &[u8]) {
-    let plant = read_plant(bytes).expect("a sound plant");
-    let (number, made, _) = seen.make(bytes, second::LARGEST_TABLE);
+    let (plant, form) = (read_plant(bytes).expect("a sound plant"), any_form(random));
+    let (number, made, _) = seen.make(bytes, form, second::LARGEST_TABLE);
     let mut all = vec![any_tree(random, bytes[1])];
     if number == 0 {
         for length in [0, 1, made as usize - 1, made as usize, made as usize + 1] {
-            seen.make(bytes, length);
+            seen.make(bytes, form, length);
         }
-        all.extend(made_table(bytes));
+        all.extend(made_table(bytes, form));
     }
-    all.extend(other_table(random, &plant));
+    all.extend(other_table(random, &plant, form));
     for table in &all[1..] {
         assert_eq!(seen.check(bytes, table), (0, 0, 0), "{bytes:?} {table:?}");
     }
     for table in all {
-        let mut others = vec![table.clone(); 20];
+        let mut others = [vec![table.clone(); 20], vec![in_other_form(&table); 5]].concat();
+        others.extend(in_no_form(&table).into_iter().map(|(other, _)| other));
         damaged(random, &table, |other| others.push(other.to_vec()));
         for other in others {
             seen.check(bytes, &other);
@@ -122,10 +126,57 @@ fn adding(n: usize, depth: u64) -> Vec<u8> {
     file(&fields)
 }
 
+/// Tables of form 1 for one room, each with its fault and the place of it, 1, 2 and 6.
+const FAULTS: [(&[u8], (u64, u64)); 21] = [
+    (&[], (1, 0)),
+    (&[0x81, 0], (1, 0)),
+    (&[0x83, 0], (1, 0)),
+    (&[1], (1, 1)),
+    (&[1, 0x80], (1, 1)),
+    (&[1, 1], (1, 2)),
+    (&[1, 1, 0x81, 0], (1, 2)),
+    (&[1, 1, 2, 0], (1, 4)),
+    (&[1, 1, 1, 0x80, 0x80, 0x80, 0x80, 0x80, 1], (1, 3)),
+    (&[0], (2, 0)),
+    (&[2, 1, 1, 0], (2, 0)),
+    (&[0x81, 1], (2, 0)),
+    (&[0x83, 1, 1, 1, 0], (2, 0)),
+    (&[1, 0], (6, 1)),
+    (&[1, 2], (6, 1)),
+    (&[1, 0x81, 1], (6, 1)),
+    (&[1, 1, 7], (6, 2)),
+    (&[1, 1, 2, 0, 3], (6, 4)),
+    (&[1, 1, 2, 0x80, 1, 0], (6, 3)),
+    (&[1, 1, 0, 0], (6, 3)),
+    (&[1, 1, 0, 1, 0, 0], (6, 5)),
+];
+
+/// A table of form 1 as one of another form: in one room both split alike, and a form that is not known stays as it is.
+fn of_form(form: u8, table: &[u8]) -> Vec<u8> {
+    table.iter().enumerate().map(|(at, byte)| if (at, *byte) == (0, 1) { form } else { *byte }).collect()
+}
+
 /// 1, 2, 6, 7 and 8 of a table: each cause, place and step.
-fn every_kind_of_place_in_tables(seen: &mut Seen) {
+fn every_kind_of_place_in_tables(seen: &mut Seen, form: u8) {
+    every_step(seen, form);
+    for (table, (number, place)) in FAULTS {
+        let table = of_form(form, table);
+        // the same of a split with no depth left and of one with no side left; and by the controller, idle
+        for plant in [adding(1, 1), adding(1, 2)] {
+            assert_eq!(seen.check(&plant, &table), (number, place, 0), "{table:?}");
+            assert_eq!(seen.control(&plant, &table, 0, 0, [1; 4]), (NO_MODE, [number, place, 0, 0, 0]), "{table:?}");
+        }
+    }
+    // what is behind the tile is told by the checker alone; a tile that is passed is read
     let plant = adding(1, 1);
-    let upper = [1, 1, 0, 1, 0];
+    assert_eq!(seen.check(&plant, &[form, 1, 1, 0, 9]), (6, 4, 0));
+    assert_eq!(seen.control(&plant, &[form, 1, 1, 0, 9], 0, 0, [0; 4]), (0, [0; 5]));
+    assert_eq!(seen.control(&plant, &[form, 1, 0, 1, 3, 1, 0], 0, 0, [1; 4]), (NO_MODE, [6, 4, 0, 0, 0]));
+}
+
+/// 7 at every step of patterns of every length, and 8, in the first tile and behind another.
+fn every_step(seen: &mut Seen, form: u8) {
+    let (plant, upper) = (adding(1, 1), [form, 1, 0, 1, 0]);
     for length in 1..=6 {
         for step in 1..=length {
             let mut pattern = vec![0; length];
@@ -139,42 +190,12 @@ fn every_kind_of_place_in_tables(seen: &mut Seen) {
             assert_eq!(seen.check(&plant, &[&upper[..], &tile].concat()), (8, 5, length as u64));
         }
     }
-    let told: [(&[u8], (u64, u64)); 17] = [
-        (&[], (1, 0)),
-        (&[0x81, 0], (1, 0)),
-        (&[1], (1, 1)),
-        (&[1, 0x80], (1, 1)),
-        (&[1, 1], (1, 2)),
-        (&[1, 1, 0x81, 0], (1, 2)),
-        (&[1, 1, 2, 0], (1, 4)),
-        (&[1, 1, 1, 0x80, 0x80, 0x80, 0x80, 0x80, 1], (1, 3)),
-        (&[0], (2, 0)),
-        (&[0x81, 1], (2, 0)),
-        (&[1, 0], (6, 1)),
-        (&[1, 2], (6, 1)),
-        (&[1, 0x81, 1], (6, 1)),
-        (&[1, 1, 7], (6, 2)),
-        (&[1, 1, 2, 0, 3], (6, 4)),
-        (&[1, 1, 2, 0x80, 1, 0], (6, 3)),
-        (&[1, 1, 0, 0], (6, 3)),
-    ];
-    for (table, (number, place)) in told {
-        // the same of a split with no depth left and of one with no side left; and by the controller, idle
-        for plant in [adding(1, 1), adding(1, 2)] {
-            assert_eq!(seen.check(&plant, table), (number, place, 0), "{table:?}");
-            assert_eq!(seen.control(&plant, table, 0, 0, [0; 4]), (NO_MODE, [number, place, 0, 0, 0]), "{table:?}");
-        }
-    }
-    // what is behind the tile is told by the checker alone; a tile that is passed is read
-    assert_eq!(seen.check(&plant, &[1, 1, 1, 0, 9]), (6, 4, 0));
-    assert_eq!(seen.control(&plant, &[1, 1, 1, 0, 9], 0, 0, [0; 4]), (0, [0; 5]));
-    assert_eq!(seen.control(&plant, &[1, 1, 0, 1, 3, 1, 0], 0, 0, [1; 4]), (NO_MODE, [6, 4, 0, 0, 0]));
 }
 
 /// 11 at each dimension, idle and running; 12 of each cause.
-fn every_kind_of_state_and_reading(seen: &mut Seen) {
+fn every_kind_of_state_and_reading(seen: &mut Seen, form: u8) {
     for n in 1..=4 {
-        let (plant, table) = (adding(n, 0), [1, n as u8, 3, 0, 1, 2]);
+        let (plant, table) = (adding(n, 0), [form, n as u8, 3, 0, 1, 2]);
         for (place, left, last) in [(0, 0, [0, 1]), (4, 2, [-10, 10])] {
             for i in 0..4 {
                 for (end, beyond) in [(last[0], -1), (last[1], 1)] {
@@ -195,6 +216,6 @@ fn every_kind_of_state_and_reading(seen: &mut Seen) {
         }
         // the mode there is no mode: the tile's own 3, and a byte with the high bit set
         assert_eq!(seen.control(&plant, &table, 2, 1, [0; 4]), (NO_MODE, [12, 0, 0, 0, 0]));
-        assert_eq!(seen.control(&plant, &[1, n as u8, 1, 0x80], 3, 1, [0; 4]), (NO_MODE, [12, 0, 0, 0, 0]));
+        assert_eq!(seen.control(&plant, &[form, n as u8, 1, 0x80], 3, 1, [0; 4]), (NO_MODE, [12, 0, 0, 0, 0]));
     }
 }

@@ -5,9 +5,10 @@
 
 use second::plant::read_plant;
 use side::common::{chain_fields, encode, file, groups, p_prime, with, Field, Random, S, T5, U};
-use side::inputs::{any_reading, any_state, damaged, made_table, other_table, plant_fields, random, rounds};
+use side::inputs::{any_reading, any_state, damaged, plant_fields, random, rounds};
 use side::rooms::{following, EVERY_NEXT};
 use side::seen::{each_came, Seen};
+use side::tables::{any_form, made_table, other_table, FORMS};
 use side::NO_MODE;
 
 /// One room, R 0..9, S 0..30, q 1, no band; the modes named have this A and b, and every other leads out of S.
@@ -41,11 +42,13 @@ fn n_about_128_and_256() {
         let (bytes, places) = encode(&fields);
         assert_eq!(places[3], if modes < 128 { 3 } else { 4 });
         assert_eq!(seen.plant(&bytes), (0, 0, 0));
-        let table = [&[1, 1, 1], &groups(modes as u128 - 1)[..]].concat();
-        assert_eq!(seen.make(&bytes, table.len()), (0, table.len() as u64, 0));
-        assert_eq!(seen.make(&bytes, table.len() - 1), (10, 0, 0));
-        assert_eq!(seen.check(&bytes, &table), (0, 0, 0));
-        assert_eq!(call(&mut seen, &bytes, &table, 0, 0), (modes as u64 - 1, [0; 5]));
+        for form in FORMS {
+            let table = [&[form as u8, 1, 1], &groups(modes as u128 - 1)[..]].concat();
+            assert_eq!(seen.make(&bytes, form, table.len()), (0, table.len() as u64, 0));
+            assert_eq!(seen.make(&bytes, form, table.len() - 1), (10, 0, 0));
+            assert_eq!(seen.check(&bytes, &table), (0, 0, 0));
+            assert_eq!(call(&mut seen, &bytes, &table, 0, 0), (modes as u64 - 1, [0; 5]));
+        }
         // a mode more or fewer than N says
         assert_eq!(seen.plant(&file(&with(&fields, 2, U(modes as u64 - 1)))).0, 3);
         assert_eq!(seen.plant(&file(&with(&fields, 2, U(modes as u64 + 1)))).0, if modes == 256 { 3 } else { 1 });
@@ -61,31 +64,36 @@ fn modes_of_one_byte_and_of_two() {
     let mut seen = Seen::default();
     for (mode, bytes) in [(0, vec![0]), (127, vec![127]), (128, vec![0x80, 1]), (200, vec![0xC8, 1]), (255, vec![0xFF, 1])] {
         let plant = file(&one_room(256, 1, &[(mode, 0, 4)]));
-        let table = [&[1, 1, 1], &bytes[..]].concat();
-        assert_eq!(made_table(&plant).as_ref(), Some(&table));
-        assert_eq!(seen.make(&plant, 9), (0, table.len() as u64, 0));
-        assert_eq!(seen.check(&plant, &table), (0, 0, 0));
-        for (place, left) in [(0, 0), (3, 1)] {
-            assert_eq!(call(&mut seen, &plant, &table, place, left), (mode as u64, [0; 5]));
+        for form in FORMS {
+            let table = [&[form as u8, 1, 1], &bytes[..]].concat();
+            assert_eq!(made_table(&plant, form).as_ref(), Some(&table));
+            assert_eq!(seen.make(&plant, form, 9), (0, table.len() as u64, 0));
+            assert_eq!(seen.check(&plant, &table), (0, 0, 0));
+            for (place, left) in [(0, 0), (3, 1)] {
+                assert_eq!(call(&mut seen, &plant, &table, place, left), (mode as u64, [0; 5]));
+            }
         }
     }
     // not below N: 6 at the mode's first byte, and 12 of a running state
     for (modes, mode) in [(127, 127), (128, 128), (129, 129), (255, 255), (256, 256), (256, 1 << 32), (256, (1 << 32) + 4)] {
         let plant = file(&one_room(modes, 1, &[(modes - 1, 0, 4)]));
-        let table = file(&[1, 1, 1, mode].map(U));
-        assert_eq!(seen.check(&plant, &table), (6, 3, 0));
-        assert_eq!(call(&mut seen, &plant, &table, 0, 0), (NO_MODE, [6, 3, 0, 0, 0]));
-        assert_eq!(call(&mut seen, &plant, &table, 3, 1), TWELVE);
+        for form in FORMS {
+            let table = file(&[form, 1, 1, mode].map(U));
+            assert_eq!(seen.check(&plant, &table), (6, 3, 0));
+            assert_eq!(call(&mut seen, &plant, &table, 0, 0), (NO_MODE, [6, 3, 0, 0, 0]));
+            assert_eq!(call(&mut seen, &plant, &table, 3, 1), TWELVE);
+        }
     }
 }
 
 #[test]
 fn the_state_moves_behind_the_mode() {
     let mut seen = Seen::default();
-    for (first, then, behind) in [(127, 128, 4), (128, 127, 5), (128, 255, 5), (255, 128, 5), (3, 200, 4), (200, 3, 5)] {
+    let modes = [(127, 128, 4), (128, 127, 5), (128, 255, 5), (255, 128, 5), (3, 200, 4), (200, 3, 5)];
+    for (form, (first, then, behind)) in FORMS.into_iter().flat_map(|form| modes.map(|modes| (form, modes))) {
         let plant = two_steps(256, first, then);
-        let table = file(&[1, 1, 2, first as u64, then as u64].map(U));
-        assert_eq!(seen.make(&plant, 9), (0, table.len() as u64, 0));
+        let table = file(&[form, 1, 2, first as u64, then as u64].map(U));
+        assert_eq!(seen.make(&plant, form, 9), (0, table.len() as u64, 0));
         assert_eq!(seen.check(&plant, &table), (0, 0, 0));
         for (place, left) in [(0, 0), (3, 2)] {
             assert_eq!(call(&mut seen, &plant, &table, place, left), (first as u64, [0, 0, 0, behind, 1]));
@@ -162,21 +170,27 @@ fn all_the_modes_left_are_tested() {
 fn start_files() {
     let (mut seen, plant) = (Seen::default(), two_steps(256, 128, 255));
     let chain = file(&chain_fields(&[[(0, 9)]]));
-    let table = [1, 1, 2, 0x80, 1, 0xFF, 1];
-    let start = [&chain[..], &[7], &table, &[7], &table].concat();
-    assert_eq!(seen.start_make(&plant, &chain, start.len()), (0, start.len() as u64, 0));
-    assert_eq!(seen.start_check(&plant, &start), (0, 0, 0));
-    let mut at = |start: &[u8], standing| seen.start_control(&plant, start, standing, [5, 0, 0, 0]);
+    for form in FORMS {
+        in_a_start_file(&mut seen, &plant, &chain, form);
+    }
+}
+
+fn in_a_start_file(seen: &mut Seen, plant: &[u8], chain: &[u8], form: u64) {
+    let table = [form as u8, 1, 2, 0x80, 1, 0xFF, 1];
+    let start = [chain, &[7], &table, &[7], &table].concat();
+    assert_eq!(seen.start_make(plant, chain, form, start.len()), (0, start.len() as u64, 0));
+    assert_eq!(seen.start_check(plant, &start), (0, 0, 0));
+    let mut at = |start: &[u8], standing| seen.start_control(plant, start, standing, [5, 0, 0, 0]);
     let twelve = (NO_MODE, [12, 0, 0, 0, 0, 0]);
     assert_eq!(at(&start, [0, 0, 0]), (128, [0, 0, 0, 0, 5, 1]));
     assert_eq!(at(&start, [1, 3, 2]), (128, [0, 0, 0, 1, 5, 1]));
     assert_eq!(at(&start, [1, 5, 1]), (255, [0; 6]));
     assert_eq!(at(&start, [0, 5, 2]), twelve);
     assert_eq!(at(&start, [0, 6, 1]), (1, [0; 6]));
-    let cut = [&chain[..], &[6], &table[..6], &[1, 7], &table].concat();
+    let cut = [chain, &[6], &table[..6], &[1, 7], &table].concat();
     assert_eq!(at(&cut, [0, 3, 2]), twelve);
     assert_eq!(at(&cut, [0, 3, 1]), (128, [0; 6]));
-    assert_eq!(seen.start_check(&plant, &cut), (1, chain.len() as u64 + 1 + 5, 0));
+    assert_eq!(seen.start_check(plant, &cut), (1, chain.len() as u64 + 1 + 5, 0));
 }
 
 /// A seeded plant of over a hundred modes.
@@ -200,10 +214,11 @@ fn seeded_plants_of_many_modes() {
         damaged(&mut random, &bytes, |other| {
             seen.plant(other);
         });
-        seen.make(&bytes, 3);
-        seen.make(&bytes, second::LARGEST_TABLE);
-        let made = made_table(&bytes);
-        for table in [made.clone(), other_table(&mut random, &plant)].into_iter().flatten() {
+        let form = any_form(&mut random);
+        seen.make(&bytes, form, 3);
+        seen.make(&bytes, form, second::LARGEST_TABLE);
+        let made = made_table(&bytes, form);
+        for table in [made.clone(), other_table(&mut random, &plant, form)].into_iter().flatten() {
             assert_eq!(seen.check(&bytes, &table), (0, 0, 0));
             two_bytes += usize::from(table.iter().any(|byte| *byte >= 128));
             damaged(&mut random, &table, |other| {

@@ -1,10 +1,13 @@
 //! The papers' cases of docs/PAPERS.md by the proved library: the same files in
 //! samples/, which second/tests/papers.rs pins, give the second program's
-//! bytes, are accepted, and drive rooms that do what the plant allows.
+//! bytes, are accepted, and drive rooms that do what the plant allows; tables
+//! and start files of both forms.
 
 use second::plant::{read_plant, Plant};
-use side::common::Random;
+use side::common::{Random, Raw};
 use side::rooms::{following, Next, EVERY_NEXT};
+use side::starts::Start;
+use side::tables::{longest_pattern, FORMS};
 use side::{check, control, make, sheet, start_check, start_control, start_make, Standing, Told, NO_MODE};
 
 const SHEETS: [&str; 5] = [
@@ -57,11 +60,17 @@ fn drive(bytes: &[u8], plant: &Plant, table: &[u8], next: Next, random: &mut Ran
     }
 }
 
-/// The library's table is the second program's, is accepted, and drives.
+/// The library's tables are the second program's, are accepted, and drive.
 fn holds(plant: &[u8]) {
+    for form in FORMS {
+        holds_in(plant, form);
+    }
+}
+
+fn holds_in(plant: &[u8], form: u64) {
     let most = second::LARGEST_TABLE;
-    let table = written(most, |buffer| make(plant, buffer));
-    assert_eq!(table, second_written(most, |buffer| second::maker::make(plant, buffer)));
+    let table = written(most, |buffer| make(plant, form, buffer));
+    assert_eq!(table, second_written(most, |buffer| second::maker::make(plant, form, buffer)));
     assert_eq!(check(plant, &table), (0, 0, 0));
     let read = read_plant(plant).expect("a plant");
     for next in EVERY_NEXT {
@@ -95,9 +104,12 @@ const COLD: [(&str, usize); 2] = [("001-example-1", 32), ("001-example-1-integra
 fn the_start_files_of_001() {
     for (name, _) in COLD {
         let [plant, chain, start] = ["plant", "chain", "start"].map(|kind| sample(&format!("{name}.{kind}")));
-        let made = written(second::LARGEST_START, |buffer| start_make(&plant, &chain, buffer));
-        assert_eq!(made, start, "{name}");
-        assert_eq!(start_check(&plant, &start), (0, 0, 0), "{name}");
+        let made = |form| written(second::LARGEST_START, |buffer| start_make(&plant, &chain, form, buffer));
+        assert_eq!(made(1), start, "{name}");
+        assert_eq!(made(3), second::start::start_make(&plant, &chain, 3).expect("a start file"), "{name}");
+        for form in FORMS {
+            assert_eq!(start_check(&plant, &made(form)), (0, 0, 0), "{name}");
+        }
     }
 }
 
@@ -106,12 +118,24 @@ fn the_start_files_of_001() {
 #[test]
 fn home_from_35_degrees_of_frost() {
     for (name, promised) in COLD {
-        let [bytes, start] = ["plant", "start"].map(|kind| sample(&format!("{name}.{kind}")));
-        for next in EVERY_NEXT {
-            let samples = arrival(&bytes, &start, next);
-            assert!(samples <= promised, "{samples} samples, {promised} promised");
+        let [plant, chain] = ["plant", "chain"].map(|kind| sample(&format!("{name}.{kind}")));
+        for form in FORMS {
+            let start = written(second::LARGEST_START, |buffer| start_make(&plant, &chain, form, buffer));
+            let most = samples_promised(&plant, &chain, &start);
+            assert!(form == 3 || most == promised, "{name} promises {most}");
+            for next in EVERY_NEXT {
+                let samples = arrival(&plant, &start, next);
+                assert!(samples <= most, "{samples} samples, {most} promised");
+            }
         }
     }
+}
+
+/// The sum of the longest patterns of the tables behind R0's.
+fn samples_promised(plant: &[u8], chain: &[u8], start: &[u8]) -> usize {
+    let whole = Start::of(&[Raw(chain.to_vec())], start);
+    assert_eq!(start_check(plant, &whole.bytes()), (0, 0, 0));
+    whole.tables[1..].iter().map(|table| longest_pattern(table)).sum()
 }
 
 /// Samples until an idle call meets a reading in R, of a thousand that are driven.

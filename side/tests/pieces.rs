@@ -3,11 +3,13 @@
 
 use second::band::Band;
 use second::boxes::Box;
+use second::form::Form;
 use second::image::image;
 use second::plant::{read_plant, write_plant, Plant};
 use second::tile::tile_rule;
 use side::common::{file, told, with, Field, Random, U};
 use side::inputs::{plant_fields, random, rounds, A, BAND, EDGE};
+use side::tables::{any_form, FORMS};
 use side::{check, control, make, NO_MODE};
 
 /// The plant's file; None where a value of it is out of range.
@@ -96,7 +98,7 @@ fn pin_image(random: &mut Random, pinned: &mut Pinned, up: bool) {
         (plant.edges.s_lo[i], plant.edges.s_hi[i]) = (own.lo.min(side.lo), own.hi.max(side.hi));
     }
     let Some(bytes) = file_of(&plant) else { return };
-    let table = file(&[1, plant.n, 1, mode as u64].map(U));
+    let table = file(&[any_form(random), plant.n, 1, mode as u64].map(U));
     assert_eq!(check(&bytes, &table), (8, 2, 1), "mode {mode} of {plant:?}");
     for (i, (own, side)) in r.sides().iter().zip(there.sides()).enumerate() {
         let mut less = [plant.clone(), plant.clone()];
@@ -149,18 +151,19 @@ fn narrowing(random: &mut Random) -> Plant {
 fn pin_in_r(random: &mut Random, pinned: &mut [[usize; 2]; 4], up: bool) {
     let mut plant = moved(&narrowing(random), 0, up, 0);
     (plant.edges.s_lo, plant.edges.s_hi) = (plant.edges.r_lo, plant.edges.r_hi);
-    let (n, r, table) = (plant.rooms(), plant.r(), [1, plant.n as u8, 1, 0]);
+    let (n, r, form) = (plant.rooms(), plant.r(), any_form(random));
+    let table = [form as u8, plant.n as u8, 1, 0];
     let Some(bytes) = file_of(&plant).filter(|_| image(&plant, 0, &r).lies_in(&r)) else { return };
     let mut made = [0; 4];
     assert_eq!(check(&bytes, &table), (0, 0, 0), "{plant:?}");
-    assert_eq!((make(&bytes, &mut made), made), ((0, 4, 0), table), "{plant:?}");
+    assert_eq!((make(&bytes, form, &mut made), made), ((0, 4, 0), table), "{plant:?}");
     for i in 0..n {
         let mut further = plant.clone();
         further.coefficients[i * (n + 1) + n] += if up { plant.q as i64 } else { -(plant.q as i64) };
         for number in [7, 8] {
             let Some(bytes) = file_of(&further) else { break };
             assert_eq!(check(&bytes, &table), (number, 2, 1), "{further:?}");
-            assert_eq!(make(&bytes, &mut made), (9, 0, 0), "{further:?}");
+            assert_eq!(make(&bytes, form, &mut made), (9, 0, 0), "{further:?}");
             pinned[i][usize::from(up)] += 1;
             further.edges.s_lo[i] -= i64::from(!up);
             further.edges.s_hi[i] += i64::from(up);
@@ -181,17 +184,33 @@ fn images_just_in_r() {
 
 // ---- split
 
-/// R any box, one split, sixteen modes under which every reading stays, so that a table of one split and one tile to a child is a table.
+/// The sides of a box: any, or all of one length but for some that are a count shorter, or one alone long and the others short.
+fn any_sides(random: &mut Random, n: usize) -> Vec<(i64, i64)> {
+    let (kind, long) = (random.within(0, 3), random.one(&[1, 2, 3, 40, 1_000, 1_000_000]));
+    let own = random.within(0, n as i64 - 1) as usize;
+    let mut side = |i: usize| {
+        let length = match kind {
+            0 => long - random.within(0, 1),
+            1 if i == own => long,
+            1 => random.within(0, 2),
+            _ => return any_side(random),
+        };
+        let (near, far) = (random.within(-long - 3, 3), random.within(-EDGE, EDGE - length));
+        let lo = random.one(&[near, near, far, -EDGE]).max(-EDGE);
+        (lo, lo + length)
+    };
+    (0..n).map(&mut side).collect()
+}
+
+/// R any box, some depth, and a mode under which every reading stays, so that any division of R is a table.
 fn staying(random: &mut Random) -> Plant {
     let n = random.within(1, 4) as usize;
-    let mut plant = Plant { form: random.one(&[1, 2]), q: 1, k: 1, d: 1, ..Plant::zeros(n as u64, 16) };
-    for i in 0..n {
-        let (lo, hi) = any_side(random);
+    let d = random.within(1, 6.min(12 / n as i64)) as u64;
+    let mut plant = Plant { form: random.one(&[1, 2]), q: 1, k: 2, d, ..Plant::zeros(n as u64, 1) };
+    for (i, (lo, hi)) in any_sides(random, n).into_iter().enumerate() {
         let e = &mut plant.edges;
         (e.r_lo[i], e.r_hi[i], e.s_lo[i], e.s_hi[i]) = (lo, hi, lo, hi);
-        for mode in 0..16 {
-            plant.coefficients[(mode * n + i) * (n + 1) + i] = 1;
-        }
+        plant.coefficients[i * (n + 1) + i] = 1;
     }
     plant
 }
@@ -215,43 +234,124 @@ fn corners(random: &mut Random, of: &Box) -> Vec<[i64; 4]> {
     readings
 }
 
-/// The tile of child c has the mode c: an idle call answers which child holds a reading.
-fn pin_split(random: &mut Random) -> usize {
-    let plant = staying(random);
-    let (bytes, r) = (file_of(&plant).expect("a sound plant"), plant.r());
-    let mut table = vec![1, plant.n as u8, 0];
-    let Some(children) = r.split() else {
-        assert_eq!(check(&bytes, &table), (6, 2, 0), "{plant:?}");
-        assert_eq!(control(&bytes, &table, 0, 0, plant.edges.r_lo), (NO_MODE, [6, 2, 0, 0, 0]), "{plant:?}");
-        return 0;
-    };
-    let children: Vec<Box> = children.collect();
-    table.extend((0..children.len() as u8).flat_map(|c| [1, c]));
-    assert_eq!(check(&bytes, &table), (0, 0, 0), "{plant:?}");
-    let mut readings: Vec<[i64; 4]> = children.iter().flat_map(|child| corners(random, child)).collect();
-    readings.extend((0..20).map(|_| std::array::from_fn(|i| random.within(plant.edges.r_lo[i], plant.edges.r_hi[i]))));
-    for x in readings {
-        let held_by: Vec<usize> = (0..children.len()).filter(|c| children[*c].contains(&x)).collect();
-        let wanted = match (r.first_outside(&x), &held_by[..]) {
-            (None, [c]) => (*c as u64, [0; 5]),
-            (Some(dimension), []) => (NO_MODE, [11, dimension as u64, 0, 0, 0]),
-            _ => panic!("{x:?} is held by {held_by:?} of {children:?}"),
-        };
-        assert_eq!(control(&bytes, &table, 0, 0, x), wanted, "{x:?} in {plant:?}");
+/// A tile of a division: its box, its place in the file, and the depth left there.
+struct Tile {
+    of: Box,
+    place: u64,
+    depth_left: u64,
+}
+
+/// R divided by a form's splits, about one reading as deep as may be and elsewhere by chance, into not too many tiles. Each has a pattern of two, so that
+/// the place which an idle call leaves tells the tile.
+struct Division {
+    form: Form,
+    about: [i64; 4],
+    table: Vec<u8>,
+    tiles: Vec<Tile>,
+    to_come: usize,
+    /// How many splits there were, by the number of their children.
+    splits: [usize; 17],
+}
+
+impl Division {
+    fn any(random: &mut Random, plant: &Plant, form: u64) -> Division {
+        let form = Form::of(form, 0).expect("a form");
+        let (e, table) = (&plant.edges, vec![form.number(), plant.n as u8]);
+        let about = std::array::from_fn(|i| {
+            let any = random.within(e.r_lo[i], e.r_hi[i]);
+            random.one(&[e.r_lo[i], e.r_hi[i], any])
+        });
+        let mut division = Division { form, about, table, tiles: Vec::new(), to_come: 1, splits: [0; 17] };
+        division.divide(random, &plant.r(), form.depth(plant));
+        division
     }
-    children.len()
+
+    fn divide(&mut self, random: &mut Random, here: &Box, depth_left: u64) {
+        self.to_come -= 1;
+        let children: Vec<Box> = self.form.split(here, depth_left).into_iter().flatten().collect();
+        let room = self.tiles.len() + self.to_come + children.len() <= 400;
+        if !children.is_empty() && room && (here.contains(&self.about) || random.chance(6)) {
+            self.table.push(0);
+            self.to_come += children.len();
+            self.splits[children.len()] += 1;
+            children.iter().for_each(|child| self.divide(random, child, depth_left - 1));
+            return;
+        }
+        self.tiles.push(Tile { of: *here, place: self.table.len() as u64, depth_left });
+        self.table.extend([2, 0, 0]);
+    }
+
+    /// The table with a split in place of a tile.
+    fn with_split_at(&self, tile: &Tile) -> Vec<u8> {
+        let (before, behind) = self.table.split_at(tile.place as usize);
+        [before, &[0], behind].concat()
+    }
+}
+
+/// An idle call answers which tile holds a reading: at the corners of some dozen tiles, beside them, and anywhere.
+fn pin_tiles(random: &mut Random, plant: &Plant, bytes: &[u8], division: &Division) {
+    assert_eq!(check(bytes, &division.table), (0, 0, 0), "{plant:?} {:?}", division.table);
+    let (r, e, tiles) = (plant.r(), &plant.edges, &division.tiles);
+    let some = (tiles.len() / 12 + 1) as i64;
+    let picked: Vec<&Tile> = tiles.iter().filter(|_| random.chance(some)).collect();
+    let mut readings: Vec<[i64; 4]> = picked.iter().flat_map(|tile| corners(random, &tile.of)).collect();
+    readings.extend((0..20).map(|_| std::array::from_fn(|i| random.within(e.r_lo[i], e.r_hi[i]))));
+    for x in readings {
+        let held_by: Vec<u64> = tiles.iter().filter(|tile| tile.of.contains(&x)).map(|tile| tile.place).collect();
+        let wanted = match (r.first_outside(&x), &held_by[..]) {
+            (None, [place]) => (0, [0, 0, 0, place + 2, 1]),
+            (Some(dimension), []) => (NO_MODE, [11, dimension as u64, 0, 0, 0]),
+            _ => panic!("{x:?} is held by {held_by:?}: {plant:?} {:?}", division.table),
+        };
+        assert_eq!(control(bytes, &division.table, 0, 0, x), wanted, "{x:?} in {plant:?} {:?}", division.table);
+    }
+}
+
+/// How many splits there were by their children, and how many divisions by the splits on the way to the deepest tile, and by rooms those as deep as may be;
+/// and how many splits were refused, with no depth left and with no side left.
+#[derive(Default, Debug)]
+struct Divided {
+    splits: [usize; 17],
+    depths: [usize; 13],
+    deepest: [usize; 5],
+    too_deep: usize,
+    one_reading: usize,
+}
+
+/// A division of R, and a split more where there may be none: 6 at its place, by the checker and by a call that meets it.
+fn pin_division(random: &mut Random, divided: &mut Divided, form: u64) {
+    let plant = staying(random);
+    let bytes = file_of(&plant).expect("a sound plant");
+    let division = Division::any(random, &plant, form);
+    pin_tiles(random, &plant, &bytes, &division);
+    let depth = division.form.depth(&plant);
+    let least_left = division.tiles.iter().map(|tile| tile.depth_left).min().expect("a tile");
+    divided.depths[(depth - least_left) as usize] += 1;
+    divided.deepest[plant.rooms()] += usize::from(least_left == 0);
+    divided.splits.iter_mut().zip(division.splits).for_each(|(all, splits)| *all += splits);
+    for tile in division.tiles.iter().filter(|tile| division.form.split(&tile.of, tile.depth_left).is_none()) {
+        let table = division.with_split_at(tile);
+        assert_eq!(check(&bytes, &table), (6, tile.place, 0), "{plant:?} {table:?}");
+        let low_corner = std::array::from_fn(|i| tile.of.sides().get(i).map_or(i64::MIN, |side| side.lo));
+        assert_eq!(control(&bytes, &table, 0, 0, low_corner), (NO_MODE, [6, tile.place, 0, 0, 0]), "{plant:?} {table:?}");
+        *(if tile.depth_left == 0 { &mut divided.too_deep } else { &mut divided.one_reading }) += 1;
+    }
 }
 
 #[test]
-fn every_child_of_a_split() {
+fn every_tile_of_a_division() {
     let mut random = random(15);
-    let mut splits = [0; 17];
-    for _ in 0..rounds(4_000) {
-        splits[pin_split(&mut random)] += 1;
-    }
-    println!("splits by their children: {splits:?}");
-    for children in [0, 2, 4, 8, 16] {
-        assert!(splits[children] > 100, "{splits:?}");
+    for form in FORMS {
+        let mut divided = Divided::default();
+        for _ in 0..rounds(4_000) {
+            pin_division(&mut random, &mut divided, form);
+        }
+        println!("form {form}: {divided:?}");
+        let (deepest, children) = if form == 1 { (6, &[2, 4, 8, 16][..]) } else { (12, &[2][..]) };
+        assert!((0..17).all(|count| (divided.splits[count] > 100) == children.contains(&count)), "{divided:?}");
+        assert!(divided.depths[..=deepest].iter().all(|times| *times > 5), "{divided:?}");
+        assert!(divided.deepest[1..].iter().all(|times| *times > 100), "{divided:?}");
+        assert!(divided.too_deep > 1_000 && divided.one_reading > 1_000, "{divided:?}");
     }
 }
 
@@ -269,7 +369,7 @@ fn the_tile_rule() {
         for length in 1..=6_u64 {
             let pattern: Vec<u8> = (0..length).map(|_| random.within(0, plant.modes as i64 - 1) as u8).collect();
             let tile: Vec<Field> = pattern.iter().map(|mode| U((*mode).into())).collect();
-            let table = file(&[&[U(1), U(plant.n), U(length)][..], &tile].concat());
+            let table = file(&[&[U(any_form(&mut random)), U(plant.n), U(length)][..], &tile].concat());
             let answer = check(&bytes, &table);
             assert_eq!(answer, told(tile_rule(&plant, &plant.r(), &plant.r(), &pattern, 2)), "{pattern:?} in {plant:?}");
             let step = if answer.0 == 0 { length } else { answer.2 };

@@ -6,8 +6,9 @@
 
 use second::plant::read_plant;
 use side::common::{file, Random};
-use side::inputs::{other_table, papers_plants, plant_fields, random, rounds};
-use side::rooms::{following, longest_pattern, Next, EVERY_NEXT};
+use side::inputs::{papers_plants, plant_fields, random, rounds};
+use side::rooms::{following, Next, EVERY_NEXT};
+use side::tables::{halvings, longest_pattern, other_table, FORMS};
 use side::{check, control, largest_table_plant, longest_table_plant, make, NO_MODE};
 
 /// One run from a reading in R.
@@ -44,12 +45,39 @@ fn runs(random: &mut Random, bytes: &[u8], table: &[u8]) -> usize {
     4 * 3 * 50
 }
 
-/// The table that the library makes.
-fn made(bytes: &[u8]) -> Option<Vec<u8>> {
+/// The table of a form that the library makes.
+fn made(bytes: &[u8], form: u64) -> Option<Vec<u8>> {
     let mut table = vec![0; second::LARGEST_TABLE];
-    let (number, length, _) = make(bytes, &mut table);
+    let (number, length, _) = make(bytes, form, &mut table);
     table.truncate(length as usize);
     (number == 0).then_some(table)
+}
+
+/// What drove: samples, tables, those not the made ones, those with a longer pattern than the made one, those of plants of form 2; and tables of form 3
+/// in which some tile is the half of a half.
+#[derive(Default, Debug)]
+struct Came {
+    samples: usize,
+    tables: usize,
+    others: usize,
+    longer: usize,
+    own_bands: usize,
+    halved: usize,
+}
+
+/// The made table of a form and another one drive the plant.
+fn driven(random: &mut Random, came: &mut Came, bytes: &[u8], form: u64) {
+    let made = made(bytes, form);
+    let other = other_table(random, &read_plant(bytes).unwrap(), form).filter(|other| Some(other) != made.as_ref());
+    came.others += usize::from(other.is_some());
+    let lengths = [&made, &other].map(|table| table.as_ref().map_or(0, |table| longest_pattern(table)));
+    came.longer += usize::from(lengths[0] < lengths[1]);
+    for table in [made, other].into_iter().flatten() {
+        came.tables += 1;
+        came.own_bands += usize::from(bytes[0] == 2);
+        came.halved += usize::from(form == 3 && halvings(&table) > 1);
+        came.samples += runs(random, bytes, &table);
+    }
 }
 
 #[test]
@@ -58,19 +86,15 @@ fn accepted_tables_keep_their_promise() {
     let mut plants = papers_plants();
     plants.extend([include_bytes!("../../samples/house.plant").to_vec(), largest_table_plant(), longest_table_plant()]);
     plants.extend((0..rounds(2_000)).map(|_| file(&plant_fields(&mut random))));
-    let (mut samples, mut tables, mut others, mut longer, mut own_bands) = (0, 0, 0, 0, 0);
+    let mut by_form = FORMS.map(|_| Came::default());
     for bytes in plants {
-        let made = made(&bytes);
-        let other = other_table(&mut random, &read_plant(&bytes).unwrap()).filter(|other| Some(other) != made.as_ref());
-        others += usize::from(other.is_some());
-        let lengths = [&made, &other].map(|table| table.as_ref().map_or(0, |table| longest_pattern(table)));
-        longer += usize::from(lengths[0] < lengths[1]);
-        for table in [made, other].into_iter().flatten() {
-            tables += 1;
-            own_bands += usize::from(bytes[0] == 2);
-            samples += runs(&mut random, &bytes, &table);
+        for (form, came) in FORMS.into_iter().zip(&mut by_form) {
+            driven(&mut random, came, &bytes, form);
         }
     }
-    println!("{samples} samples by {tables} tables, {others} of them not the made one, {longer} with a longer pattern, {own_bands} of plants of form 2");
-    assert!(samples >= 100_000 && others > 30 && longer > 10 && own_bands > 100, "{samples} {others} {longer} {own_bands}");
+    println!("{by_form:?}");
+    for came in &by_form {
+        assert!(came.samples >= 100_000 && came.others > 30 && came.longer > 10 && came.own_bands > 100, "{came:?}");
+    }
+    assert!(by_form[1].halved > 30, "{by_form:?}");
 }

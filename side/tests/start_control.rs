@@ -1,11 +1,15 @@
 //! The controller's call with a start file side by side: readings about every
-//! box, states that can be and cannot, start files whole, spoiled and damaged.
+//! box, states that can be and cannot, start files whole, spoiled and damaged,
+//! of tables of both forms.
 
 use second::plant::read_plant;
 use side::common::{chain_fields, cold_chain, cold_p, encode, file, p_fields, start_fields, two_rooms, with, Random, Raw, T1, U};
-use side::inputs::{any_reading, any_state, any_tree, damaged, made_table, plant_fields, random, rounds, spoiled};
+use side::inputs::{any_reading, any_state, damaged, plant_fields, random, rounds, spoiled};
 use side::seen::{each_came, Seen};
-use side::starts::{any_chain, any_reading_about, any_standing, any_start, made_start, other_start, spoiled_chain, spoiled_lengths, turning, Start};
+use side::starts::{
+    any_chain, any_reading_about, any_standing, any_start, made_start, made_starts, other_start, spoiled_chain, spoiled_lengths, turning, Start,
+};
+use side::tables::{any_form, any_tree, in_no_form, in_other_form, made_table, FORMS};
 use side::{Standing, NO_MODE};
 
 const IDLE: Standing = [0, 0, 0];
@@ -18,13 +22,15 @@ fn refused(number: u64, place: u64) -> (u64, [u64; 6]) {
 #[test]
 fn a_cold_room_comes_home() {
     let (mut seen, plant) = (Seen::default(), cold_p());
-    let start = made_start(&plant, &cold_chain()).expect("a start file").bytes();
     let samples = [(160, IDLE, 1), (174, [2, 5, 1], 1), (187, IDLE, 1), (198, [1, 5, 1], 1), (208, IDLE, 0), (197, [0, 4, 1], 1)];
-    for (at, (x, standing, mode)) in samples.into_iter().enumerate() {
-        let next = samples.get(at + 1).map_or(IDLE, |sample| sample.1);
-        assert_eq!(seen.start_control(&plant, &start, standing, [x, 0, 0, 0]), (mode, [0, 0, 0, next[0], next[1], next[2]]));
+    for form in FORMS {
+        let start = made_start(&plant, &cold_chain(), form).expect("a start file").bytes();
+        for (at, (x, standing, mode)) in samples.into_iter().enumerate() {
+            let next = samples.get(at + 1).map_or(IDLE, |sample| sample.1);
+            assert_eq!(seen.start_control(&plant, &start, standing, [x, 0, 0, 0]), (mode, [0, 0, 0, next[0], next[1], next[2]]));
+        }
+        assert_eq!(seen.start_control(&plant, &start, IDLE, [159, 0, 0, 0]), refused(11, 0));
     }
-    assert_eq!(seen.start_control(&plant, &start, IDLE, [159, 0, 0, 0]), refused(11, 0));
 }
 
 /// The order of a call: each fault beside all that are told after it.
@@ -51,8 +57,12 @@ fn every_kind_of_refusal_in_its_order() {
         (with(&whole, 6, U((1 << 35) + 7)), IDLE, in_r1, refused(1, 14)),
         (with(&whole, 6, U(99)), [1, 5, 0], outside, refused(3, 14)),
         (start([&T1, &[2, 2, 7]]), [1, 5, 0], outside, refused(2, 15)),
+        (start([&T1, &[4, 2, 7]]), IDLE, in_r1, refused(2, 15)),
+        (start([&T1, &[0x83, 0]]), IDLE, in_r1, refused(1, 15)),
         (start([&T1, &[1, 2, 7]]), [1, 5, 0], outside, refused(6, 16)),
+        (start([&T1, &[3, 2, 7]]), [1, 5, 0], outside, refused(6, 16)),
         (start([&T1, &[1]]), [1, 5, 0], outside, refused(1, 16)),
+        (start([&T1, &[3, 1, 7]]), [1, 5, 0], outside, refused(12, 0)),
         (start([&T1, &[1, 1, 7]]), [1, 5, 0], outside, refused(12, 0)),
         (start([&T1, &[1, 1, 7]]), [1, 2, 2], outside, refused(12, 0)),
         (start([&T1, &[1, 1, 7]]), [1, u64::MAX, 1], outside, refused(12, 0)),
@@ -62,6 +72,7 @@ fn every_kind_of_refusal_in_its_order() {
         (start([&T1, &[1, 1, 0, 1]]), IDLE, in_r1, refused(1, 19)),
         // nothing of table 0 but its length is read, nothing behind the tile, no surplus, no leftover
         (start([&[9; 7], &[1, 1, 0, 1, 1, 9, 9]]), IDLE, in_r1, (1, [0; 6])),
+        (start([&[9; 7], &[3, 1, 0, 1, 1, 9, 9]]), IDLE, in_r1, (1, [0; 6])),
         ([&start([&T1, &[1, 1, 1, 0, 0]])[..], &[Raw(vec![0x81])]].concat(), IDLE, in_r1, (0, [0; 6])),
     ] {
         assert_eq!(seen.start_control(&plant, &file(&fields), standing, x), told, "{fields:?} {standing:?} {x:?}");
@@ -93,7 +104,7 @@ fn without_boxes_the_answers_are_the_tables() {
     for _ in 0..rounds(1_000) {
         let bytes = file(&plant_fields(&mut random));
         let plant = read_plant(&bytes).expect("a sound plant");
-        let Some(table) = made_table(&bytes) else { continue };
+        let Some(table) = made_table(&bytes, any_form(&mut random)) else { continue };
         let start = Start { chain: vec![U(1), U(0)], tables: vec![table.clone()] }.bytes();
         for _ in 0..20 {
             let ((place, left), x) = (any_state(&mut random, &table), any_reading(&mut random, &plant));
@@ -108,14 +119,21 @@ fn without_boxes_the_answers_are_the_tables() {
 /// Every corner of the largest tables, through their patterns.
 #[test]
 fn the_largest_tables() {
-    let mut seen = Seen::default();
     let (plant, chain) = turning();
-    let start = second::start::start_make(&plant, &chain).expect("a start file");
-    let mut met = [0; 9];
+    for form in FORMS {
+        let start = second::start::start_make(&plant, &chain, form).expect("a start file");
+        let met = boxes_met(&plant, &start);
+        assert!(met[0] > 0 && met[8] > 0, "{met:?}");
+    }
+}
+
+/// How many calls stood in each box's table.
+fn boxes_met(plant: &[u8], start: &[u8]) -> [usize; 9] {
+    let (mut seen, mut met) = (Seen::default(), [0; 9]);
     for (a, b) in [(1000, 1000), (1063, 1063), (1000, 1063), (1062, 1000), (1001, 1001), (1031, 1032), (1004, 1000), (999, 1000), (1063, 1064)] {
         let (mut standing, mut x) = (IDLE, [a, b, 0, 0]);
         for _ in 0..20 {
-            let (mode, out) = seen.start_control(&plant, &start, standing, x);
+            let (mode, out) = seen.start_control(plant, start, standing, x);
             if mode == NO_MODE {
                 break;
             }
@@ -125,7 +143,7 @@ fn the_largest_tables() {
             x = [4 * x[0] - 13 * x[1] + mode as i64, x[0] - 3 * x[1], 0, 0];
         }
     }
-    assert!(met[0] > 0 && met[8] > 0, "{met:?}");
+    met
 }
 
 /// Calls of every kind on one file, the second of two from the state that the first left; how many such states ran on in a table above R0's.
@@ -143,11 +161,38 @@ fn calls(random: &mut Random, seen: &mut Seen, bytes: &[u8], start: &Start, file
     ran_on
 }
 
+/// Calls on a start file whole, with its chain and its lengths spoiled, its tables others and under other forms, and damaged; how many ran on.
+fn calls_on(random: &mut Random, seen: &mut Seen, bytes: &[u8], start: &Start) -> usize {
+    let plant = read_plant(bytes).expect("a sound plant");
+    let whole = start.bytes();
+    let rest = &whole[file(&start.chain).len()..];
+    for (other, wanted) in spoiled_chain(&plant, &start.chain).into_iter().step_by(5) {
+        let other = [&file(&other)[..], rest].concat();
+        assert_eq!(seen.start_control(bytes, &other, [9, 9, 9], [0; 4]), refused(wanted.0, wanted.1));
+    }
+    for (other, _) in spoiled_lengths(start) {
+        calls(random, seen, bytes, start, &other, 1);
+    }
+    for (index, table) in start.tables.iter().enumerate() {
+        let mut others = vec![any_tree(random, bytes[1]), in_other_form(table)];
+        others.extend(in_no_form(table).into_iter().step_by(7).map(|(other, _)| other));
+        for spoilt in others.iter().map(|other| start.with_table(index, other)) {
+            calls(random, seen, bytes, &spoilt, &spoilt.bytes(), 3);
+        }
+    }
+    let mut others = Vec::new();
+    damaged(random, &whole, |other| others.push(other.to_vec()));
+    for other in others.into_iter().step_by(5) {
+        calls(random, seen, bytes, start, &other, 1);
+    }
+    calls(random, seen, bytes, start, &whole, 60)
+}
+
 #[test]
 fn many_calls() {
     let (mut random, mut seen) = (random(34), Seen::default());
-    let mut ran_on = 0;
-    for _ in 0..rounds(400) {
+    let (mut ran_on, mut mixed) = (0, 0);
+    for _ in 0..rounds(300) {
         let fields = plant_fields(&mut random);
         let bytes = file(&fields);
         let plant = read_plant(&bytes).expect("a sound plant");
@@ -159,32 +204,16 @@ fn many_calls() {
             }
         }
         let mut all = vec![any_start(&mut random, &plant, &chain)];
-        all.extend(made_start(&bytes, &chain));
+        all.extend(made_starts(&mut random, &bytes, &chain));
         all.extend(other_start(&mut random, &plant, &chain));
         for start in &all {
-            let whole = start.bytes();
-            let rest = &whole[file(&chain).len()..];
-            for (other, wanted) in spoiled_chain(&plant, &chain).into_iter().step_by(5) {
-                let other = [&file(&other)[..], rest].concat();
-                assert_eq!(seen.start_control(&bytes, &other, [9, 9, 9], [0; 4]), refused(wanted.0, wanted.1));
-            }
-            ran_on += calls(&mut random, &mut seen, &bytes, start, &whole, 60);
-            for (other, _) in spoiled_lengths(start) {
-                calls(&mut random, &mut seen, &bytes, start, &other, 1);
-            }
-            for index in 0..start.tables.len() {
-                let spoilt = start.with_table(index, &any_tree(&mut random, bytes[1]));
-                calls(&mut random, &mut seen, &bytes, &spoilt, &spoilt.bytes(), 3);
-            }
-            let mut others = Vec::new();
-            damaged(&mut random, &whole, |other| others.push(other.to_vec()));
-            for other in others.into_iter().step_by(5) {
-                calls(&mut random, &mut seen, &bytes, start, &other, 1);
-            }
+            let on = calls_on(&mut random, &mut seen, &bytes, start);
+            ran_on += on;
+            mixed += if start.has_both_forms() { on } else { 0 };
         }
     }
-    println!("{ran_on} running states above R0's table");
-    assert!(ran_on > 200, "{ran_on}");
+    println!("{ran_on} running states above R0's table, {mixed} in files with tables of both forms");
+    assert!(ran_on > 200 && mixed > 50, "{ran_on} {mixed}");
     each_came("start control", &seen.start_control, &[0, 1, 2, 3, 4, 5, 6, 11, 12, 15], 20);
     assert!(seen.start_control.iter().sum::<usize>() >= 100_000);
 }

@@ -9,8 +9,9 @@ use second::chain::Chain;
 use second::plant::{read_plant, Plant};
 use side::common::{cold_chain, cold_p, file, Field, Random};
 use side::inputs::{plant_fields, random, rounds};
-use side::rooms::{following, longest_pattern, Next, EVERY_NEXT};
-use side::starts::{any_chain, boxes_of, other_start, Start};
+use side::rooms::{following, Next, EVERY_NEXT};
+use side::starts::{any_chain, boxes_of, other_start, with_mixed, Start};
+use side::tables::{longest_pattern, FORMS};
 use side::{control, start_check, start_control, start_make, Standing, NO_MODE};
 
 const IDLE: Standing = [0, 0, 0];
@@ -61,8 +62,8 @@ impl Cold<'_> {
     }
 }
 
-/// What the runs came to: how many, how many took a sample at least, how many as many as promised, how many more than one pattern can take, and how many
-/// of plants whose modes differ in their bands took a sample.
+/// What the runs came to: how many, how many took a sample at least, how many as many as promised, how many more than one pattern can take, how many of
+/// plants whose modes differ in their bands took a sample, and how many by tables all of form 3, and by tables of both forms.
 #[derive(Default, Debug)]
 struct Came {
     runs: usize,
@@ -70,6 +71,8 @@ struct Came {
     sharp: usize,
     far: usize,
     own_bands: usize,
+    halved: usize,
+    mixed: usize,
 }
 
 /// Runs of every kind from the corners of each box and from any reading in it.
@@ -95,15 +98,17 @@ fn runs(random: &mut Random, came: &mut Came, bytes: &[u8], start: &Start) {
                 came.sharp += usize::from(samples > 0 && samples == promised);
                 came.far += usize::from(samples > plant.k as usize);
                 came.own_bands += usize::from(samples > 0 && plant.bands.iter().any(|band| *band != plant.bands[0]));
+                came.halved += usize::from(samples > 0 && start.tables.iter().all(|table| table[0] == 3));
+                came.mixed += usize::from(samples > 0 && start.has_both_forms());
             }
         }
     }
 }
 
-/// The start file that the library makes.
-fn made(bytes: &[u8], chain: &[Field]) -> Option<Start> {
+/// The start file that the library makes, its tables of a form.
+fn made(bytes: &[u8], chain: &[Field], form: u64) -> Option<Start> {
     let mut buffer = vec![0; second::LARGEST_START];
-    let (number, length, _) = start_make(bytes, &file(chain), &mut buffer);
+    let (number, length, _) = start_make(bytes, &file(chain), form, &mut buffer);
     (number == 0).then(|| Start::of(chain, &buffer[..length as usize]))
 }
 
@@ -111,20 +116,21 @@ fn made(bytes: &[u8], chain: &[Field]) -> Option<Start> {
 fn cold_rooms_come_home() {
     let (mut random, mut came, mut others) = (random(35), Came::default(), 0);
     let mut all = vec![(cold_p(), cold_chain())];
-    for _ in 0..rounds(3_000) {
+    for _ in 0..rounds(2_000) {
         let bytes = file(&plant_fields(&mut random));
         let chain = any_chain(&mut random, &read_plant(&bytes).expect("a sound plant"));
         all.push((bytes, chain));
     }
     for (bytes, chain) in all {
         let plant = read_plant(&bytes).expect("a sound plant");
-        let made = made(&bytes, &chain);
-        let other = other_start(&mut random, &plant, &chain).filter(|other| Some(other) != made.as_ref());
+        let starts = with_mixed(&mut random, FORMS.iter().filter_map(|form| made(&bytes, &chain, *form)).collect());
+        let other = other_start(&mut random, &plant, &chain).filter(|other| !starts.contains(other));
         others += usize::from(other.is_some());
-        for start in [made, other].into_iter().flatten() {
+        for start in starts.into_iter().chain(other) {
             runs(&mut random, &mut came, &bytes, &start);
         }
     }
     println!("{came:?}, {others} start files not the made ones");
     assert!(came.runs > 10_000 && came.cold > 1_000 && came.sharp > 500 && came.far > 20 && came.own_bands > 200 && others > 30, "{came:?} {others}");
+    assert!(came.halved > 300 && came.mixed > 300, "{came:?}");
 }

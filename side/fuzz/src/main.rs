@@ -5,8 +5,8 @@
 //!
 //! An input is the function, two bytes for a length, and the files; for the
 //! controller place, left and four readings come first, with a start file the
-//! index before them; for the maker of start files a byte for the buffer's
-//! length.
+//! index before them; for the makers a byte for the form, and for that of start
+//! files one for the buffer's length behind it.
 
 #![no_main]
 
@@ -80,8 +80,8 @@ pub extern "C" fn LLVMFuzzerTestOneInput(data: *const u8, length: usize) -> i32 
         (1, _) => {
             seen.sheet(one(rest).bytes(), size % 1_200);
         }
-        (2, _) if small(rest) => {
-            seen.make(one(rest).bytes(), size);
+        (2, [form, plant @ ..]) if small(plant) => {
+            seen.make(one(plant).bytes(), (*form).into(), size);
         }
         (3, _) => {
             let (plant, table) = two(rest);
@@ -91,10 +91,10 @@ pub extern "C" fn LLVMFuzzerTestOneInput(data: *const u8, length: usize) -> i32 
             let (plant, table) = two(&x[8..]);
             seen.control(plant.bytes(), table.bytes(), (*place).into(), (*left).into(), reading(x));
         }
-        (5, [buffer, files @ ..]) => {
+        (5, [form, buffer, files @ ..]) => {
             let (plant, chain) = two(files);
             if small(plant.bytes()) {
-                seen.start_make(plant.bytes(), chain.bytes(), 8 * usize::from(*buffer));
+                seen.start_make(plant.bytes(), chain.bytes(), (*form).into(), 8 * usize::from(*buffer));
             }
         }
         (6, _) => {

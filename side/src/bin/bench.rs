@@ -5,6 +5,7 @@
 use second::control::State;
 use second::start::StartState;
 use side::starts::turning;
+use side::tables::made_table;
 use side::{
     check, common, control, four_rooms, four_rooms_without_a_table, largest, largest_table_plant, make, plant, sheet, start_check, start_control,
     start_make,
@@ -12,8 +13,10 @@ use side::{
 use std::hint::black_box;
 use std::time::Instant;
 
-/// The largest table of modes of one byte. Buffers have its length wherever they had it before 2026-08, since a refused write zeros all of one.
+/// The largest tables of form 1, of modes of one byte and of two. Buffers have the length that they had before 2026-08 and before 2026-06, since a refused
+/// write zeros all of one.
 const USUAL_TABLE: usize = 30_039;
+const LONGEST_TABLE: usize = 54_615;
 
 /// Seconds of one call: the best round of `rounds`, each of `calls` calls.
 fn best(rounds: usize, calls: usize, mut one: impl FnMut()) -> f64 {
@@ -36,63 +39,98 @@ fn compare(name: &str, calls: usize, mut ours: impl FnMut(), mut theirs: impl Fn
     println!("{name}: proved {:.0} ns, second {:.0} ns, ratio {:.2}", a * 1e9, b * 1e9, a / b);
 }
 
-fn main() {
-    let bytes = largest_table_plant();
-    let mut table = vec![0; USUAL_TABLE];
-    assert_eq!(second::maker::make(&bytes, &mut table), Ok(USUAL_TABLE));
-    assert_eq!(check(&bytes, &table), (0, 0, 0));
+/// A plant read and judged.
+fn compare_plant(name: &str, calls: usize, bytes: &[u8]) {
     compare(
-        "check, a table of 30,039 bytes",
-        20,
+        name,
+        calls,
         || {
-            black_box(check(black_box(&bytes), black_box(&table)));
+            black_box(plant(black_box(bytes)));
         },
         || {
-            black_box(second::checker::check(black_box(&bytes), black_box(&table))).unwrap();
+            black_box(second::plant::read_plant(black_box(bytes))).unwrap();
         },
     );
+}
+
+/// A table that both accept.
+fn compare_check(name: &str, calls: usize, bytes: &[u8], table: &[u8]) {
+    assert_eq!(check(bytes, table), (0, 0, 0));
+    compare(
+        name,
+        calls,
+        || {
+            black_box(check(black_box(bytes), black_box(table)));
+        },
+        || {
+            black_box(second::checker::check(black_box(bytes), black_box(table))).unwrap();
+        },
+    );
+}
+
+/// A table made or refused, in buffers of one length.
+fn compare_make(name: &str, calls: usize, bytes: &[u8], form: u64, length: usize) {
+    let (mut ours, mut theirs) = (vec![0; length], vec![0; length]);
+    assert_eq!(make(bytes, form, &mut ours).0, common::told(second::maker::make(bytes, form, &mut theirs)).0);
+    assert_eq!(ours, theirs);
+    compare(
+        name,
+        calls,
+        || {
+            black_box(make(black_box(bytes), black_box(form), black_box(&mut ours)));
+        },
+        || {
+            black_box(second::maker::make(black_box(bytes), black_box(form), black_box(&mut theirs))).ok();
+        },
+    );
+}
+
+/// A call that both answer, of a state and a reading.
+fn compare_control(name: &str, calls: usize, bytes: &[u8], table: &[u8], state: State, x: [i64; 4]) {
+    compare(
+        name,
+        calls,
+        || {
+            black_box(control(black_box(bytes), black_box(table), state.place, state.left, x));
+        },
+        || {
+            black_box(second::control::control(black_box(bytes), black_box(table), state, x)).unwrap();
+        },
+    );
+}
+
+/// The last reading of the largest tables.
+const LAST: [i64; 4] = [1063, 1063, 0, 0];
+
+/// The state that an idle call on it leaves in one of `length` bytes: of the last six modes five are left.
+fn running(length: usize) -> State {
+    State { place: length as u64 - 5, left: 5 }
+}
+
+fn main() {
+    let bytes = largest_table_plant();
+    let table = made_table(&bytes, 1).unwrap();
+    assert_eq!(table.len(), USUAL_TABLE);
+    compare_check("check, a table of 30,039 bytes", 20, &bytes, &table);
     for (name, bytes, calls) in [
         ("make, the sample house of two rooms", &include_bytes!("../../../samples/house.plant")[..], 100),
         ("make, four rooms whose first box fails (19,088,736 images)", &four_rooms_without_a_table(), 1),
         ("make, a table of 30,039 bytes", &bytes, 2),
     ] {
-        let (mut ours, mut theirs) = (vec![0; USUAL_TABLE], vec![0; USUAL_TABLE]);
-        assert_eq!(make(bytes, &mut ours).0, common::told(second::maker::make(bytes, &mut theirs)).0);
-        assert_eq!(ours, theirs);
-        compare(
-            name,
-            calls,
-            || {
-                black_box(make(black_box(bytes), black_box(&mut ours)));
-            },
-            || {
-                black_box(second::maker::make(black_box(bytes), black_box(&mut theirs))).ok();
-            },
-        );
+        compare_make(name, calls, bytes, 1, USUAL_TABLE);
     }
-    let last = [1063, 1063, 0, 0];
-    assert_eq!(control(&bytes, &table, 0, 0, last), (0, [0, 0, 0, 30_034, 5]));
-    compare(
-        "control, the last tile of that table",
-        100,
-        || {
-            black_box(control(black_box(&bytes), black_box(&table), 0, 0, last));
-        },
-        || {
-            black_box(second::control::control(black_box(&bytes), black_box(&table), State::IDLE, last)).unwrap();
-        },
-    );
-    compare(
-        "control, the next mode of its pattern",
-        2000,
-        || {
-            black_box(control(black_box(&bytes), black_box(&table), 30_034, 5, last));
-        },
-        || {
-            let running = State { place: 30_034, left: 5 };
-            black_box(second::control::control(black_box(&bytes), black_box(&table), running, last)).unwrap();
-        },
-    );
+    assert_eq!(control(&bytes, &table, 0, 0, LAST), (0, [0, 0, 0, 30_034, 5]));
+    compare_control("control, the last tile of that table", 100, &bytes, &table, State::IDLE, LAST);
+    compare_control("control, the next mode of its pattern", 2000, &bytes, &table, running(USUAL_TABLE), LAST);
+    the_sheet();
+    compare_plant("plant, read and judged", 2000, &bytes);
+    starts();
+    either_form();
+    many_modes();
+    longest_side_alone();
+}
+
+fn the_sheet() {
     let house = &include_bytes!("../../../samples/house.sheet")[..];
     let (mut ours, mut theirs) = (vec![0; second::LARGEST_PLANT], vec![0; second::LARGEST_PLANT]);
     assert_eq!(sheet(house, &mut ours).0, 0);
@@ -108,76 +146,36 @@ fn main() {
             black_box(second::sheet::sheet_to_plant(black_box(house), black_box(&mut theirs))).unwrap();
         },
     );
-    compare(
-        "plant, read and judged",
-        2000,
-        || {
-            black_box(plant(black_box(&bytes)));
-        },
-        || {
-            black_box(second::plant::read_plant(black_box(&bytes))).unwrap();
-        },
-    );
-    starts();
-    either_form();
-    many_modes();
+}
+
+/// Form 3 on the plant of the largest table: 4,096 tiles of one count, twelve halvings each.
+fn longest_side_alone() {
+    let bytes = largest_table_plant();
+    let table = made_table(&bytes, 3).unwrap();
+    assert_eq!(table.len(), 32_769);
+    compare_make("make, form 3, a table of 32,769 bytes", 2, &bytes, 3, table.len());
+    compare_check("check, form 3, that table", 20, &bytes, &table);
+    assert_eq!(control(&bytes, &table, 0, 0, LAST), (0, [0, 0, 0, 32_764, 5]));
+    compare_control("control, form 3, the last tile of that table", 100, &bytes, &table, State::IDLE, LAST);
+    compare_control("control, form 3, the next mode of its pattern", 2000, &bytes, &table, running(table.len()), LAST);
 }
 
 /// 256 modes: a plant read in either form, a first box that fails on patterns of two, and the largest plant with a table of 53,523 bytes.
 fn many_modes() {
     let four = four_rooms(256, 2);
     for (form, bytes) in either(&four) {
-        compare(
-            &format!("plant of form {form}, four rooms and 256 modes, read and judged"),
-            50,
-            || {
-                black_box(plant(black_box(&bytes)));
-            },
-            || {
-                black_box(second::plant::read_plant(black_box(&bytes))).unwrap();
-            },
-        );
+        compare_plant(&format!("plant of form {form}, four rooms and 256 modes, read and judged"), 50, &bytes);
     }
-    let mut buffer = vec![0; second::LARGEST_TABLE];
-    assert_eq!((make(&four, &mut buffer), common::told(second::maker::make(&four, &mut buffer))), ((9, 0, 0), (9, 0, 0)));
-    let mut other = buffer.clone();
-    compare(
-        "make, 256 modes, K 2, four rooms whose first box fails (65,792 images)",
-        10,
-        || {
-            black_box(make(black_box(&four), black_box(&mut buffer)));
-        },
-        || {
-            black_box(second::maker::make(black_box(&four), black_box(&mut other))).ok();
-        },
-    );
+    assert_eq!(make(&four, 1, &mut []), (9, 0, 0));
+    compare_make("make, 256 modes, K 2, four rooms whose first box fails (65,792 images)", 10, &four, 1, LONGEST_TABLE);
     let (bytes, table) = (largest::plant(), largest::table());
-    assert_eq!(check(&bytes, &table), (0, 0, 0));
-    compare(
-        &format!("check, 256 modes, {} bytes of plant, {} of table", bytes.len(), table.len()),
-        10,
-        || {
-            black_box(check(black_box(&bytes), black_box(&table)));
-        },
-        || {
-            black_box(second::checker::check(black_box(&bytes), black_box(&table))).unwrap();
-        },
-    );
+    compare_check(&format!("check, 256 modes, {} bytes of plant, {} of table", bytes.len(), table.len()), 10, &bytes, &table);
     let last = [largest::CENTRE + 3; 4];
     let (mode, out) = control(&bytes, &table, 0, 0, last);
     assert_eq!((mode, out[4]), (255, 5));
-    for (name, calls, place, left) in [("the last tile of that table", 20, 0, 0), ("the next mode of its pattern", 50, out[3], out[4])] {
-        compare(
-            &format!("control, 256 modes, {name}"),
-            calls,
-            || {
-                black_box(control(black_box(&bytes), black_box(&table), place, left, last));
-            },
-            || {
-                black_box(second::control::control(black_box(&bytes), black_box(&table), State { place, left }, last)).unwrap();
-            },
-        );
-    }
+    let running = State { place: out[3], left: out[4] };
+    compare_control("control, 256 modes, the last tile of that table", 20, &bytes, &table, State::IDLE, last);
+    compare_control("control, 256 modes, the next mode of its pattern", 50, &bytes, &table, running, last);
 }
 
 /// A plant in form 1, and in form 2 with its band in every mode.
@@ -194,52 +192,24 @@ fn either(bytes: &[u8]) -> [(u64, Vec<u8>); 2] {
 fn either_form() {
     let (four, house) = (four_rooms_without_a_table(), &include_bytes!("../../../samples/house.plant")[..]);
     for (form, bytes) in either(&four) {
-        compare(
-            &format!("plant of form {form}, four rooms and sixteen modes, read and judged"),
-            500,
-            || {
-                black_box(plant(black_box(&bytes)));
-            },
-            || {
-                black_box(second::plant::read_plant(black_box(&bytes))).unwrap();
-            },
-        );
+        compare_plant(&format!("plant of form {form}, four rooms and sixteen modes, read and judged"), 500, &bytes);
     }
     for (name, bytes, calls) in [("the sample house", house, 100), ("four rooms whose first box fails", &four, 1)] {
         for (form, bytes) in either(bytes) {
-            let (mut ours, mut theirs) = (vec![0; USUAL_TABLE], vec![0; USUAL_TABLE]);
-            compare(
-                &format!("make, {name}, plant of form {form}"),
-                calls,
-                || {
-                    black_box(make(black_box(&bytes), black_box(&mut ours)));
-                },
-                || {
-                    black_box(second::maker::make(black_box(&bytes), black_box(&mut theirs))).ok();
-                },
-            );
-            assert_eq!(ours, theirs);
+            compare_make(&format!("make, {name}, plant of form {form}"), calls, &bytes, 1, USUAL_TABLE);
         }
     }
     calls_in_either_form();
 }
 
 fn calls_in_either_form() {
-    let mut table = vec![0; USUAL_TABLE];
-    second::maker::make(&largest_table_plant(), &mut table).unwrap();
-    let last = [1063, 1063, 0, 0];
-    for (name, calls, place, left) in [("the last tile of the largest table", 100, 0, 0), ("the next mode of its pattern", 2000, 30_034, 5)] {
+    let table = made_table(&largest_table_plant(), 1).unwrap();
+    for (name, calls, state) in [
+        ("the last tile of the largest table", 100, State::IDLE),
+        ("the next mode of its pattern", 2000, running(USUAL_TABLE)),
+    ] {
         for (form, bytes) in either(&largest_table_plant()) {
-            compare(
-                &format!("control, {name}, plant of form {form}"),
-                calls,
-                || {
-                    black_box(control(black_box(&bytes), black_box(&table), place, left, last));
-                },
-                || {
-                    black_box(second::control::control(black_box(&bytes), black_box(&table), State { place, left }, last)).unwrap();
-                },
-            );
+            compare_control(&format!("control, {name}, plant of form {form}"), calls, &bytes, &table, state, LAST);
         }
     }
 }
@@ -248,8 +218,8 @@ fn calls_in_either_form() {
 fn starts() {
     let (plant, chain) = turning();
     let (mut ours, mut theirs) = (vec![0; second::LARGEST_START], vec![0; second::LARGEST_START]);
-    let length = second::start::start_make_into(&plant, &chain, &mut theirs).unwrap();
-    assert_eq!(start_make(&plant, &chain, &mut ours), (0, length as u64, 0));
+    let length = second::start::start_make_into(&plant, &chain, 1, &mut theirs).unwrap();
+    assert_eq!(start_make(&plant, &chain, 1, &mut ours), (0, length as u64, 0));
     assert_eq!(ours, theirs);
     let start = theirs[..length].to_vec();
     let name = |what: &str| format!("{what}, m 8, {length} bytes");
@@ -257,10 +227,10 @@ fn starts() {
         &name("start make"),
         1,
         || {
-            black_box(start_make(black_box(&plant), black_box(&chain), black_box(&mut ours)));
+            black_box(start_make(black_box(&plant), black_box(&chain), black_box(1), black_box(&mut ours)));
         },
         || {
-            black_box(second::start::start_make_into(black_box(&plant), black_box(&chain), black_box(&mut theirs))).unwrap();
+            black_box(second::start::start_make_into(black_box(&plant), black_box(&chain), black_box(1), black_box(&mut theirs))).unwrap();
         },
     );
     compare(
@@ -273,19 +243,18 @@ fn starts() {
             black_box(second::start::start_check(black_box(&plant), black_box(&start))).unwrap();
         },
     );
-    let last = [1063, 1063, 0, 0];
-    assert_eq!(start_control(&plant, &start, [0, 0, 0], last), (0, [0, 0, 0, 8, 30_034, 5]));
+    assert_eq!(start_control(&plant, &start, [0, 0, 0], LAST), (0, [0, 0, 0, 8, 30_034, 5]));
     for (what, calls, standing) in [("idle in R8", 100, [0, 0, 0]), ("running", 2000, [8, 30_034, 5])] {
         let [index, place, left] = standing;
         compare(
             &name(&format!("start call {what}")),
             calls,
             || {
-                black_box(start_control(black_box(&plant), black_box(&start), standing, last));
+                black_box(start_control(black_box(&plant), black_box(&start), standing, LAST));
             },
             || {
                 let state = StartState { index, place, left };
-                black_box(second::start::start_control(black_box(&plant), black_box(&start), state, last)).unwrap();
+                black_box(second::start::start_control(black_box(&plant), black_box(&start), state, LAST)).unwrap();
             },
         );
     }

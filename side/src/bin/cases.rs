@@ -5,7 +5,7 @@
 //! A case is a row of numbers of 8 bytes, low byte first, and of bytes behind
 //! their length: the function (its place in FUNCTIONS); two files (plant, table
 //! and so on; empty where there is none); index, place, left and the reading;
-//! the length of the lent buffer. Then the answer, in the papers' terms and not
+//! the form that a maker is told; the length of the lent buffer. Then the answer, in the papers' terms and not
 //! in the layout of the face: number, place or length written, step, mode (all
 //! ones: none), next index, next place, next left; and the bytes of the buffer
 //! afterwards, but for a run of one byte at its end, and that byte.
@@ -15,9 +15,10 @@ use second::plant::read_plant;
 use second::refusal::Refusal;
 use second::start::{start_check, start_control, start_make_into, StartState};
 use side::common::{file, marked, Field, Random};
-use side::inputs::{any_reading, any_state, any_tree, damaged, made_table, other_forms, other_table, plant_fields, random, sheet_fields, spoiled};
+use side::inputs::{any_reading, any_state, damaged, other_forms, plant_fields, random, sheet_fields, spoiled};
 use side::seen::{each_came, Numbers};
 use side::starts::{any_chain, any_reading_about, any_standing, any_start, made_start, other_start, spoiled_chain, spoiled_lengths, turning, Start};
+use side::tables::{any_form, any_told_form, any_tree, in_no_form, in_other_form, made_table, other_table, FORMS, NO_FORMS};
 use side::{largest_table_plant, longest_table_plant, Standing};
 use std::fs::File;
 use std::io::{BufWriter, Write};
@@ -44,6 +45,16 @@ struct Cases {
     seen: [Numbers; 8],
 }
 
+/// What a function is called with, but for its lent buffer.
+#[derive(Default)]
+struct Call<'a> {
+    function: usize,
+    files: [&'a [u8]; 2],
+    standing: Standing,
+    x: [i64; 4],
+    form: u64,
+}
+
 /// Number, place or length, step, mode, next index, next place, next left.
 type Answer = [u64; 7];
 
@@ -63,31 +74,31 @@ impl Cases {
         self.to.write_all(bytes).expect("written");
     }
 
-    fn case(&mut self, function: usize, files: [&[u8]; 2], standing: Standing, x: [i64; 4], answer: Answer, buffer: &[u8]) {
-        self.numbers(&[function as u64]);
-        self.bytes(files[0]);
-        self.bytes(files[1]);
-        self.numbers(&standing);
-        self.numbers(&x.map(|x| x as u64));
-        self.numbers(&[buffer.len() as u64]);
+    fn case(&mut self, call: Call, answer: Answer, buffer: &[u8]) {
+        self.numbers(&[call.function as u64]);
+        self.bytes(call.files[0]);
+        self.bytes(call.files[1]);
+        self.numbers(&call.standing);
+        self.numbers(&call.x.map(|x| x as u64));
+        self.numbers(&[call.form, buffer.len() as u64]);
         self.numbers(&answer);
         let last = buffer.last().copied().unwrap_or(0);
         self.bytes(&buffer[..buffer.iter().rposition(|byte| *byte != last).map_or(0, |at| at + 1)]);
         self.numbers(&[last.into()]);
-        self.seen[function][answer[0] as usize] += 1;
+        self.seen[call.function][answer[0] as usize] += 1;
     }
 
     fn judged<T>(&mut self, function: usize, files: [&[u8]; 2], told: Result<T, Refusal>) {
         let answer = told.map_or_else(|refusal| refused(&refusal, 0), |_| [0; 7]);
-        self.case(function, files, [0; 3], [0; 4], answer, &[]);
+        self.case(Call { function, files, ..Call::default() }, answer, &[]);
     }
 
     /// The length written, where there is one.
-    fn written(&mut self, function: usize, files: [&[u8]; 2], length: usize, by: impl Fn(&mut [u8]) -> Result<usize, Refusal>) -> Option<usize> {
+    fn written(&mut self, call: Call, length: usize, by: impl Fn(&mut [u8]) -> Result<usize, Refusal>) -> Option<usize> {
         let mut buffer = marked(length);
         let told = by(&mut buffer);
         let answer = told.as_ref().map_or_else(|refusal| refused(refusal, 0), |length| [0, *length as u64, 0, 0, 0, 0, 0]);
-        self.case(function, files, [0; 3], [0; 4], answer, &buffer);
+        self.case(call, answer, &buffer);
         told.ok()
     }
 
@@ -96,11 +107,13 @@ impl Cases {
     }
 
     fn sheet(&mut self, sheet: &[u8], length: usize) -> Option<usize> {
-        self.written(1, [sheet, &[]], length, |buffer| second::sheet::sheet_to_plant(sheet, buffer))
+        let call = Call { function: 1, files: [sheet, &[]], ..Call::default() };
+        self.written(call, length, |buffer| second::sheet::sheet_to_plant(sheet, buffer))
     }
 
-    fn make(&mut self, plant: &[u8], length: usize) -> Option<usize> {
-        self.written(2, [plant, &[]], length, |buffer| second::maker::make(plant, buffer))
+    fn make(&mut self, plant: &[u8], form: u64, length: usize) -> Option<usize> {
+        let call = Call { function: 2, files: [plant, &[]], form, ..Call::default() };
+        self.written(call, length, |buffer| second::maker::make(plant, form, buffer))
     }
 
     fn check(&mut self, plant: &[u8], table: &[u8]) {
@@ -112,12 +125,13 @@ impl Cases {
             Ok((mode, next)) => [0, 0, 0, mode.into(), 0, next.place, next.left],
             Err(refusal) => refused(&refusal, NO_MODE),
         };
-        self.case(4, [plant, table], [0, place, left], x, answer, &[]);
+        self.case(Call { function: 4, files: [plant, table], standing: [0, place, left], x, form: 0 }, answer, &[]);
         (answer[5], answer[6])
     }
 
-    fn start_make(&mut self, plant: &[u8], chain: &[u8], length: usize) -> Option<usize> {
-        self.written(5, [plant, chain], length, |buffer| start_make_into(plant, chain, buffer))
+    fn start_make(&mut self, plant: &[u8], chain: &[u8], form: u64, length: usize) -> Option<usize> {
+        let call = Call { function: 5, files: [plant, chain], form, ..Call::default() };
+        self.written(call, length, |buffer| start_make_into(plant, chain, form, buffer))
     }
 
     fn start_check(&mut self, plant: &[u8], start: &[u8]) {
@@ -130,7 +144,7 @@ impl Cases {
             Ok((mode, next)) => [0, 0, 0, mode.into(), next.index, next.place, next.left],
             Err(refusal) => refused(&refusal, NO_MODE),
         };
-        self.case(7, [plant, start], standing, x, answer, &[]);
+        self.case(Call { function: 7, files: [plant, start], standing, x, form: 0 }, answer, &[]);
         [answer[4], answer[5], answer[6]]
     }
 }
@@ -160,10 +174,11 @@ fn plants(random: &mut Random, cases: &mut Cases, fields: &[Field]) {
     for (at, other) in some_spoiled(random, fields, EACH / 2).iter().enumerate() {
         cases.plant(other);
         if at < 3 {
-            cases.make(other, 9);
+            let form = any_told_form(random);
+            cases.make(other, form, 9);
             cases.check(other, &[1, 1, 1, 0]);
             cases.control(other, &[1, 1, 1, 0], 0, 0, [0; 4]);
-            cases.start_make(other, &[1, 0], 9);
+            cases.start_make(other, &[1, 0], form, 9);
             cases.start_check(other, &[1, 0]);
             cases.start_control(other, &[1, 0], [0; 3], [0; 4]);
         }
@@ -183,16 +198,18 @@ fn sheets(random: &mut Random, cases: &mut Cases) {
 }
 
 fn tables(random: &mut Random, cases: &mut Cases, bytes: &[u8]) {
-    let plant = read_plant(bytes).expect("a sound plant");
-    let mut made = cases.make(bytes, second::LARGEST_TABLE).unwrap_or(1);
+    let (plant, form) = (read_plant(bytes).expect("a sound plant"), any_form(random));
+    let mut made = cases.make(bytes, form, second::LARGEST_TABLE).unwrap_or(1);
     for _ in 0..EACH / 2 {
-        let other = file(&plant_fields(random));
-        made = cases.make(&other, made + random.within(0, 4) as usize).unwrap_or(made);
-        cases.make(&other, random.one(&[0, 3, 20, 200, second::LARGEST_TABLE]));
+        let (other, form) = (file(&plant_fields(random)), any_told_form(random));
+        made = cases.make(&other, form, made + random.within(0, 4) as usize).unwrap_or(made);
+        cases.make(&other, form, random.one(&[0, 3, 20, 200, second::LARGEST_TABLE]));
     }
-    let all = [Some(any_tree(random, bytes[1])), made_table(bytes), other_table(random, &plant)];
+    let all = [Some(any_tree(random, bytes[1])), made_table(bytes, form), other_table(random, &plant, form)];
     for table in all.iter().flatten() {
-        for other in [vec![table.clone(); 4], some_damaged(random, table, EACH)].concat() {
+        let mut others = [vec![table.clone(); 4], vec![in_other_form(table); 2], some_damaged(random, table, EACH)].concat();
+        others.extend(some(random, in_no_form(table), 2).into_iter().map(|(other, _)| other));
+        for other in others {
             cases.check(bytes, &other);
             let ((place, left), x) = (any_state(random, &other), any_reading(random, &plant));
             let (place, left) = cases.control(bytes, &other, place, left, x);
@@ -203,18 +220,18 @@ fn tables(random: &mut Random, cases: &mut Cases, bytes: &[u8]) {
 
 fn starts(random: &mut Random, cases: &mut Cases, bytes: &[u8]) {
     let plant = read_plant(bytes).expect("a sound plant");
-    let chain = any_chain(random, &plant);
-    let made = cases.start_make(bytes, &file(&chain), second::LARGEST_START).unwrap_or(20);
+    let (chain, form) = (any_chain(random, &plant), any_form(random));
+    let made = cases.start_make(bytes, &file(&chain), form, second::LARGEST_START).unwrap_or(20);
     for length in [0, 3, made - 1, made, made + 1] {
-        cases.start_make(bytes, &file(&chain), length);
+        cases.start_make(bytes, &file(&chain), form, length);
     }
     for (other, _) in some(random, spoiled_chain(&plant, &chain), 5) {
-        cases.start_make(bytes, &file(&other), 40);
+        cases.start_make(bytes, &file(&other), any_told_form(random), 40);
     }
     for other in some_damaged(random, &file(&chain), 10) {
-        cases.start_make(bytes, &other, 200);
+        cases.start_make(bytes, &other, any_told_form(random), 200);
     }
-    let all = [Some(any_start(random, &plant, &chain)), made_start(bytes, &chain), other_start(random, &plant, &chain)];
+    let all = [Some(any_start(random, &plant, &chain)), made_start(bytes, &chain, form), other_start(random, &plant, &chain)];
     for start in all.iter().flatten() {
         let whole = start.bytes();
         let lengths = spoiled_lengths(start).into_iter().map(|(bytes, _)| bytes).collect();
@@ -229,23 +246,36 @@ fn starts(random: &mut Random, cases: &mut Cases, bytes: &[u8]) {
     }
 }
 
-/// The largest tables of modes of one byte and of two, and eight large boxes, as far as a call reaches.
+/// The largest tables of modes of one byte and of two, in both forms, and eight large boxes, as far as a call reaches.
 fn largest(cases: &mut Cases) {
     for plant in [largest_table_plant(), longest_table_plant()] {
-        cases.make(&plant, second::LARGEST_TABLE);
-        let table = made_table(&plant).expect("a table");
-        cases.check(&plant, &table);
-        for x in [1000, 1031, 1063] {
-            let (place, left) = cases.control(&plant, &table, 0, 0, [x, 1063, 0, 0]);
-            cases.control(&plant, &table, place, left, [x, 1063, 0, 0]);
+        for form in FORMS {
+            cases.make(&plant, form, second::LARGEST_TABLE);
+            let table = made_table(&plant, form).expect("a table");
+            cases.check(&plant, &table);
+            for x in [1000, 1031, 1063] {
+                let (place, left) = cases.control(&plant, &table, 0, 0, [x, 1063, 0, 0]);
+                cases.control(&plant, &table, place, left, [x, 1063, 0, 0]);
+            }
         }
     }
     let (plant, chain) = turning();
-    let start = second::start::start_make(&plant, &chain).expect("a start file");
-    cases.start_make(&plant, &chain, second::LARGEST_START);
-    cases.start_check(&plant, &start);
-    for x in [1004, 1031, 1063] {
-        cases.start_control(&plant, &start, [0; 3], [x, 1063, 0, 0]);
+    for form in FORMS {
+        let start = second::start::start_make(&plant, &chain, form).expect("a start file");
+        cases.start_make(&plant, &chain, form, second::LARGEST_START);
+        cases.start_check(&plant, &start);
+        for x in [1004, 1031, 1063] {
+            cases.start_control(&plant, &start, [0; 3], [x, 1063, 0, 0]);
+        }
+    }
+}
+
+/// Every number that is no form, of which a processor may lose bits.
+fn no_forms(cases: &mut Cases) {
+    let (plant, chain) = turning();
+    for form in NO_FORMS {
+        cases.make(&plant, form, 20);
+        cases.start_make(&plant, &chain, form, 20);
     }
 }
 
@@ -261,6 +291,7 @@ fn main() {
         sheets(&mut random, &mut cases);
     }
     largest(&mut cases);
+    no_forms(&mut cases);
     cases.to.flush().expect("written");
     for ((name, can_be), numbers) in FUNCTIONS.iter().zip(&cases.seen) {
         each_came(name, numbers, can_be, 5);

@@ -1,15 +1,15 @@
 //! The largest files that the exported functions can meet, for the figures of
 //! firmware/figures: written to the folder that is named.
 //!
-//! - `table`: the plant with the largest table there is, two rooms split six times;
+//! - `table`: the plant with the largest tables there are, of form 1 and, `table_halved`, of form 3;
 //! - `plant`: the plant of the largest length and a table for it;
 //! - `sheet`: the largest sheet;
-//! - `start`: a plant, its chain of eight boxes, and the start file of them.
+//! - `start`: a plant, its chain of eight boxes, and the start files of them, with tables of form 1 and, `start_halved`, of form 3.
 
 use second::checker::check;
 use side::common::{file, Field, F, S, U};
 use side::largest::{self, CENTRE, Q, ROOMS};
-use side::{inputs::made_table, longest_table_plant, starts::turning};
+use side::{longest_table_plant, starts::turning, tables::made_table};
 use std::path::Path;
 
 /// Four rooms, each with three exchanges and a heater.
@@ -34,14 +34,18 @@ fn main() -> std::io::Result<()> {
     };
     let plant = longest_table_plant();
     write("table.plant", &plant)?;
-    write("table.table", &made_table(&plant).expect("a table"))?;
+    for (name, form) in [("table.table", 1), ("table_halved.table", 3)] {
+        write(name, &made_table(&plant, form).expect("a table"))?;
+    }
     let (plant, table) = (largest::plant(), largest::table());
     assert_eq!((plant.len(), check(&plant, &table)), (second::LARGEST_PLANT, Ok(())));
     write("plant.plant", &plant)?;
     write("plant.table", &table)?;
     write("sheet.sheet", &largest_sheet())?;
     let (plant, chain) = turning();
-    write("start.start", &second::start::start_make(&plant, &chain).expect("a start file"))?;
+    for (name, form) in [("start.start", 1), ("start_halved.start", 3)] {
+        write(name, &second::start::start_make(&plant, &chain, form).expect("a start file"))?;
+    }
     write("start.plant", &plant)?;
     write("start.chain", &chain)
 }
