@@ -3,7 +3,7 @@
 //! of tables of both forms.
 
 use second::plant::read_plant;
-use side::common::{chain_fields, cold_chain, cold_p, encode, file, p_fields, start_fields, two_rooms, with, Random, Raw, T1, U};
+use side::common::{chain_fields, cold_chain, cold_p, encode, file, p_fields, start_fields, two_rooms, with, Field, Random, Raw, T1, U};
 use side::inputs::{any_reading, any_state, damaged, plant_fields, random, rounds, spoiled};
 use side::seen::{each_came, Seen};
 use side::starts::{
@@ -33,17 +33,18 @@ fn a_cold_room_comes_home() {
     }
 }
 
-/// The order of a call: each fault beside all that are told after it.
-#[test]
-fn every_kind_of_refusal_in_its_order() {
-    let (mut seen, plant) = (Seen::default(), file(&p_fields()));
+/// A start file's fields, the state and the reading of a call, and the answer.
+type Case = (Vec<Field>, Standing, [i64; 4], (u64, [u64; 6]));
+
+/// Each fault of a call with P beside all that are told after it.
+fn every_fault() -> [Case; 29] {
     let start = |tables: [&[u8]; 2]| start_fields(&chain_fields(&[[(190, 230)]]), &tables);
     let whole = start([&T1, &T1]);
     let (_, places) = encode(&whole);
     assert_eq!(places[4..8], [6, 7, 14, 15]);
     let (nowhere, outside, in_r1) = ([9, 9, 9], [0; 4], [190, 0, 0, 0]);
     let apart = start_fields(&chain_fields(&[[(196, 230)]]), &[&T1, &T1]);
-    for (fields, standing, x, told) in [
+    [
         (apart, nowhere, outside, refused(15, 1)),
         (with(&whole, 4, U(99)), nowhere, outside, refused(12, 0)),
         (with(&whole, 4, U(99)), [2, 2, 1], outside, refused(12, 0)),
@@ -74,7 +75,13 @@ fn every_kind_of_refusal_in_its_order() {
         (start([&[9; 7], &[1, 1, 0, 1, 1, 9, 9]]), IDLE, in_r1, (1, [0; 6])),
         (start([&[9; 7], &[3, 1, 0, 1, 1, 9, 9]]), IDLE, in_r1, (1, [0; 6])),
         ([&start([&T1, &[1, 1, 1, 0, 0]])[..], &[Raw(vec![0x81])]].concat(), IDLE, in_r1, (0, [0; 6])),
-    ] {
+    ]
+}
+
+#[test]
+fn every_kind_of_refusal_in_its_order() {
+    let (mut seen, plant) = (Seen::default(), file(&p_fields()));
+    for (fields, standing, x, told) in every_fault() {
         assert_eq!(seen.start_control(&plant, &file(&fields), standing, x), told, "{fields:?} {standing:?} {x:?}");
     }
 }

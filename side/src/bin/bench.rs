@@ -243,18 +243,22 @@ fn starts() {
             black_box(second::start::start_check(black_box(&plant), black_box(&start))).unwrap();
         },
     );
-    assert_eq!(start_control(&plant, &start, [0, 0, 0], LAST), (0, [0, 0, 0, 8, 30_034, 5]));
+    start_calls(&plant, &start);
+}
+
+fn start_calls(plant: &[u8], start: &[u8]) {
+    assert_eq!(start_control(plant, start, [0, 0, 0], LAST), (0, [0, 0, 0, 8, 30_034, 5]));
     for (what, calls, standing) in [("idle in R8", 100, [0, 0, 0]), ("running", 2000, [8, 30_034, 5])] {
         let [index, place, left] = standing;
         compare(
-            &name(&format!("start call {what}")),
+            &format!("start call {what}, m 8, {} bytes", start.len()),
             calls,
             || {
-                black_box(start_control(black_box(&plant), black_box(&start), standing, LAST));
+                black_box(start_control(black_box(plant), black_box(start), standing, LAST));
             },
             || {
                 let state = StartState { index, place, left };
-                black_box(second::start::start_control(black_box(&plant), black_box(&start), state, LAST)).unwrap();
+                black_box(second::start::start_control(black_box(plant), black_box(start), state, LAST)).unwrap();
             },
         );
     }
