@@ -5,8 +5,10 @@
    The two controllers answer a mode, and their out has the number before these.
    Every number is 64 bits wide, answers and lengths too, so that one proved module serves every processor.
 
-   Stack, in bytes, measured on an emulated Cortex-M4: plant 2,624, sheet 12,464, control 8,312, start_control 8,920, whatever the plant;
-   start_check 12,776 and start_make 83,736 on a plant of one mode; check 69,520 and make 195,352 on one of 129, whose larger arrays they keep. */
+   Stack, in bytes, measured on an emulated Cortex-M4, each on a table of form 3 that is halved twelve times: plant 2,624, sheet 12,464, control 14,248,
+   start_control 14,872, whatever the plant; start_check 18,680 and start_make 57,032 on a plant of one mode; check 75,416 and make 208,376 on one of 129,
+   whose larger arrays they keep. On tables of form 1, split six times at most, each takes 5,808 less,
+   and a maker 6,432. */
 #ifndef HOACHULIM_H
 #define HOACHULIM_H
 
