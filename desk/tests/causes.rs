@@ -46,19 +46,17 @@ const NO_TABLE: &str = "9: some box that can be split no further has no pattern 
 
 #[test]
 fn causes_of_makers() {
-    // P without a split, and P without heat: with nothing to split or in one room alone the forms have the same tables
-    for plant in [with(&p_fields(), 5, U(0)), with(&p_fields(), 15, S(100))].map(|fields| file(&fields)) {
+    let gallery = |depth| Plant { depth, ..Plant::read(&sample("gallery.plant")).unwrap() }.write();
+    // P without heat and the gallery without a split: in one room alone or with nothing to split the forms have the same tables
+    for plant in [file(&with(&p_fields(), 15, S(100))), gallery(0)] {
         assert_eq!(FORMS.map(|form| of_maker(&plant, form)), [NO_TABLE; 2]);
         NO_FORMS.iter().for_each(|&form| assert_eq!(of_maker(&plant, form), format!("2: the form asked for is {form}, wanted 1 or 3")));
     }
-    // the gallery split twice has a table of form 3 alone, split once none
-    let mut gallery = Plant::read(&sample("gallery.plant")).unwrap();
+    // split twice the gallery has a table of form 3 alone, split once none
     let says_other = |other| format!("{NO_TABLE}, and so may form {other}: some plants have a table of one form alone");
-    gallery.depth = 2;
-    assert_eq!(of_maker(&gallery.write(), 1), says_other(3));
-    assert!(library::make(&gallery.write(), 3).is_ok());
-    gallery.depth = 1;
-    assert_eq!(of_maker(&gallery.write(), 3), says_other(1));
+    assert_eq!(of_maker(&gallery(2), 1), says_other(3));
+    assert!(library::make(&gallery(2), 3).is_ok());
+    assert_eq!(of_maker(&gallery(1), 3), says_other(1));
 }
 
 /// P with S 190..230 and two rooms in form 2: bands of a mode named by it.

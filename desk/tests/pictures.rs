@@ -152,10 +152,12 @@ fn the_gallery_says_its_form() {
     assert_eq!(heading(1).0, "2 rooms, 55 tiles, longest pattern 4");
 }
 
-/// Four rooms of which the last is cut into 512, the one before into eight: in form 3 one map with these across and up. In form 1 it is always rooms 1 and 2.
+/// Four rooms of which the last is cut into 1,024, the one before into four: in form 3 one map with these across and up. In form 1 it is always rooms 1 and 2.
 #[test]
 fn rooms_that_are_cut_most_are_on_the_map() {
-    let rooms = shapes::lengthening(4, 8);
+    let mut rooms = shapes::lengthening(4, 8);
+    // both edges of S in room 4 and the lower one in room 3 are to be seen
+    rooms[3].s = rooms[3].r;
     let house = shapes::steady_in(rooms, 1, 1, 3);
     let drawn = |form| {
         let table = table_of(&house, &shapes::table(&mut shapes::Random(1), &house, form, 4));
@@ -164,10 +166,11 @@ fn rooms_that_are_cut_most_are_on_the_map() {
         let tiles = svg.classed("tile");
         let place = |tile: &&&Element| table.tiles[tile.number("data-tile") as usize].sides[3].lo;
         let rightmost = tiles.iter().max_by(|one, other| one.number("x").total_cmp(&other.number("x"))).unwrap();
-        (words, svg.classed("frame").len(), tiles.iter().map(|tile| place(&tile)).max() == Some(place(&rightmost)))
+        let is_rightmost = tiles.iter().map(|tile| place(&tile)).max() == Some(place(&rightmost));
+        (words, svg.classed("frame").len(), svg.classed("edge").len(), is_rightmost)
     };
-    assert_eq!(drawn(Form::Three), ("across each panel room 4, up each panel room 3".into(), 1, true));
-    let (words, panels, _) = drawn(Form::One);
+    assert_eq!(drawn(Form::Three), ("across each panel room 4, up each panel room 3".into(), 1, 3, true));
+    let (words, panels, ..) = drawn(Form::One);
     assert_eq!((words.as_str(), panels), ("across each panel room 1, up each panel room 2", 64));
 }
 

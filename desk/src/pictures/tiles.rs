@@ -21,7 +21,7 @@ const SMALL_SHARE: f64 = 0.08;
 /// The space that a letter beside a box takes.
 const LETTERED: f64 = 18.0;
 
-/// The space between two panels, where they are not small.
+/// The space between two panels.
 const BETWEEN: f64 = 8.0;
 
 /// The picture of a table that was accepted for this house.
@@ -103,7 +103,7 @@ impl Drawing<'_> {
     /// A row of panels at (left, top), a step apart, with their slices of the third room above where that is told, and of the fourth on the left.
     fn panel_row(&mut self, thirds: &[Side], fourth: Option<Side>, (left, top, step): (f64, f64, f64), told: bool) -> f64 {
         let top = if told { top + 4.0 * LINE } else { top };
-        let side = step - BETWEEN.min(step / 4.0);
+        let side = step - BETWEEN;
         for (column, &third) in thirds.iter().enumerate() {
             let frame = Area { x: left + column as f64 * step, y: top, width: side, height: side };
             if told {

@@ -78,16 +78,19 @@ fn split_at_once() -> Vec<(House, Vec<u8>)> {
     many
 }
 
-/// Of form 3: rooms as long as each other, and ones of which one is cut far more often than the others, or alone.
+/// Of form 3: rooms as long as each other, all but one or all, and ones of which one is cut far more often than the others, or alone.
 fn halved() -> Vec<(House, Vec<u8>)> {
     let mut random = Random(20_261_117);
     let mut many = Vec::new();
     for rooms in 1..=4 {
-        for (depth, narrower) in (0..=(12 / u64::from(rooms)).min(6)).flat_map(|depth| [0, 1, 4, 20].map(|narrower| (depth, narrower))) {
-            let (modes, longest) = (1 + random.below(256) as usize, 1 + random.below(6));
-            let house = steady_in(lengthening(rooms, narrower), modes, longest, depth);
-            let bytes = table(&mut random, &house, Form::Three, 3);
-            many.push((house, bytes));
+        let mut all_but_one = lengthening(rooms, 0);
+        all_but_one[0].r.hi = all_but_one[0].r.lo;
+        for depth in 0..=(12 / u64::from(rooms)).min(6) {
+            for bounds in [0, 1, 4, 20].map(|narrower| lengthening(rooms, narrower)).into_iter().chain([all_but_one.clone()]) {
+                let house = steady_in(bounds, 1 + random.below(256) as usize, 1 + random.below(6), depth);
+                let bytes = table(&mut random, &house, Form::Three, 3);
+                many.push((house, bytes));
+            }
         }
     }
     many
