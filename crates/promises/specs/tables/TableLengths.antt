@@ -309,9 +309,6 @@ module _ (form : ℕ) (known : knownForm form ≡ true) (p : Plant) (s : Sound p
   pub over-box : length table ≤ 57_345
   over-box = omega (arith, by-splits, splits-most form)
 
-  pub over-box-few : p .modes ≤ 128 → length table ≤ 32_769
-  over-box-few l = omega (arith, by-splits-few l, splits-most form)
-
 module _ (plant table : List ℕ) (a : checked plant table ≡ Verdict.Accepted) where
   w : (p : Plant) × (plantJudged plant ≡ good p) × (verdict (rulesOf (formOf table) p) table ≡ Verdict.Accepted)
   w = let v = accepted-judged plant table a in (v .0, v .1, sym (checked-as plant (v .0) (v .1) table) ∙ a)
