@@ -55,8 +55,8 @@ pub extern "C" fn hoachulim_check(plant: &[u8], table: &[u8], out: &mut [u64; 2]
     shown::verdict(verdict, out)
 }
 
-// The table of a plant file, of the form that is told, into a lent buffer: 0, or the number of the refusal; out holds the length written, or place and step. Finished, only
-// the table's bytes are changed; refused, the buffer is all zeros.
+// The table of a plant file, of the form that is told, into a lent buffer: 0, or the number of the refusal; out holds the length written, or place and
+// step. Finished, only the table's bytes are changed; refused, the buffer is all zeros.
 #[no_mangle]
 pub extern "C" fn hoachulim_make(plant: &[u8], form: u64, buf: &mut [u8], out: &mut [u64; 2]) -> u64
     ensures number { λ r. ⌜ r ≡ writtenShown (makerLeft (now (plant .entry)) form (now (buf .entry)) .answer) .number ⌝ }
@@ -108,8 +108,8 @@ pub extern "C" fn hoachulim_start_check(plant: &[u8], start: &[u8], out: &mut [u
     shown::verdict(verdict, out)
 }
 
-// The start file of a plant file and a chain, its tables of the form that is told, into a lent buffer: 0, or the number of the refusal; out holds the length written, or place and step.
-// Finished, only the file's bytes are changed; refused, the buffer is all zeros.
+// The start file of a plant file and a chain, its tables of the form that is told, into a lent buffer: 0, or the number of the refusal; out holds the
+// length written, or place and step. Finished, only the file's bytes are changed; refused, the buffer is all zeros.
 #[no_mangle]
 pub extern "C" fn hoachulim_start_make(
     plant: &[u8],

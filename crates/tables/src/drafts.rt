@@ -27,7 +27,7 @@ ghost use Rattle.tables.specs.Tiles.{longestPattern, patternOf};
 ghost use Rattle.tables.specs.Drafts.{Wrote, treeBytes, definedBytes};
 
 // No table has more bytes than MOST; none of at most BRIEF modes, which take a byte each, more than LONG; and none of such and at most sixteen tiles more than
-// FEW. Zeros of 32,769 bytes would be a sixth of what a small house needs, and of 57,345 a half.
+// FEW. The zeros of a long draft are a good part of what a small house's table takes (docs/DECISIONS.md, "The maker drafts").
 pub const MOST: usize = 57_345;
 
 pub const BRIEF: usize = 128;

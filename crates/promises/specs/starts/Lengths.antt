@@ -1,5 +1,5 @@
--- How long a start file may be: one that is accepted, and so one that is made, has at most 516,326 bytes, and one that is made of form 1 at most 491,660. Form and
--- m take a byte each, an edge 3, a table's length 3. Of form 1 the longest tables have n 2 and D 6; with n 3 and 4 the edges are more, the tables shorter by more
+-- How long a start file may be: one that is accepted, and so one that is made, has at most 516,326 bytes, and one whose tables are all of form 1 at most 491,660.
+-- Form and m take a byte each, an edge 3, a table's length 3. Of form 1 the longest tables have n 2 and D 6; with n 3 and 4 the edges are more, the tables shorter by more
 -- than that. Of form 3 they are as long with any n that reaches n·D = 12, so n 4 has the longest file. Relies on pages Accepted, Maker and TableLengths; that
 -- some file is so long is left out.
 use Prim.Native.Nat.{ℕ, zero, suc, _+_, _*_, _^_, _≤_, _<_}
