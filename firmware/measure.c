@@ -14,11 +14,13 @@ STORED(house_plant, "house.plant")
 STORED(house_table, "house.table")
 STORED(four_plant, "four.plant")
 STORED(four_table, "four.table")
+STORED(four_lengths_table, "four_lengths.table")
 STORED(four_halved_table, "four_halved.table")
 STORED(valves_plant, "valves.plant")
 STORED(valves_table, "valves.table")
 STORED(table_plant, "table.plant")
 STORED(table_table, "table.table")
+STORED(table_lengths_table, "table_lengths.table")
 STORED(table_halved_table, "table_halved.table")
 STORED(largest_plant, "plant.plant")
 STORED(largest_table, "plant.table")
@@ -28,9 +30,11 @@ STORED(cold_start, "cold.start")
 STORED(start_plant, "start.plant")
 STORED(start_chain, "start.chain")
 STORED(start_start, "start.start")
+STORED(start_lengths_start, "start_lengths.start")
 STORED(start_halved_start, "start_halved.start")
 
-/* What a call takes: a plant (or a sheet) with a table, a start file or a chain, the state, the reading, and the form that a maker is told. */
+/* What a call takes: a plant (or a sheet) with a table, a start file or a chain, the state, the reading, and the form that is told. The name
+   of an input with tables of form 2 ends with _lengths, of form 3 with _halved. */
 struct input {
     const char *name;
     struct stored s;
@@ -48,6 +52,11 @@ static void call_sheet(void) { number = hoachulim_sheet(in->s.plant, in->s.plant
 static void call_make(void) { number = hoachulim_make(in->s.plant, in->s.plant_length, in->form, buffer, sizeof buffer, out); }
 static void call_check(void) { number = hoachulim_check(in->s.plant, in->s.plant_length, in->s.file, in->s.file_length, out); }
 static void call_start_check(void) { number = hoachulim_start_check(in->s.plant, in->s.plant_length, in->s.file, in->s.file_length, out); }
+
+static void call_relay(void)
+{
+    number = hoachulim_relay(in->s.plant, in->s.plant_length, in->s.file, in->s.file_length, in->form, buffer, sizeof buffer, out);
+}
 
 static void call_start_make(void)
 {
@@ -135,6 +144,11 @@ static void a_make(const char *name, struct stored s, uint64_t form)
     measure("make", call_make, "once", (struct input){name, s, 0, 0, 0, {0}, form}, 1);
 }
 
+static void a_relay(const char *name, struct stored s, uint64_t form)
+{
+    measure("relay", call_relay, "once", (struct input){name, s, 0, 0, 0, {0}, form}, 1);
+}
+
 static void a_start_make(const char *name, uint64_t form)
 {
     measure("start_make", call_start_make, "once", (struct input){name, BOTH(start_plant, start_chain), 0, 0, 0, {0}, form}, 1);
@@ -145,28 +159,56 @@ static void tables(void)
     a_table("P", (struct stored)BOTH(p_plant, p_table), 225, 0, 0, 0, 4, 1, 1000);
     a_table("house", (struct stored)BOTH(house_plant, house_table), 2200, 2200, 0, 0, 4, 4, 1000);
     a_table("four", (struct stored)BOTH(four_plant, four_table), 3000, 2200, 3000, 2200, 5, 2, 1000);
+    a_table("four_lengths", (struct stored)BOTH(four_plant, four_lengths_table), 3000, 2200, 3000, 2200, 20, 2, 1000);
     a_table("four_halved", (struct stored)BOTH(four_plant, four_halved_table), 3000, 2200, 3000, 2200, 8, 2, 1000);
     a_table("table", (struct stored)BOTH(table_plant, table_table), 1063, 1063, 0, 0, 9, 6, 1);
+    a_table("table_lengths", (struct stored)BOTH(table_plant, table_lengths_table), 1063, 1063, 0, 0, 39, 6, 1);
     a_table("table_halved", (struct stored)BOTH(table_plant, table_halved_table), 1063, 1063, 0, 0, 15, 6, 1);
     a_table("valves", (struct stored)BOTH(valves_plant, valves_table), 225, 0, 0, 0, 5, 1, 100);
     a_table("plant", (struct stored)BOTH(largest_plant, largest_table), 500003, 500003, 500003, 500003, 6, 6, 1);
 }
 
-int main(void)
+static void makes(void)
 {
-    tables();
     a_make("P", (struct stored)BOTH(p_plant, p_table), 1);
     a_make("house", (struct stored)BOTH(house_plant, house_table), 1);
     a_make("four", (struct stored)BOTH(four_plant, four_table), 1);
+    a_make("four_lengths", (struct stored)BOTH(four_plant, four_table), 2);
     a_make("four_halved", (struct stored)BOTH(four_plant, four_table), 3);
     a_make("valves", (struct stored)BOTH(valves_plant, valves_table), 1);
     a_make("table", (struct stored)BOTH(table_plant, table_table), 1);
+    a_make("table_lengths", (struct stored)BOTH(table_plant, table_table), 2);
     a_make("table_halved", (struct stored)BOTH(table_plant, table_table), 3);
+}
+
+/* Forms 1 and 2 into each other; form 3 into its own, the one that it can be turned into. */
+static void relays(void)
+{
+    a_relay("four", (struct stored)BOTH(four_plant, four_table), 2);
+    a_relay("four_lengths", (struct stored)BOTH(four_plant, four_lengths_table), 1);
+    a_relay("table", (struct stored)BOTH(table_plant, table_table), 2);
+    a_relay("table_lengths", (struct stored)BOTH(table_plant, table_lengths_table), 1);
+    a_relay("table_halved", (struct stored)BOTH(table_plant, table_halved_table), 3);
+    a_relay("plant", (struct stored)BOTH(largest_plant, largest_table), 2);
+}
+
+static void starts(void)
+{
     a_start("cold", (struct stored)BOTH(cold_plant, cold_start), 230, 2, 5, 1, 1000);
     a_start("start", (struct stored)BOTH(start_plant, start_start), 1063, 8, 9, 6, 1);
+    a_start("start_lengths", (struct stored)BOTH(start_plant, start_lengths_start), 1063, 8, 39, 6, 1);
     a_start("start_halved", (struct stored)BOTH(start_plant, start_halved_start), 1063, 8, 15, 6, 1);
     a_start_make("start", 1);
+    a_start_make("start_lengths", 2);
     a_start_make("start_halved", 3);
+}
+
+int main(void)
+{
+    tables();
+    makes();
+    relays();
+    starts();
     measure("sheet", call_sheet, "once", (struct input){"sheet", BOTH(sheet_sheet, sheet_sheet), 0, 0, 0, {0}, 0}, 100);
     return 0;
 }

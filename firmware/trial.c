@@ -18,6 +18,7 @@ STORED(house_plant, "house.plant")
 STORED(house_table, "house.table")
 STORED(four_plant, "four.plant")
 STORED(four_table, "four.table")
+STORED(four_lengths_table, "four_lengths.table")
 STORED(four_halved_table, "four_halved.table")
 STORED(cold_plant, "cold.plant")
 STORED(cold_start, "cold.start")
@@ -121,13 +122,15 @@ static void refused(const struct stored *p, const struct stored *house, const st
 int main(void)
 {
     const struct stored p = BOTH(p_plant, p_table), house = BOTH(house_plant, house_table), four = BOTH(four_plant, four_table);
-    const struct stored halved = BOTH(four_plant, four_halved_table); /* the table of form 3 */
+    const struct stored lengths = BOTH(four_plant, four_lengths_table); /* the table of form 2 */
+    const struct stored halved = BOTH(four_plant, four_halved_table);   /* the table of form 3 */
     const struct stored fan = BOTH(fan_plant, fan_table), valves = BOTH(valves_plant, valves_table), start = BOTH(cold_plant, cold_start);
     held("P", &p, (int64_t[]){195, 0, 0, 0});
     held("fan", &fan, (int64_t[]){195, 0, 0, 0});
     held("valves", &valves, (int64_t[]){195, 0, 0, 0});
     held("house", &house, (int64_t[]){2000, 2200, 0, 0});
     held("four", &four, (int64_t[]){2000, 2100, 2500, 2200});
+    held("four, lengths", &lengths, (int64_t[]){2000, 2100, 2500, 2200});
     held("four, halved", &halved, (int64_t[]){2000, 2100, 2500, 2200});
     cold(&start);
     refused(&p, &house, &start);

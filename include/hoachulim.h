@@ -26,15 +26,23 @@ uint64_t hoachulim_plant(const uint8_t *plant, uint64_t plant_length, uint64_t o
 uint64_t hoachulim_sheet(const uint8_t *sheet, uint64_t sheet_length,
                          uint8_t *buffer, uint64_t buffer_length, uint64_t out[2]);
 
-/* A table file, of form 1 or 3 as its header says, for a plant file. */
+/* A table file, of form 1, 2 or 3 as its header says, for a plant file. */
 uint64_t hoachulim_check(const uint8_t *plant, uint64_t plant_length,
                          const uint8_t *table, uint64_t table_length, uint64_t out[2]);
 
-/* The table of a plant, made into a lent buffer; no table has more than 57,345 bytes. The form is 1, which splits a box along all sides at once, or 3,
-   which halves the longest side; any other is refused by 2, after the plant. out[0] is the length written where the number is 0.
+/* The table of a plant, made into a lent buffer; no table has more than 58,965 bytes. The form is 1, which splits a box along all sides at once; 2,
+   which does so too and tells lengths, so that a call reads the way to its tile alone; or 3, which halves the longest side. Any other is refused by 2, after
+   the plant. out[0] is the length written where the number is 0.
    Finished, only the table's bytes are changed; refused, the whole buffer is zeros. */
 uint64_t hoachulim_make(const uint8_t *plant, uint64_t plant_length, uint64_t form,
                         uint8_t *buffer, uint64_t buffer_length, uint64_t out[2]);
+
+/* A table file that hoachulim_check accepts for a plant file, as one of another form, into a lent buffer that does not overlap it: the same boxes and modes.
+   Forms 1 and 2 are turned into each other, and any table into its own form; any other form is refused by 2, after all that hoachulim_check refuses.
+   out and buffer as for hoachulim_make. */
+uint64_t hoachulim_relay(const uint8_t *plant, uint64_t plant_length,
+                         const uint8_t *table, uint64_t table_length, uint64_t form,
+                         uint8_t *buffer, uint64_t buffer_length, uint64_t out[2]);
 
 /* One call of the controller, once each sample. Idle is place 0, left 0; hand back out[3] and out[4] at the next call.
    x0..x3 is the reading; numbers beyond the plant's rooms are ignored.
@@ -48,7 +56,7 @@ uint64_t hoachulim_control(const uint8_t *plant, uint64_t plant_length,
 /* Start files, for rooms that begin far outside R: a chain of boxes R = R0, R1, .. Rm, each holding the one before, all in S, and for each box a table whose
    patterns end in the box below it.
 
-   The start file of a plant and a chain, made into a lent buffer; no start file has more than 516,326 bytes. A chain is form 1, m and the edges of
+   The start file of a plant and a chain, made into a lent buffer; no start file has more than 530,810 bytes. A chain is form 1, m and the edges of
    R1..Rm. The form is that of every table in it; form, out and buffer as for hoachulim_make; of refusal 9 out[0] is the first index without a table. */
 uint64_t hoachulim_start_make(const uint8_t *plant, uint64_t plant_length,
                               const uint8_t *chain, uint64_t chain_length, uint64_t form,

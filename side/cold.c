@@ -1,4 +1,4 @@
-/* A cold room brought home the way firmware does it: the start file is made once of plant and chain, with tables of form 1 and then of form 3, checked
+/* A cold room brought home the way firmware does it: the start file is made once of plant and chain, with tables of each form by turns, checked
    once, then one call a sample.
    The plant is document 01's P with S 150..240, the chain R1 180..225 and R2 160..230. The room begins at each reading of R2; the next reading
    is the lowest or the highest that the mode's equation and band allow, or one between, by turns. Every answer is held against what is promised:
@@ -36,13 +36,14 @@ static int64_t next_reading(int64_t x, uint64_t mode, int which)
     return which == 0 ? low : which == 1 ? high : (low + high) / 2;
 }
 
-/* The sum of the longest patterns of tables 1..index; here every length, node and mode is a number of one byte. */
+/* The sum of the longest patterns of tables 1..index; here every length, node and mode is a number of one byte, and form 2 has one length behind a
+   split's 0. */
 static unsigned longest_way(unsigned index)
 {
     unsigned sum = 0, at = sizeof chain;
     for (unsigned table = 0; table <= index; table++) {
-        unsigned longest = 0, end = at + 1 + start[at];
-        for (at += 3; at < end; at += 1 + start[at])
+        unsigned longest = 0, end = at + 1 + start[at], form = start[at + 1];
+        for (at += 3; at < end; at += start[at] == 0 && form == 2 ? 2 : 1 + start[at])
             longest = start[at] > longest ? start[at] : longest;
         sum += table > 0 ? longest : 0;
     }
@@ -86,13 +87,15 @@ static int run(int64_t first, int kind)
 
 /* What must be refused: a buffer too short, a form that is not known, a reading outside R2, an index over 2, an index with an idle state, and a file
    cut short. */
-static int refusals(void)
+static int refusals(uint64_t form)
 {
     uint64_t out[6];
     uint8_t small[20];
+    /* table 1 splits once, so that in form 2 it is a byte longer */
+    uint64_t last_length = form == 2 ? 27 : 26;
     if (hoachulim_start_make(plant, sizeof plant, chain, sizeof chain, 3, small, sizeof small, out) != 10)
         return 0;
-    if (hoachulim_start_make(plant, sizeof plant, chain, sizeof chain, 2, small, sizeof small, out) != 2 || out[0] != 0)
+    if (hoachulim_start_make(plant, sizeof plant, chain, sizeof chain, 4, small, sizeof small, out) != 2 || out[0] != 0)
         return 0;
     if (hoachulim_start_control(plant, sizeof plant, start, start_length, 0, 0, 0, 159, 0, 0, 0, out) != NO_MODE || out[0] != 11)
         return 0;
@@ -100,9 +103,9 @@ static int refusals(void)
         return 0;
     if (hoachulim_start_control(plant, sizeof plant, start, start_length, 1, 0, 0, 200, 0, 0, 0, out) != NO_MODE || out[0] != 12)
         return 0;
-    if (hoachulim_start_control(plant, sizeof plant, start, start_length - 1, 0, 0, 0, 160, 0, 0, 0, out) != NO_MODE || out[0] != 3 || out[1] != 26)
+    if (hoachulim_start_control(plant, sizeof plant, start, start_length - 1, 0, 0, 0, 160, 0, 0, 0, out) != NO_MODE || out[0] != 3)
         return 0;
-    return out[3] + out[4] + out[5] == 0;
+    return out[1] == last_length && out[3] + out[4] + out[5] == 0;
 }
 
 /* The start file with tables of a form, made and checked; then a run of each kind from each reading of R2. 0 where all came home. */
@@ -120,16 +123,16 @@ static int brought_home(uint64_t form)
                 printf("from %lld, kind %d\n", (long long)first, kind);
                 return 3;
             }
-    return refusals() ? 0 : 4;
+    return refusals(form) ? 0 : 4;
 }
 
 int main(void)
 {
-    for (uint64_t form = 1; form <= 3; form += 2) {
+    for (uint64_t form = 1; form <= 3; form++) {
         int status = brought_home(form);
         if (status != 0)
             return status;
     }
-    printf("came home %d times\n", 2 * 71 * 4);
+    printf("came home %d times\n", 3 * 71 * 4);
     return 0;
 }

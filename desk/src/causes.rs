@@ -4,7 +4,7 @@
 
 use crate::files::boxes::{self, Sides};
 use crate::files::chains::Inner;
-use crate::files::forms::{FORMS, TABLE_FORMS};
+use crate::files::forms::{Form, FORMS, TABLE_FORMS};
 use crate::files::houses::accepted;
 use crate::files::numbers::Reader;
 use crate::files::plants::Bounds;
@@ -67,6 +67,15 @@ pub fn table(plant: &Plant, bytes: &[u8], refusal: Refusal) -> String {
         _ => standing(bytes, refusal, |file| follow(file, &mut Table::default()).is_some()),
     };
     line(refusal, cause)
+}
+
+/// Why a table's file was not turned into a form, for a plant that was accepted: what the checker tells of it, then 2.
+pub fn relaid(plant: &Plant, bytes: &[u8], form: u64, refusal: Refusal) -> String {
+    // both are told at 0: the table's own form comes first, and is right where its byte is one of the forms
+    match bytes.first().and_then(|&head| Form::of(head.into())) {
+        Some(own) if refusal.number == 2 => not_its_split(own, form),
+        _ => table(plant, bytes, refusal),
+    }
 }
 
 /// Why a chain's file was refused for a plant that was accepted.
@@ -156,13 +165,14 @@ fn narrow(name: &str, w: boxes::Side, q: u64) -> String {
     format!("{name} is {w}, which is {} wide, wanted at least q - 1 = {}", w.hi - w.lo, q - 1)
 }
 
-/// 9. Where boxes of more than one room may be split, the forms split them otherwise, and some plants have a table of one form alone; whether this is such
-/// a plant would take another search, so that it is not asked.
+/// 9. Where boxes of more than one room may be split, forms 1 and 2 split them otherwise than form 3, and some plants have a table by one of these splits
+/// alone; whether this is such a plant would take another search, so that it is not asked.
 fn no_table(plant: &Plant, form: u64) -> String {
     let cause = "some box that can be split no further has no pattern that works; a larger longest pattern or depth, a wider R or S, or a narrower w may help";
-    let others: Vec<String> = FORMS.iter().map(|other| other.number()).filter(|&other| other != form).map(|other| format!("form {other}")).collect();
+    let otherwise = |other: &&Form| Form::of(form).is_some_and(|form| !form.splits_as(**other));
+    let others: Vec<String> = FORMS.iter().filter(otherwise).map(|other| format!("form {}", other.number())).collect();
     match plant.rooms.len() > 1 && plant.depth > 0 {
-        true => format!("{cause}, and so may {}: some plants have a table of one form alone", others.join(" or ")),
+        true => format!("{cause}, and so may {}: some plants have a table by one way to split alone", others.join(" or ")),
         false => cause.into(),
     }
 }
@@ -170,6 +180,13 @@ fn no_table(plant: &Plant, form: u64) -> String {
 /// 2 of a maker: the form that it was told.
 fn not_a_form(form: u64) -> String {
     format!("2: the form asked for is {form}, wanted {TABLE_FORMS}")
+}
+
+/// 2 of a table that is of its own form rightly: the form that it was to be turned into.
+fn not_its_split(own: Form, form: u64) -> String {
+    let alike: Vec<String> = FORMS.iter().filter(|other| other.splits_as(own)).map(|other| other.number().to_string()).collect();
+    let wanted = alike.join(" or ");
+    format!("2: the form asked for is {form}, wanted {wanted}: the table is of form {}, and its boxes stay split as they are", own.number())
 }
 
 /// 7 and 8: the images of a tile up to the step, of which the last is at fault.

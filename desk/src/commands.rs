@@ -21,6 +21,7 @@ usage: hoachulim write TEXT FILE                    a sheet, plant or chain of i
        hoachulim show [KIND] FILE [HOUSE]           the text of a file; a table, chain or start file needs its house, which is a sheet or a plant
        hoachulim sheet SHEET PLANT                  the plant of a sheet
        hoachulim make PLANT TABLE [FORM]            the table of a plant
+       hoachulim relay PLANT TABLE FORM OUT         a table in another form of the same tree: 1 as 2, and 2 as 1; not the tables of a start file
        hoachulim check PLANT TABLE                  whether a table is safe for a plant
        hoachulim drive PLANT TABLE X..              the controller's answers to readings
        hoachulim drive PLANT TABLE any COUNT SEED   the same for a room that does what the plant allows
@@ -29,7 +30,7 @@ usage: hoachulim write TEXT FILE                    a sheet, plant or chain of i
        hoachulim picture [KIND] HOUSE FILE OUT.svg                 the tiles of a table, or the chain of a start file and a run home
        hoachulim picture-run [KIND] HOUSE FILE OUT.svg COUNT SEED  a run as a chart
        hoachulim release [KIND] HOUSE FILE OUT.html                the page of a release
-         FORM is 1, boxes split along all sides, as where none is said, or 3, along the longest alone;
+         FORM is 1, boxes split along all sides, as where none is said, 2, the same with the lengths of subtrees, or 3, along the longest side alone;
          HOUSE is a sheet or a plant, FILE its table or start file, KIND `table` or `start` where it has to be said;
          `--degrees R` behind the words of a plant gives its counts a degree";
 
@@ -56,6 +57,7 @@ pub fn run(words: &[&str], out: &mut dyn Write) -> Ran {
         ["sheet", sheet, plant] => sheet_to_plant(sheet, plant, out),
         ["make", "start", plant, chain, start, ref form @ ..] => start_make(plant, chain, start, form_of(form)?, out),
         ["make", plant, table, ref form @ ..] => make(plant, table, form_of(form)?, out),
+        ["relay", plant, table, form, path] => relay(plant, table, form_of(&[form])?, path, out),
         ["check", plant, table] => check(Kind::Table, plant, table, out),
         ["check", "start", plant, start] => check(Kind::Start, plant, start, out),
         ["drive", "start", plant, start, ref rest @ ..] if !rest.is_empty() => drives::drive(Kind::Start, plant, start, rest, out),
@@ -202,6 +204,18 @@ fn make(plant: &str, path: &str, form: u64, out: &mut dyn Write) -> Ran {
 /// The search beside the library's; a form that is not known the library refuses before any search.
 fn search<'a>(plant: &'a Plant, chain: &[Sides], form: u64) -> Search<'a> {
     Search::of(plant, chain, Form::of(form).unwrap_or_default())
+}
+
+/// A table in another form, its tiles and patterns as they are, so that nothing is searched for.
+fn relay(plant: &str, table: &str, form: u64, path: &str, out: &mut dyn Write) -> Ran {
+    let bytes = papers::read(table)?;
+    let Some(house) = plant_at(plant, out)? else {
+        return Ok(Outcome::Refused);
+    };
+    match library::relay(&house.bytes, &bytes, form) {
+        Err(refusal) => refused(out, refusal, &causes::relaid(&house.plant, &bytes, form, refusal)),
+        Ok(relaid) => done(out, path, &relaid, &summary(&accepted(Table::read(&relaid, &house.plant)), relaid.len())),
+    }
 }
 
 /// A table, or a start file, for a plant.

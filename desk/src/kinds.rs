@@ -1,4 +1,4 @@
-//! The kinds of file: all but a plant of form 2 and a table of form 3 begin with 01, and some bytes are right as two of them. So a kind is a word,
+//! The kinds of file: all but a plant of form 2 and a table of form 2 or 3 begin with 01, and some bytes are right as two of them. So a kind is a word,
 //! or it is found by asking the library for each that may be, and a file that is right as more than one is never taken for one of them.
 
 use crate::causes;

@@ -6,8 +6,8 @@ use crate::refusals::Refusal;
 
 /// The largest file of each kind, in bytes (docs/FORMATS.md, "Lengths").
 pub const LARGEST_PLANT: usize = 27_704;
-pub const LARGEST_TABLE: usize = 57_345;
-pub const LARGEST_START: usize = 516_326;
+pub const LARGEST_TABLE: usize = 58_965;
+pub const LARGEST_START: usize = 530_810;
 
 /// What a controller keeps from call to call; idle is zeros. `index` is 0 wherever a table alone is called.
 #[derive(Clone, Copy, Debug, Default, PartialEq, Eq)]
@@ -32,6 +32,16 @@ mod face {
         pub fn hoachulim_sheet(sheet: *const u8, sheet_length: u64, buffer: *mut u8, buffer_length: u64, out: *mut u64) -> u64;
         pub fn hoachulim_check(plant: *const u8, plant_length: u64, table: *const u8, table_length: u64, out: *mut u64) -> u64;
         pub fn hoachulim_make(plant: *const u8, plant_length: u64, form: u64, buffer: *mut u8, buffer_length: u64, out: *mut u64) -> u64;
+        pub fn hoachulim_relay(
+            plant: *const u8,
+            plant_length: u64,
+            table: *const u8,
+            table_length: u64,
+            form: u64,
+            buffer: *mut u8,
+            buffer_length: u64,
+            out: *mut u64,
+        ) -> u64;
         pub fn hoachulim_control(
             plant: *const u8,
             plant_length: u64,
@@ -112,6 +122,22 @@ pub fn sheet(sheet: &[u8]) -> Result<Vec<u8>, Refusal> {
 pub fn make(plant: &[u8], form: u64) -> Result<Vec<u8>, Refusal> {
     made(LARGEST_TABLE, |buffer, out| unsafe {
         face::hoachulim_make(plant.as_ptr(), plant.len() as u64, form, buffer.as_mut_ptr(), buffer.len() as u64, out.as_mut_ptr())
+    })
+}
+
+/// A table's file in another form of the same tree, where the library accepts the table; whether it can be of that form is the library's to say.
+pub fn relay(plant: &[u8], table: &[u8], form: u64) -> Result<Vec<u8>, Refusal> {
+    made(LARGEST_TABLE, |buffer, out| unsafe {
+        face::hoachulim_relay(
+            plant.as_ptr(),
+            plant.len() as u64,
+            table.as_ptr(),
+            table.len() as u64,
+            form,
+            buffer.as_mut_ptr(),
+            buffer.len() as u64,
+            out.as_mut_ptr(),
+        )
     })
 }
 

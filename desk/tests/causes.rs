@@ -49,14 +49,15 @@ fn causes_of_makers() {
     let gallery = |depth| Plant { depth, ..Plant::read(&sample("gallery.plant")).unwrap() }.write();
     // P without heat and the gallery without a split: in one room alone or with nothing to split the forms have the same tables
     for plant in [file(&with(&p_fields(), 15, S(100))), gallery(0)] {
-        assert_eq!(FORMS.map(|form| of_maker(&plant, form)), [NO_TABLE; 2]);
-        NO_FORMS.iter().for_each(|&form| assert_eq!(of_maker(&plant, form), format!("2: the form asked for is {form}, wanted 1 or 3")));
+        assert_eq!(FORMS.map(|form| of_maker(&plant, form)), [NO_TABLE; 3]);
+        NO_FORMS.iter().for_each(|&form| assert_eq!(of_maker(&plant, form), format!("2: the form asked for is {form}, wanted 1, 2 or 3")));
     }
     // split twice the gallery has a table of form 3 alone, split once none
-    let says_other = |other| format!("{NO_TABLE}, and so may form {other}: some plants have a table of one form alone");
-    assert_eq!(of_maker(&gallery(2), 1), says_other(3));
+    let says_other = |other| format!("{NO_TABLE}, and so may {other}: some plants have a table by one way to split alone");
+    assert_eq!(of_maker(&gallery(2), 1), says_other("form 3"));
+    assert_eq!(of_maker(&gallery(2), 2), says_other("form 3"));
     assert!(library::make(&gallery(2), 3).is_ok());
-    assert_eq!(of_maker(&gallery(1), 3), says_other(1));
+    assert_eq!(of_maker(&gallery(1), 3), says_other("form 1 or form 2"));
 }
 
 /// P with S 190..230 and two rooms in form 2: bands of a mode named by it.
@@ -115,10 +116,32 @@ fn causes_of_tables() {
     assert_eq!(of_table(&one_count, &[1, 1, 0]), "6 at byte 2: box 200 .. 200 is split, and no side of it has more than one count");
     assert_eq!(of_table(&P, &[&T1[..], &[0]].concat()), "6 at byte 7: 1 byte left over behind the last number");
     assert_eq!(of_table(&P, &[1, 1, 0, 1]), "1 at byte 4: a mode of tile 195 .. 210 ends early");
-    assert_eq!(of_table(&P, &[2]), "2 at byte 0: the form is 2, wanted 1 or 3");
+    assert_eq!(of_table(&P, &[4]), "2 at byte 0: the form is 4, wanted 1, 2 or 3");
     assert_eq!(of_table(&P, &[1, 1, 1, 1]), "7 at byte 2, step 1: tile 195 .. 225 with modes 1: room 1 comes to 205 .. 232, S is 190 .. 230");
     assert_eq!(of_table(&p_prime(), &[1, 1, 1, 1]), "8 at byte 2, step 1: tile 195 .. 225 with modes 1: room 1 comes to 205 .. 232, R is 195 .. 225");
     assert_eq!(of_table(&P, &T5), "7 at byte 2, step 1: tile 195 .. 225 with modes 0 1: room 1 comes to 185 .. 212, S is 190 .. 230");
+}
+
+/// Of form 2: a length that is wrong or no number, of a child and of a child's child; what a child has is counted with its own lengths.
+#[test]
+fn causes_of_lengths() {
+    let by_length = |length: &[u8]| of_table(&P, &[&[2, 1, 0], length, &[1, 1, 1, 0]].concat());
+    for length in [0, 3, 99] {
+        assert_eq!(by_length(&[length]), format!("6 at byte 3: box 195 .. 210 is to have {length} bytes and has 2"));
+    }
+    assert_eq!(by_length(&[1]), "6 at byte 3: box 195 .. 210 is to have 1 byte and has 2");
+    assert_eq!(by_length(&[0x82, 0]), "1 at byte 3: the length of box 195 .. 210 is not in shortest form: its last byte is 00");
+    assert_eq!(of_table(&P, &[2, 1, 0]), "1 at byte 3: the length of box 195 .. 210 ends early");
+    assert_eq!(of_table(&P, &[2, 1, 0, 2, 0]), "6 at byte 4: box 195 .. 210 is split at depth 1, D is 1");
+    assert_eq!(of_table(&P, &[2, 1, 0, 9, 1, 0, 1, 0]), "7 at byte 4, step 1: tile 195 .. 210 with modes 0: room 1 comes to 185 .. 199, S is 190 .. 230");
+    assert_eq!(of_table(&P, &[2, 1, 0, 2, 1, 1, 1, 0, 0]), "6 at byte 8: 1 byte left over behind the last number");
+    // four rooms of readings that every mode leads to 0 by 0; the second child is split, and the third has lengths before it
+    let two = |last: i64| file(&[&[1, 2, 1, 1, 1, 2].map(U)[..], &[0, last, 0, last, 0, last, 0, last, 0, 0, 0, 0, 0, 0, 0, 0, 0, 0].map(S)].concat());
+    let table = |outer: [u8; 3], inner: u8| [&[2, 2, 0][..], &outer, &[1, 0, 0, 2, inner, 2, 1, 0, 1, 0, 1, 0, 1, 0, 1, 0, 1, 0]].concat();
+    assert_eq!(library::check(&two(7), &table([2, 12, 2], 2)), Ok(()));
+    assert_eq!(of_table(&two(7), &table([2, 8, 2], 2)), "6 at byte 4: box 4 .. 7 by 0 .. 3 is to have 8 bytes and has 12");
+    assert_eq!(of_table(&two(7), &table([2, 12, 3], 2)), "6 at byte 5: box 0 .. 3 by 4 .. 7 is to have 3 bytes and has 2");
+    assert_eq!(of_table(&two(7), &table([2, 8, 2], 5)), "6 at byte 10: box 6 .. 7 by 0 .. 1 is to have 5 bytes and has 2");
 }
 
 /// Of form 3: depth counts halvings, and the boxes are those of its own split.

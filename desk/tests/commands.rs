@@ -141,8 +141,9 @@ fn a_wrong_call_or_file_is_2_and_changes_nothing() {
 fn a_table_of_the_form_that_is_asked_for() {
     let folder = Folder::new("forms");
     let (plant, table) = (sample_path("gallery.plant"), folder.path("table"));
-    let (one, three) = ("done: 55 tiles, longest pattern 4, 183 bytes\n", "done: form 3, 9 tiles, longest pattern 4, 44 bytes\n");
-    for (form, told, first) in [(&[][..], one, 1), (&["1"], one, 1), (&["3"], three, 3), (&["003"], three, 3)] {
+    let (one, two) = ("done: 55 tiles, longest pattern 4, 183 bytes\n", "done: form 2, 55 tiles, longest pattern 4, 237 bytes\n");
+    let three = "done: form 3, 9 tiles, longest pattern 4, 44 bytes\n";
+    for (form, told, first) in [(&[][..], one, 1), (&["1"], one, 1), (&["2"], two, 2), (&["3"], three, 3), (&["003"], three, 3)] {
         assert_eq!(run(&[&["make", &plant, &table], form].concat()), (0, told.into()));
         assert_eq!(std::fs::read(&table).unwrap()[0], first);
         assert_eq!(run(&["check", &plant, &table]), (0, "accepted\n".into()));
@@ -151,8 +152,8 @@ fn a_table_of_the_form_that_is_asked_for() {
     assert!(status == 0 && shown.starts_with("table form 3\nrooms 2\n9 tiles, "), "{shown}");
     let (status, lines) = run(&["drive", &plant, &table, "any", "300", "1"]);
     assert!(status == 0 && lines.starts_with("1400 2424 : 3 7 3\n1553 2298 : 3 8 2\n") && lines.ends_with("\ndriven 300 samples\n"), "{lines}");
-    let of_no_form = folder.put("no form", [&[2], &std::fs::read(&table).unwrap()[1..]].concat());
-    let told = (1, "refused 2 0 0: form is not known\n2 at byte 0: the form is 2, wanted 1 or 3\n".into());
+    let of_no_form = folder.put("no form", [&[4], &std::fs::read(&table).unwrap()[1..]].concat());
+    let told = (1, "refused 2 0 0: form is not known\n2 at byte 0: the form is 4, wanted 1, 2 or 3\n".into());
     for call in [&["check", &plant, &of_no_form][..], &["drive", &plant, &of_no_form, "2000", "2400"], &["show", "table", &of_no_form, &plant]] {
         assert_eq!(run(call), told, "{call:?}");
     }
@@ -162,16 +163,16 @@ fn a_table_of_the_form_that_is_asked_for() {
 fn a_form_that_is_not_known_is_refused_and_told() {
     let folder = Folder::new("unknown");
     let (plant, kept, chain) = (sample_path("gallery.plant"), folder.put("kept", "as it was"), folder.put("chain", [1, 0]));
-    let told = |form: &str| (1, format!("refused 2 0 0: form is not known\n2: the form asked for is {form}, wanted 1 or 3\n"));
-    for form in ["0", "2", "4", "259", "18446744073709551615"] {
+    let told = |form: &str| (1, format!("refused 2 0 0: form is not known\n2: the form asked for is {form}, wanted 1, 2 or 3\n"));
+    for form in ["0", "4", "258", "259", "18446744073709551615"] {
         assert_eq!(run(&["make", &plant, &kept, form]), told(form));
         assert_eq!(run(&["make", "start", &plant, &chain, &kept, form]), told(form));
     }
     // the faults of plant and chain come first
     let (cut, two) = (folder.put("cut", &P[..3]), folder.put("two", [2, 0]));
-    assert_eq!(run(&["make", &cut, &kept, "2"]).1.lines().last(), Some("1 at byte 3: q ends early"));
-    assert_eq!(run(&["make", "start", &cut, &chain, &kept, "2"]).1.lines().last(), Some("the plant, 1 at byte 3: q ends early"));
-    assert_eq!(run(&["make", "start", &plant, &two, &kept, "2"]).1.lines().last(), Some("2 at byte 0: the form is 2, wanted 1"));
+    assert_eq!(run(&["make", &cut, &kept, "4"]).1.lines().last(), Some("1 at byte 3: q ends early"));
+    assert_eq!(run(&["make", "start", &cut, &chain, &kept, "4"]).1.lines().last(), Some("the plant, 1 at byte 3: q ends early"));
+    assert_eq!(run(&["make", "start", &plant, &two, &kept, "4"]).1.lines().last(), Some("2 at byte 0: the form is 2, wanted 1"));
     for word in ["", "x", "+3", "-1", "3.0", " 3", "0x3", "18446744073709551616"] {
         assert_eq!(tool(&["make", &plant, &kept, word]).0, 2, "{word}");
         assert_eq!(tool(&["make", "start", &plant, &chain, &kept, word]).0, 2, "{word}");

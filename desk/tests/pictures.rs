@@ -149,10 +149,12 @@ fn the_gallery_says_its_form() {
         (svg.classed("heading")[0].text(), svg.classed("pattern").len())
     };
     assert_eq!(heading(3), ("2 rooms, form 3, 9 tiles, longest pattern 4".into(), 9));
+    assert_eq!(heading(2).0, "2 rooms, form 2, 55 tiles, longest pattern 4");
     assert_eq!(heading(1).0, "2 rooms, 55 tiles, longest pattern 4");
 }
 
-/// Four rooms of which the last is cut into 1,024, the one before into four: in form 3 one map with these across and up. In form 1 it is always rooms 1 and 2.
+/// Four rooms of which the last is cut into 1,024, the one before into four: in form 3 one map with these across and up. In forms 1 and 2 it is always
+/// rooms 1 and 2.
 #[test]
 fn rooms_that_are_cut_most_are_on_the_map() {
     let mut rooms = shapes::lengthening(4, 8);
@@ -170,8 +172,10 @@ fn rooms_that_are_cut_most_are_on_the_map() {
         (words, svg.classed("frame").len(), svg.classed("edge").len(), is_rightmost)
     };
     assert_eq!(drawn(Form::Three), ("across each panel room 4, up each panel room 3".into(), 1, 3, true));
-    let (words, panels, ..) = drawn(Form::One);
-    assert_eq!((words.as_str(), panels), ("across each panel room 1, up each panel room 2", 64));
+    for form in [Form::One, Form::Two] {
+        let (words, panels, ..) = drawn(form);
+        assert_eq!((words.as_str(), panels), ("across each panel room 1, up each panel room 2", 64));
+    }
 }
 
 /// A run of so many samples of a house that has a table.

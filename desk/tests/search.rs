@@ -10,10 +10,12 @@ use hoachulim::library;
 use hoachulim::search::Search;
 use side::common::{cold_chain, cold_p, file, in_form_2, p_fields, with, U};
 use side::inputs::{plant_fields, random, rounds};
+use side::tables::relaid_table;
 
-/// The boxes of a table: its nodes, each behind the modes of the one before.
-fn boxes(table: &[u8]) -> u64 {
-    let mut file = Reader::new(&table[2..]);
+/// The boxes of a table: its nodes, each behind the modes of the one before; of form 2 those of the same tree without lengths.
+fn boxes(house: &House, table: &[u8]) -> u64 {
+    let plain = if table[0] == 2 { relaid_table(&house.bytes, table, 1).unwrap() } else { table.to_vec() };
+    let mut file = Reader::new(&plain[2..]);
     let mut number = || file.number(String::new, |_| String::new());
     let mut boxes = 0;
     while let Some(node) = number() {
@@ -36,8 +38,8 @@ fn it_goes_the_library_s_way() {
             let search = Search::of(&house.plant, &[], form);
             match (library::make(&house.bytes, form.number()), search.run()) {
                 (Ok(table), true) => {
-                    assert_eq!(search.done(), boxes(&table), "{form:?} {:?}", house.bytes);
-                    split += usize::from(boxes(&table) > 1);
+                    assert_eq!(search.done(), boxes(house, &table), "{form:?} {:?}", house.bytes);
+                    split += usize::from(boxes(house, &table) > 1);
                 }
                 (Err(_), false) => without += 1,
                 (made, found) => panic!("{form:?} {made:?}, {found}: {:?}", house.bytes),
@@ -47,11 +49,13 @@ fn it_goes_the_library_s_way() {
     }
 }
 
-/// The gallery: in form 1 55 tiles and 18 splits of up to 4^4 tiles and 1 + 4 + 16 + 64 splits, in form 3 9 tiles and 8 halvings of up to 2^8 and 2^8 - 1.
+/// The gallery: in forms 1 and 2 55 tiles and 18 splits of up to 4^4 tiles and 1 + 4 + 16 + 64 splits, in form 3 9 tiles and 8 halvings of up to 2^8 and
+/// 2^8 - 1.
 #[test]
 fn it_says_how_many_boxes_there_may_be() {
     let house = House::of(sample("gallery.plant"), None);
-    for (form, words) in [(Form::One, "73 boxes done of up to 341"), (Form::Three, "17 boxes done of up to 511")] {
+    let split_at_once = "73 boxes done of up to 341";
+    for (form, words) in [(Form::One, split_at_once), (Form::Two, split_at_once), (Form::Three, "17 boxes done of up to 511")] {
         let search = Search::of(&house.plant, &[], form);
         assert!(search.run());
         assert!(search.words().starts_with(&format!("own search: {words}, length ")), "{}", search.words());

@@ -79,7 +79,8 @@ fn start_files_of_the_form_that_is_asked_for() {
     let (plant, start, house) = (sample_path("gallery.plant"), folder.path("start"), house(&sample("gallery.plant")));
     let chain = folder.put("chain", Chain { boxes: vec![house.plant.r()] }.write());
     let (one, three) = ("done: 2 tables, 110 tiles, home within 4 samples, 380 bytes\n", "done: form 3, 2 tables, 18 tiles, home within 4 samples, 100 bytes\n");
-    for (words, told, form) in [(&[][..], one, 1), (&["1"], one, 1), (&["3"], three, 3)] {
+    let two = "done: form 2, 2 tables, 110 tiles, home within 4 samples, 488 bytes\n";
+    for (words, told, form) in [(&[][..], one, 1), (&["1"], one, 1), (&["2"], two, 2), (&["3"], three, 3)] {
         let (status, out, _) = tool(&[&["make", "start", &plant, &chain, &start], words].concat());
         assert_eq!((status, out.as_str()), (0, told));
         let table = library::make(&house.bytes, form).unwrap();
@@ -87,18 +88,24 @@ fn start_files_of_the_form_that_is_asked_for() {
     }
     let shallow = folder.put("shallow", Plant { depth: 1, ..house.plant }.write());
     let (status, told, _) = tool(&["make", "start", &shallow, &chain, &start, "3"]);
-    assert!(status == 1 && told.starts_with("refused 9 0 0: no table\n9: R has no table: ") && told.contains(", and so may form 1: "), "{told}");
+    assert!(status == 1 && told.starts_with("refused 9 0 0: no table\n9: R has no table: ") && told.contains(", and so may form 1 or form 2: "), "{told}");
 }
 
 /// Each table of a start file has its own form: shown, judged, explained and driven by it.
 #[test]
-fn tables_of_either_form_side_by_side() {
+fn tables_of_all_forms_side_by_side() {
     let folder = Folder::new("mixed");
     let (plant, house) = (sample_path("gallery.plant"), house(&sample("gallery.plant")));
-    let [one, three] = [1, 3].map(|form| library::make(&house.bytes, form).unwrap());
+    let [one, two, three] = [1, 2, 3].map(|form| library::make(&house.bytes, form).unwrap());
     let of = |tables: &[&[u8]]| start_of(vec![house.plant.r()], tables);
+    let by_lengths = "form 2, 55 tiles, longest pattern 4, 237 bytes";
     let heads = ["form 3, 9 tiles, longest pattern 4, 44 bytes", "55 tiles, longest pattern 4, 183 bytes"];
-    for (tables, heads) in [([&three, &one], heads), ([&one, &three], [heads[1], heads[0]])] {
+    for (tables, heads) in [
+        ([&three, &one], heads),
+        ([&one, &three], [heads[1], heads[0]]),
+        ([&two, &one], [by_lengths, heads[1]]),
+        ([&three, &two], [heads[0], by_lengths]),
+    ] {
         let start = folder.put("start", of(&tables.map(|table| &table[..])));
         assert_eq!(tool(&["check", "start", &plant, &start]).1, "accepted\n");
         let (_, shown, _) = tool(&["show", &start, &plant]);
@@ -110,7 +117,10 @@ fn tables_of_either_form_side_by_side() {
     let deep = |form: u8, splits: usize| [vec![form, 2], vec![0; splits], vec![1, 0]].concat();
     assert_eq!(cause(&of(&[&one, &deep(3, 9)])), "6 at byte 206: box 1400 .. 1437 by 2300 .. 2320 is split at depth 8, n·D is 8");
     assert_eq!(cause(&of(&[&three, &deep(1, 5)])), "6 at byte 62: box 1400 .. 1475 by 2300 .. 2310 is split at depth 4, D is 4");
-    assert_eq!(cause(&of(&[&three, &[2, 2, 1, 0]])), "2 at byte 56: the form is 2, wanted 1 or 3");
+    assert_eq!(cause(&of(&[&three, &[4, 2, 1, 0]])), "2 at byte 56: the form is 4, wanted 1, 2 or 3");
+    let mut wrong = two.clone();
+    wrong[3] += 1;
+    assert_eq!(cause(&of(&[&three, &wrong])), "6 at byte 60: box 1400 .. 2000 by 2300 .. 2380 is to have 51 bytes and has 50");
 }
 
 /// What the second program tells of a chain, but for the tables that it would make.
@@ -206,7 +216,7 @@ fn causes_of_start_files() {
     assert_eq!(with_byte(6, 17), "3 at byte 6: table 0 is to have 17 bytes, 15 are left");
     assert_eq!(with_byte(6, 8), "3 at byte 6: table 0 is to have 8 bytes and ends before");
     assert_eq!(with_byte(6, 6), "1 at byte 13: a mode of tile 211 .. 225 ends early");
-    assert_eq!(with_byte(15, 2), "2 at byte 15: the form is 2, wanted 1 or 3");
+    assert_eq!(with_byte(15, 4), "2 at byte 15: the form is 4, wanted 1, 2 or 3");
     assert_eq!(with_byte(16, 3), "6 at byte 16: the table is for 3 rooms, the plant has 1");
     assert_eq!(with_byte(19, 0), "7 at byte 18, step 1: tile 190 .. 210 with modes 0: room 1 comes to 181 .. 199, S is 190 .. 230");
     assert_eq!(of(&[&START[..], &[0, 0, 0]].concat()), "3 at byte 22: 3 bytes left over behind the last number");
@@ -264,10 +274,12 @@ fn the_largest_start_files_are_shown_within_a_second() {
     let bytes = library::start_make(&plant, &chain, 1).unwrap();
     assert!(bytes.len() > 250_000, "{} bytes", bytes.len());
     shown_soon(&house(&plant), &chain, &bytes);
-    // four rooms, eight boxes as large as R, tables of form 3
-    let house = house(&side::turn_as_mode(4, 128, 9_000));
-    let chain = Chain { boxes: vec![house.plant.r(); 8] }.write();
-    let bytes = library::start_make(&house.bytes, &chain, 3).unwrap();
-    assert_eq!(bytes.len(), library::LARGEST_START);
-    shown_soon(&house, &chain, &bytes);
+    // eight boxes as large as R: two rooms and tables of form 2, four rooms and tables of form 3
+    for (rooms, form, length) in [(2, 2, library::LARGEST_START), (4, 3, 516_326)] {
+        let house = house(&side::turn_as_mode(rooms, 128, 9_000));
+        let chain = Chain { boxes: vec![house.plant.r(); 8] }.write();
+        let bytes = library::start_make(&house.bytes, &chain, form).unwrap();
+        assert_eq!(bytes.len(), length);
+        shown_soon(&house, &chain, &bytes);
+    }
 }

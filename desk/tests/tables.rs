@@ -57,25 +57,29 @@ fn the_longest_side_is_halved() {
     assert_eq!(halved(&[(5, 5), (-4, -1), (0, 3)]), [[(5, 5), (-4, -3), (0, 3)], [(5, 5), (-2, -1), (0, 3)]]);
     assert_eq!(halved(&[(-2, -1)]), [[(-2, -2)], [(-1, -1)]]);
     assert!(halved(&[(7, 7), (-3, -3)]).is_empty());
-    // both forms, where they are not the same
+    // the forms, where they are not the same
     let sides = [Side { lo: 0, hi: 1 }, Side { lo: 0, hi: 2 }];
-    assert_eq!([Form::One, Form::Three].map(|form| form.split(&sides).len()), [4, 2]);
+    assert_eq!([Form::One, Form::Two, Form::Three].map(|form| form.split(&sides).len()), [4, 4, 2]);
 }
 
 /// README's long and narrow house. The depth of a tile counts halvings.
 #[test]
-fn the_gallery_in_both_forms() {
+fn the_gallery_in_all_forms() {
     let house = House::of(sample("gallery.plant"), None);
     let tables = FORMS.map(|form| library::make(&house.bytes, form).unwrap());
-    assert_eq!(tables.each_ref().map(Vec::len), [183, 44]);
-    let [one, three] = tables.each_ref().map(|bytes| Table::read(bytes, &house.plant).unwrap());
-    assert_eq!((one.words(), three.words()), ("55 tiles, longest pattern 4".into(), "form 3, 9 tiles, longest pattern 4".into()));
-    let text = As::Table(&tables[1], &house).text();
+    assert_eq!(tables.each_ref().map(Vec::len), [183, 237, 44]);
+    let read = tables.each_ref().map(|bytes| Table::read(bytes, &house.plant).unwrap());
+    let words = ["55 tiles, longest pattern 4", "form 2, 55 tiles, longest pattern 4", "form 3, 9 tiles, longest pattern 4"];
+    assert_eq!(read.each_ref().map(Table::words), words);
+    let without_places = |table: &Table| -> Vec<_> { table.tiles.iter().map(|tile| (tile.sides.clone(), tile.depth, tile.modes.clone())).collect() };
+    assert_eq!(without_places(&read[0]), without_places(&read[1]));
+    let text = As::Table(&tables[2], &house).text();
     assert!(text.starts_with("table form 3\nrooms 2\n9 tiles, longest pattern 4, 44 bytes\n\n"), "{text}");
     for tile in ["1400 .. 1550 by 2300 .. 2460 counts modes 3 3 3 2 # byte 5, depth 3", "2001 .. 2150 by 2381 .. 2460 counts modes 3 0     # byte 28, depth 4"] {
         assert!(text.contains(&format!("\ntile {tile}\n")), "{text}");
     }
     assert!(As::Table(&tables[0], &house).text().starts_with("table form 1\nrooms 2\n55 tiles, longest pattern 4, 183 bytes\n\n"));
+    assert!(As::Table(&tables[1], &house).text().starts_with("table form 2\nrooms 2\n55 tiles, longest pattern 4, 237 bytes\n\n"));
 }
 
 #[test]
@@ -101,7 +105,7 @@ fn runs_keep_equation_and_band_and_are_never_refused() {
 #[test]
 fn the_largest_table_is_shown_within_a_second() {
     let house = House::of(side::longest_table_plant(), None);
-    for (form, bytes) in [(1, 54_615), (3, library::LARGEST_TABLE)] {
+    for (form, bytes) in [(1, 54_615), (2, library::LARGEST_TABLE), (3, 57_345)] {
         let table = library::make(&house.bytes, form).unwrap();
         assert_eq!(table.len(), bytes);
         let text = within_a_second(|| As::Table(&table, &house).verdict().map(|()| As::Table(&table, &house).text())).unwrap();

@@ -111,6 +111,11 @@ pub struct Children {
 }
 
 impl Children {
+    /// How many there are.
+    pub fn how_many(&self) -> usize {
+        1 << self.along.count_ones()
+    }
+
     /// The child with this number, bit i choosing the half in dimension i.
     fn child(&self, number: usize) -> Box {
         let mut child = self.parent;

@@ -6,7 +6,9 @@
 //! 128 and above takes two bytes (request 2026-08), so one on is the byte behind
 //! its number.
 //! "Controller: plant, table header, 12, 11, then the tree; the walk tells 1
-//! and 6 of what it reads, passed tiles too, ... and tests no image."
+//! and 6 of what it reads, passed tiles too, ... and tests no image." Where splits
+//! tell lengths (request 2026-01), "a call then reads only the splits on the way
+//! down and the tile".
 
 use crate::boxes::Box;
 use crate::file::File;
@@ -104,7 +106,8 @@ fn start_tile(
     root: &Box,
     reading: &[i64; MOST_ROOMS],
 ) -> Result<(u8, State), Refusal> {
-    let found = find_tile(table, root, table.depth(), reading)?;
+    let find = if table.form.tells_lengths() { go_down } else { walk };
+    let found = find(table, root, table.depth(), reading)?;
     // The reading lies in the root and children cover their parent, so a tile is found.
     let (place, pattern) = found.ok_or(Refusal::at(READING_OUTSIDE, 0))?;
     let (first, left) = (pattern.modes()[0], pattern.modes().len() as u64 - 1);
@@ -113,9 +116,31 @@ fn start_tile(
     Ok((first, State::after(second - table.file.first(), left)))
 }
 
-/// Walks the tree of a box up to the tile that holds the reading: the tile's
-/// first byte and its pattern, or None when the box does not hold it.
-fn find_tile(
+/// Goes by the lengths to the tile that holds the reading: the tile's first byte
+/// and its pattern, or None when the box does not hold it.
+fn go_down(
+    table: &mut Table,
+    here: &Box,
+    depth_left: u64,
+    reading: &[i64; MOST_ROOMS],
+) -> Result<Option<(u64, Pattern)>, Refusal> {
+    let place = table.file.place();
+    match table.node(here, depth_left)? {
+        Node::Tile(pattern) => Ok(Some((place, pattern))),
+        Node::Split(children) => {
+            let lengths = table.lengths(&children)?;
+            let Some((before, child)) = children.enumerate().find(|(_, child)| child.contains(reading)) else {
+                return Ok(None);
+            };
+            table.pass_children(&lengths, before)?;
+            go_down(table, &child, depth_left - 1, reading)
+        }
+    }
+}
+
+/// Walks the tree of a box, where no lengths are told, up to the tile that holds
+/// the reading, as above.
+fn walk(
     table: &mut Table,
     here: &Box,
     depth_left: u64,
@@ -126,7 +151,7 @@ fn find_tile(
         Node::Tile(pattern) => Ok(here.contains(reading).then_some((place, pattern))),
         Node::Split(children) => {
             for child in children {
-                let found = find_tile(table, &child, depth_left - 1, reading)?;
+                let found = walk(table, &child, depth_left - 1, reading)?;
                 if found.is_some() {
                     return Ok(found);
                 }

@@ -9,6 +9,7 @@ use crate::refusal::{Refusal, BROKEN_NUMBER, FORM_NOT_KNOWN, OUT_OF_RANGE};
 /// Bytes under judgement and the place of the next number in them. A file may
 /// stand inside another: its places are then those of the outer one, which
 /// `bytes` holds up to this file's end.
+#[derive(Clone, Copy)]
 pub struct File<'a> {
     bytes: &'a [u8],
     first: usize,
@@ -25,10 +26,21 @@ impl<'a> File<'a> {
     /// None where it passes the end.
     pub fn inner(&mut self, length: u64) -> Option<File<'a>> {
         let first = self.place;
-        let end = first.checked_add(usize::try_from(length).ok()?)?;
-        let bytes = self.bytes.get(..end)?;
+        let end = self.place_after(length)?;
         self.place = end;
-        Some(File { bytes, first, place: first })
+        Some(File { bytes: &self.bytes[..end], first, place: first })
+    }
+
+    /// Passes this many bytes; None where they pass the end.
+    pub fn pass(&mut self, length: u64) -> Option<()> {
+        self.place = self.place_after(length)?;
+        Some(())
+    }
+
+    /// The place behind so many bytes from here on. The file's own end is one.
+    fn place_after(&self, length: u64) -> Option<usize> {
+        let end = self.place.checked_add(usize::try_from(length).ok()?)?;
+        (end <= self.bytes.len()).then_some(end)
     }
 
     /// The place of its first byte, 0 unless it stands inside another.

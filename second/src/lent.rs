@@ -47,14 +47,28 @@ impl<'a> Lent<'a> {
         }
     }
 
-    /// Sets the byte length of what was put from `first` on before it. Where
-    /// that no longer fits, the buffer is too short whatever it holds.
-    pub fn put_length_before(&mut self, first: usize) {
-        let (groups, count) = groups_of((self.length - first) as u64);
+    /// Adds a tile: how many modes it has, and the modes.
+    #[inline]
+    pub fn put_tile(&mut self, modes: &[u8]) {
+        self.put_byte(modes.len() as u8);
+        modes.iter().for_each(|mode| self.put_mode(*mode));
+    }
+
+    /// Sets the byte lengths of parts that were put one behind the other before the
+    /// first of them, moving up all that was put from there on; part i goes from
+    /// `bounds[i]` to `bounds[i + 1]`. Where that no longer fits, the buffer is too
+    /// short whatever it holds.
+    pub fn put_lengths_before(&mut self, bounds: &[usize]) {
+        let mut numbers = Vec::new();
+        for part in bounds.windows(2) {
+            let (groups, count) = groups_of((part[1] - part[0]) as u64);
+            numbers.extend_from_slice(&groups[..count]);
+        }
+        let count = numbers.len();
         self.length += count;
-        if let Some(part) = self.buffer.get_mut(first..self.length) {
-            part.copy_within(..part.len() - count, count);
-            part[..count].copy_from_slice(&groups[..count]);
+        if let Some(moved) = self.buffer.get_mut(bounds[0]..self.length) {
+            moved.copy_within(..moved.len() - count, count);
+            moved[..count].copy_from_slice(&numbers);
         }
     }
 

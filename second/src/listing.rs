@@ -49,6 +49,7 @@ impl Tiles {
         match table.node(here, depth_left)? {
             Node::Tile(pattern) => self.list_tile(here, pattern.modes()),
             Node::Split(children) => {
+                table.lengths(&children)?;
                 for child in children {
                     self.list_box(table, &child, depth_left - 1)?;
                 }

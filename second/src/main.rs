@@ -1,5 +1,5 @@
 //! The second program's command line, thin over the library: `list` prints
-//! the listing of the plant on standard input; `make`, `check` and `sheet`
+//! the listing of the plant on standard input; `make`, `relay`, `check` and `sheet`
 //! work on named files; `check start` and `list start` take a start file beside
 //! the plant; `drive` answers one controller call for each line
 //! "place left x1 .. xn" on standard input. The last word of `list` and `make` is
@@ -10,6 +10,7 @@ use second::control::{control, State};
 use second::listing::{listing, refused_line};
 use second::maker::make;
 use second::refusal::Refusal;
+use second::relay::relay;
 use second::sheet::sheet_to_plant;
 use second::start::start_check;
 use second::start_listing::start_listing;
@@ -18,7 +19,7 @@ use std::io::{self, BufRead, Read};
 use std::process::ExitCode;
 
 const USAGE: &str = "second list [FORM] < PLANT | list start PLANT START | make PLANT TABLE [FORM] \
-                     | check PLANT TABLE | check start PLANT START \
+                     | relay PLANT TABLE FORM OUT | check PLANT TABLE | check start PLANT START \
                      | sheet SHEET PLANT | drive PLANT TABLE < CALLS";
 
 fn main() -> ExitCode {
@@ -29,6 +30,7 @@ fn main() -> ExitCode {
         ["list", form] => list(form),
         ["make", plant, table] => make_file(plant, table, "1"),
         ["make", plant, table, form] => make_file(plant, table, form),
+        ["relay", plant, table, form, out] => relay_file(plant, table, form, out),
         ["sheet", sheet, plant] => transform(sheet, plant, LARGEST_PLANT, sheet_to_plant),
         ["check", plant, table] => check_files(plant, table, check),
         ["check", "start", plant, start] => check_files(plant, start, start_check),
@@ -62,6 +64,12 @@ fn list(form: &str) -> io::Result<()> {
 fn make_file(plant: &str, table: &str, form: &str) -> io::Result<()> {
     let form = form_of(form)?;
     transform(plant, table, LARGEST_TABLE, |plant, buffer| make(plant, form, buffer))
+}
+
+fn relay_file(plant: &str, table: &str, form: &str, out: &str) -> io::Result<()> {
+    let form = form_of(form)?;
+    let plant = std::fs::read(plant)?;
+    transform(table, out, LARGEST_TABLE, |table, buffer| relay(&plant, table, form, buffer))
 }
 
 /// Makes one file of another and prints "done" or the refusal.

@@ -41,6 +41,14 @@ pub fn make_table(plant: &Plant, form: Form, root: &Box, goal: &Box, table: &mut
     }
 }
 
+/// Sets the lengths that the form wants before a split's children, which were put
+/// with these bounds: of each but the last.
+pub(crate) fn put_lengths(form: Form, bounds: &[usize], table: &mut Lent) {
+    if form.tells_lengths() {
+        table.put_lengths_before(&bounds[..bounds.len() - 1]);
+    }
+}
+
 /// The search, the form, and the table as it is put.
 struct Maker<'a, 'b, const N: usize> {
     search: Search<N>,
@@ -58,14 +66,21 @@ impl<const N: usize> Maker<'_, '_, N> {
     fn make_box(&mut self, here: &Box, depth_left: u64) -> bool {
         let mut pattern = [0; LONGEST_PATTERN];
         if let Some(length) = self.search.first_pattern(here, &mut pattern) {
-            self.table.put_byte(length as u8);
-            pattern[..length].iter().for_each(|mode| self.table.put_mode(*mode));
+            self.table.put_tile(&pattern[..length]);
             return true;
         }
-        let Some(mut children) = self.form.split(here, depth_left) else {
+        let Some(children) = self.form.split(here, depth_left) else {
             return false;
         };
         self.table.put_byte(0);
-        children.all(|child| self.make_box(&child, depth_left - 1))
+        let mut bounds = vec![self.table.length()];
+        for child in children {
+            if !self.make_box(&child, depth_left - 1) {
+                return false;
+            }
+            bounds.push(self.table.length());
+        }
+        put_lengths(self.form, &bounds, self.table);
+        true
     }
 }

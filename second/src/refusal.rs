@@ -15,7 +15,9 @@ pub const OUT_OF_RANGE: u8 = 3;
 pub const R_NOT_IN_S: u8 = 4;
 /// Band too narrow; "5's place is the mode, its step the dimension".
 pub const BAND_TOO_NARROW: u8 = 5;
-/// Table: n differs, node over K, mode not below N, a split too deep or not possible, bytes left over.
+/// Table: n differs, node over K, mode not below N, a split too deep or not possible, bytes left over;
+/// "a length that differs from the child's ... in the checker", and in a call "the
+/// first whose child would end past the file".
 pub const TABLE_RULE: u8 = 6;
 /// An image leaves S.
 pub const IMAGE_LEAVES_S: u8 = 7;

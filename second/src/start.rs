@@ -74,7 +74,7 @@ fn make_tables(plant: &Plant, chain_bytes: &[u8], form: u64, buffer: &mut [u8]) 
         if !make_table(plant, form, chain.root(index), chain.goal(index), &mut start) {
             return Err(Refusal::at(NO_TABLE, index as u64));
         }
-        start.put_length_before(first);
+        start.put_lengths_before(&[first, start.length()]);
     }
     start.end()
 }

@@ -1,7 +1,7 @@
 //! "Table file: form 1, n, then the tree in preorder, starting at box R:
 //! number 0 is a split, number k in 1..K is a tile, followed by k modes
 //! (0..N-1)." The file's own rules, 1, 2 and 6, without any image; how boxes are
-//! split is the form's.
+//! split, and whether lengths stand behind a split's 0, is the form's.
 
 use crate::boxes::{Box, Children};
 use crate::file::File;
@@ -26,10 +26,17 @@ impl Pattern {
 
 /// A node of the tree.
 pub enum Node {
-    /// A split, with the children it is to be followed by.
+    /// A split, with the children it is to be followed by, behind their lengths
+    /// where the form tells those.
     Split(Children),
     /// A tile, with its pattern.
     Tile(Pattern),
+}
+
+/// The byte length of a split's child, as it is told, and the place of that number.
+pub struct Length {
+    pub place: u64,
+    pub told: u64,
 }
 
 /// A table under reading: the plant that it is for, its form, and its file, from
@@ -68,6 +75,28 @@ impl<'a, 'b> Table<'a, 'b> {
             return Err(Refusal::at(TABLE_RULE, place));
         }
         self.pattern(node as usize).map(Node::Tile)
+    }
+
+    /// The lengths behind the 0 of a split into these children, of each but the
+    /// last; none where the form tells none. As numbers alone: 1.
+    pub fn lengths(&mut self, children: &Children) -> Result<Vec<Length>, Refusal> {
+        let count = if self.form.tells_lengths() { children.how_many() - 1 } else { 0 };
+        let next = |_| Ok(Length { place: self.file.place(), told: self.file.unsigned()? });
+        (0..count).map(next).collect()
+    }
+
+    /// Goes, from behind these lengths, past so many of the children that they are
+    /// of: "the first whose child would end past the file is 6 at that number", be
+    /// it one to pass or not.
+    pub fn pass_children(&mut self, lengths: &[Length], count: usize) -> Result<(), Refusal> {
+        let mut ahead = self.file;
+        for (before, length) in lengths.iter().enumerate() {
+            ahead.pass(length.told).ok_or(Refusal::at(TABLE_RULE, length.place))?;
+            if before < count {
+                self.file = ahead;
+            }
+        }
+        Ok(())
     }
 
     /// The modes of a tile: 1 and 6, each at its own first byte.

@@ -1,6 +1,6 @@
 //! Request 2026-06, table form 3: the longest side halved, its ties, its depth
 //! bound, plants that it suits and does not suit, the form that a maker is told,
-//! start files of one form and of several, the largest files. What both forms have
+//! start files of one form and of several, the largest files. What all forms have
 //! in common with the slow ways stands beside these: tests/slow_agrees.rs, and
 //! tests/slow_starts.rs for start files.
 
@@ -16,13 +16,13 @@ use second::plant::read_plant;
 use second::refusal::Refusal;
 use second::start::{start_check, start_control, start_make, start_make_into, StartState};
 use second::start_listing::start_listing;
-use second::{LARGEST_START, LARGEST_TABLE, MOST_BOXES};
+use second::{LARGEST_TABLE, MOST_BOXES};
 use slow::*;
 
 /// Numbers that are no form of a table, some of them one in their last byte or
 /// four; a table can show those below 2^35.
-const NO_FORM: [u64; 14] =
-    [0, 2, 4, 5, 127, 129, 257, 259, (1 << 32) + 1, (1 << 32) + 3, (1 << 35) - 1, 1 << 35, (1 << 35) + 3, u64::MAX];
+const NO_FORM: [u64; 15] =
+    [0, 4, 5, 127, 129, 130, 257, 258, 259, (1 << 32) + 1, (1 << 32) + 3, (1 << 35) - 1, 1 << 35, (1 << 35) + 3, u64::MAX];
 
 fn made(plant: &[u8], form: u64) -> Vec<u8> {
     let mut table = marked(LARGEST_TABLE);
@@ -341,7 +341,7 @@ fn forms_that_are_not_known() {
     }
 }
 
-/// "2 means neither form": the header's number, before n, 12, 11 and the tree.
+/// "2 means" none of the forms: the header's number, before n, 12, 11 and the tree.
 #[test]
 fn tables_of_no_form() {
     let plant = file(&two_rooms());
@@ -367,10 +367,10 @@ fn tables_of_no_form() {
 fn two_of_the_maker_in_its_order() {
     let none = file(&with(&p_fields(), 5, U(0)));
     assert_eq!(told(make(&none, 1, &mut [])), (9, 0, 0));
-    assert_eq!(told(make(&none, 2, &mut [])), (2, 0, 0));
+    assert_eq!(told(make(&none, 4, &mut [])), (2, 0, 0));
     let narrow = file(&with(&p_fields(), 11, S(3)));
     for (plant, wanted) in [(&P[..3], (1, 3, 0)), (&[2], (1, 1, 0)), (&[3], (2, 0, 0)), (&narrow, (5, 0, 0))] {
-        assert_eq!(told(make(plant, 2, &mut [])), wanted);
+        assert_eq!(told(make(plant, 4, &mut [])), wanted);
     }
     let outside = file(&chain_fields(&[[(189, 230)]]));
     let sound = file(&chain_fields(&[[(190, 230)]]));
@@ -513,7 +513,6 @@ fn turning(n: usize, modes: usize, at: i64) -> (Vec<u8>, (i64, i64)) {
 /// 4,096 tiles of six modes, of one byte each or of two, and 4,095 splits.
 #[test]
 fn the_largest_tables() {
-    assert_eq!(LARGEST_TABLE, 57_345);
     for (n, modes, length) in [(2, 1, 32_769), (4, 1, 32_769), (2, 129, 57_345), (4, 129, 57_345)] {
         let (bytes, side) = turning(n, modes, 1000);
         let mut table = marked(length + 1);
@@ -534,7 +533,6 @@ fn the_largest_tables() {
 /// Four rooms have twice the edges of two, 3 bytes each.
 #[test]
 fn the_largest_start_files_of_form_3() {
-    assert_eq!(LARGEST_START, 516_326);
     for (modes, length) in [(1, 295_142), (129, 516_326)] {
         let (plant, side) = turning(4, modes, 9000);
         let chain = chain_fields(&[[side; 4]; MOST_BOXES]);

@@ -5,8 +5,8 @@
 mod common;
 mod page_starts;
 
-use common::{encode, file, marked, plant_values, sheet_values, two_room_sheet, two_rooms, with, Field, F, P, Raw, S, U};
-use page_starts::starts;
+use common::{encode, file, marked, p_fields, plant_values, sheet_values, two_room_sheet, two_rooms, with, Field, F, P, Raw, S, U};
+use page_starts::{starts, starts_by_lengths};
 use second::boxes::Box;
 use second::checker::check;
 use second::control::{control, State};
@@ -51,7 +51,7 @@ abbrev lent : ℕ → List ℕ
 lent m = replicate m 0xAA
 ";
 
-/// The form of table that the makers on the page are told, but in the section of form 3.
+/// The form of table that the makers on the page are told, but in the sections of forms 2 and 3.
 const FORM: u64 = 1;
 
 // ---- this program's values in the page's words
@@ -488,6 +488,83 @@ fn halved_tables(page: &mut Page) {
     page.control(&plant, &[4, 2, 2, 3, 0], (4, 1), [190, 20, 0, 0]);
 }
 
+/// P's table of form 2 with this for its length.
+fn p_by_length(length: Field) -> Vec<u8> {
+    file(&[U(2), U(1), U(0), length, Raw(vec![1, 1, 1, 0])])
+}
+
+/// Four tiles of form 2 for `split_rooms`, behind these lengths.
+fn four_by_lengths(lengths: [u64; 3]) -> Vec<u8> {
+    file(&[&[U(2), U(2), U(0)], &lengths.map(U)[..], &[Raw(vec![1, 3, 1, 2, 1, 1, 1, 0])]].concat())
+}
+
+/// A table of form 2 for P with D 2, its lower half split again, with these lengths.
+fn nested(outer: u8, inner: u8) -> Vec<u8> {
+    vec![2, 1, 0, outer, 0, inner, 1, 1, 1, 1, 1, 0]
+}
+
+/// 2 is right. One less and one more, none, the file's end and one past it; past 2^32, the largest; then broken: one more than
+/// that, and two bytes where one would do.
+fn lengths() -> [Field; 10] {
+    [U(2), U(1), U(3), U(0), U(4), U(5), U((1 << 32) + 2), U((1 << 35) - 1), U(1 << 35), Raw(vec![0x82, 0x00])]
+}
+
+/// Tables of form 2, made and checked.
+fn tables_by_lengths(page: &mut Page) {
+    page.section("form 2: lengths behind each split's 0, tables made and checked");
+    let plant = file(&split_rooms());
+    page.make_of(2, &P, 9);
+    page.make_of(2, &P, 7);
+    let table = page.make_of(2, &plant, 14);
+    page.make_of(2, &file(&with(&split_rooms(), 5, U(0))), 3);
+    for length in lengths() {
+        page.check(&P, &p_by_length(length));
+    }
+    // The child's own faults before its length, the next child's after; a split's own before its lengths; cut; left over.
+    page.check(&P, &[2, 1, 0, 9, 1, 0, 1, 0]);
+    page.check(&P, &[2, 1, 0, 3, 1, 1, 9]);
+    page.check(&P, &[2, 1, 0, 2, 0, 0x80, 0x00]);
+    page.check(&P, &[2, 1, 0]);
+    page.check(&P, &[2, 1, 0, 2, 1, 1, 1, 0, 0]);
+    page.check(&plant, &table);
+    for lengths in [[2, 4, 0], [2, 2, 0]] {
+        page.check(&plant, &four_by_lengths(lengths));
+    }
+    page.check(&plant, &[2, 2, 0, 9, 0x82, 0x00, 2, 1, 3, 1, 2, 1, 1, 1, 0]);
+    // A length counts its child's own lengths too; of two wrong ones the child's comes first.
+    let deeper = file(&with(&p_fields(), 5, U(2)));
+    for (outer, inner) in [(6, 2), (5, 2), (5, 4)] {
+        page.check(&deeper, &nested(outer, inner));
+    }
+}
+
+/// Calls on tables of form 2.
+fn calls_by_lengths(page: &mut Page) {
+    page.section("form 2: the controller");
+    let plant = file(&split_rooms());
+    for length in lengths() {
+        page.control(&P, &p_by_length(length), (0, 0), [225, 0, 0, 0]);
+    }
+    // To the first child no length leads, and yet it is judged.
+    page.control(&P, &p_by_length(U(5)), (0, 0), [195, 0, 0, 0]);
+    for (cut, x) in [(7, 225), (6, 195), (5, 195)] {
+        page.control(&P, &p_by_length(U(2))[..cut], (0, 0), [x, 0, 0, 0]);
+    }
+    for state in [(5, 2), (3, 1)] {
+        page.control(&P, &[2, 1, 0, 99, 2, 1, 0, 1, 0], state, [200, 0, 0, 0]);
+    }
+    for reading in [[225, -15, 0, 0], [210, 1, 0, 0]] {
+        page.control(&plant, &four_by_lengths([2, 2, 2]), (0, 0), reading);
+    }
+    for lengths in [[2, 2, 4], [2, 2, 5], [2, 7, 0]] {
+        page.control(&plant, &four_by_lengths(lengths), (0, 0), [195, -15, 0, 0]);
+    }
+    // The parent's end counts for nothing: here the upper half's tile is taken for the second quarter's.
+    page.control(&file(&with(&p_fields(), 5, U(2))), &nested(6, 4), (0, 0), [205, 0, 0, 0]);
+    // Passed tiles are not read.
+    page.control(&plant, &[2, 2, 0, 2, 2, 2, 9, 9, 9, 9, 9, 9, 1, 0], (0, 0), [225, 15, 0, 0]);
+}
+
 fn sheets(page: &mut Page) {
     page.section("sheets, read, written and made into plants");
     let two = two_room_sheet();
@@ -544,6 +621,9 @@ fn page() -> String {
     starts(&mut page, 1, 1, 2);
     starts(&mut page, 2, 2, 1);
     halved_tables(&mut page);
+    tables_by_lengths(&mut page);
+    calls_by_lengths(&mut page);
+    starts_by_lengths(&mut page);
     page.text
 }
 

@@ -293,7 +293,7 @@ fn reading_16_and_17_tables() {
     assert_eq!(told(check(&P, &[1, 1, 9])), (6, 2, 0));
     assert_eq!(told(check(&P, &[1, 0])), (6, 1, 0));
     assert_eq!(told(check(&P, &[1, 5])), (6, 1, 0));
-    assert_eq!(told(check(&P, &[2, 5])), (2, 0, 0));
+    assert_eq!(told(check(&P, &[4, 5])), (2, 0, 0));
 }
 
 #[test]

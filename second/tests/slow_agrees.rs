@@ -18,15 +18,15 @@ use slow::*;
 
 /// Plants with tables of several tiles or a long pattern, for the tests behind
 /// the maker's; at least half of them split. So many of form 1, then as many of
-/// form 3.
+/// form 2 and of form 3.
 fn made_tables(seed: u64, wanted: usize) -> Vec<(Plant, Vec<u8>, Vec<u8>)> {
     let mut random = Random(seed);
     let mut made = vec![];
-    while made.len() < 2 * wanted {
-        let form = if made.len() < wanted { 1 } else { 3 };
+    while made.len() < 3 * wanted {
+        let form = (1 + made.len() / wanted) as u64;
         let plant = pulling_plant(&mut random);
         let bytes = plant_bytes(&plant);
-        let mut table = vec![0; 32_769];
+        let mut table = vec![0; 34_389];
         if let Ok(length) = make(&bytes, form, &mut table) {
             let several = table[2] == 0;
             let wide_enough = made.len() % 2 == 1 || several;
@@ -197,7 +197,8 @@ fn the_checker_agrees_on_damaged_tables() {
     assert!([0, 1, 2, 6, 7, 8].iter().all(|number| seen[*number] > 5), "{seen:?}");
 }
 
-/// What is passed is read as the checker reads it, and nothing behind the tile.
+/// What is passed is read as the checker reads it, and nothing behind the tile; in
+/// form 2 the lengths alone.
 #[test]
 fn the_call_agrees_on_damaged_tables() {
     let mut random = Random(51);

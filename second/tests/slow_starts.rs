@@ -202,6 +202,11 @@ fn the_start_maker_agrees_with_the_slow_one_in_form_3() {
     the_start_maker_agrees(3, 45, 4_000);
 }
 
+#[test]
+fn the_start_maker_agrees_with_the_slow_one_in_form_2() {
+    the_start_maker_agrees(2, 53, 4_000);
+}
+
 /// A start file with a byte changed, put in, taken out or behind, or cut.
 fn damaged(random: &mut Random, start: &[u8]) -> Vec<u8> {
     let mut other = start.to_vec();
@@ -275,19 +280,19 @@ fn every_damage_of_the_worked_examples() {
         (cold_p(), file(&cold_chain())),
     ];
     let (mut verdicts, mut calls) = ([0; 16], [0; 16]);
-    for (bytes, chain) in examples {
-        let plant = read_plant(&bytes).expect("a plant");
-        let start = start_make(&bytes, &chain, 1).expect("a start file");
+    for (form, (bytes, chain)) in [1, 2].into_iter().flat_map(|form| examples.iter().map(move |example| (form, example))) {
+        let plant = read_plant(bytes).expect("a plant");
+        let start = start_make(bytes, chain, form).expect("a start file");
         for at in 0..start.len() {
             for byte in 0..=255 {
                 let mut other = start.clone();
                 other[at] = byte;
-                checked(&mut verdicts, &plant, &bytes, &other);
+                checked(&mut verdicts, &plant, bytes, &other);
                 for x in [149, 159, 160, 179, 180, 189, 190, 194, 195, 210, 211, 225, 226, 230, 231, 240] {
-                    called(&mut calls, &plant, &bytes, &other, StartState::IDLE, [x, 0, 0, 0]);
+                    called(&mut calls, &plant, bytes, &other, StartState::IDLE, [x, 0, 0, 0]);
                 }
                 for (index, place, left) in [(0, 4, 1), (1, 5, 1), (1, 6, 1), (2, 5, 1), (1, 5, 2), (2, 7, 1)] {
-                    called(&mut calls, &plant, &bytes, &other, StartState { index, place, left }, [200; 4]);
+                    called(&mut calls, &plant, bytes, &other, StartState { index, place, left }, [200; 4]);
                 }
             }
         }

@@ -72,7 +72,7 @@ fn refused_files() {
     let d_0 = file(&with(&p_fields(), 5, U(0)));
     for (name, plant, start, told) in [
         ("cut", &P[..], sound[..21].to_vec(), "3 14 0"),
-        ("form", &P, with_tables(&T1, &[2, 1]), "2 15 0"),
+        ("form", &P, with_tables(&T1, &[4, 1]), "2 15 0"),
         ("behind", &P, [&sound[..], &[0]].concat(), "3 22 0"),
         ("leaves", &P, with_tables(&T1, &[1, 1, 1, 1]), "7 17 1"),
         ("apart", &P, file(&chain_fields(&[[(196, 230)]])), "15 1 0"),

@@ -402,7 +402,7 @@ fn inner_tables_tell_the_start_files_places() {
         (&[1, 1], (1, 2, 0)),
         (&[1, 1, 2, 0], (1, 4, 0)),
         (&[0, 1], (2, 0, 0)),
-        (&[2, 1], (2, 0, 0)),
+        (&[4, 1], (2, 0, 0)),
         (&[1, 2], (6, 1, 0)),
         (&[1, 0x81, 1], (6, 1, 0)),
         (&[1, 1, 3], (6, 2, 0)),
@@ -586,7 +586,7 @@ fn the_order_of_a_call() {
     assert_eq!(call(&with(&fields, 4, U(99)), impossible, outside), (3, 6, 0));
     assert_eq!(call(&with(&fields, 6, U(99)), impossible, outside), (3, 14, 0));
     assert_eq!(call(&with(&fields, 6, Raw(vec![0x87, 0])), impossible, outside), (1, 14, 0));
-    assert_eq!(call(&with_table(&[2, 2, 7]), impossible, outside), (2, 15, 0));
+    assert_eq!(call(&with_table(&[4, 2, 7]), impossible, outside), (2, 15, 0));
     assert_eq!(call(&with_table(&[1, 2, 7]), impossible, outside), (6, 16, 0));
     assert_eq!(call(&with_table(&[1]), impossible, outside), (1, 16, 0));
     assert_eq!(call(&with_table(&[1, 1, 7]), impossible, outside), (12, 0, 0));

@@ -40,6 +40,16 @@ extern "C" {
         buffer_length: u64,
         out: *mut u64,
     ) -> u64;
+    fn hoachulim_relay(
+        plant: *const u8,
+        plant_length: u64,
+        table: *const u8,
+        table_length: u64,
+        form: u64,
+        buffer: *mut u8,
+        buffer_length: u64,
+        out: *mut u64,
+    ) -> u64;
     fn hoachulim_control(
         plant: *const u8,
         plant_length: u64,
@@ -120,6 +130,24 @@ pub fn make(plant: &[u8], form: u64, buffer: &mut [u8]) -> Told {
     (number, out[0], out[1])
 }
 
+/// A table's bytes that the library turns into another form of the same tree: number, and length written or place, and step.
+pub fn relay(plant: &[u8], table: &[u8], form: u64, buffer: &mut [u8]) -> Told {
+    let mut out = [u64::MAX; 2];
+    let number = unsafe {
+        hoachulim_relay(
+            plant.as_ptr(),
+            plant.len() as u64,
+            table.as_ptr(),
+            table.len() as u64,
+            form,
+            buffer.as_mut_ptr(),
+            buffer.len() as u64,
+            out.as_mut_ptr(),
+        )
+    };
+    (number, out[0], out[1])
+}
+
 /// One call of the controller: the mode, and number, place, step, next place, next left.
 pub fn control(plant: &[u8], table: &[u8], place: u64, left: u64, x: [i64; 4]) -> (u64, [u64; 5]) {
     let mut out = [u64::MAX; 5];
@@ -193,12 +221,13 @@ pub fn start_control(plant: &[u8], start: &[u8], [index, place, left]: Standing,
     (mode, out)
 }
 
-/// The plant whose defined table has the most bytes there can be of modes of one byte: 30,039 in form 1, 32,769 in form 3.
+/// The plant whose defined table has the most bytes there can be of modes of one byte: 30,039 in form 1, 34,389 in form 2, 32,769 in
+/// form 3.
 pub fn largest_table_plant() -> Vec<u8> {
     turn_as_mode(2, 0, 1000)
 }
 
-/// The plant whose defined table has the most bytes there can be: 54,615 in form 1, 57,345 in form 3.
+/// The plant whose defined table has the most bytes there can be: 54,615 in form 1, 58,965 in form 2, 57,345 in form 3.
 pub fn longest_table_plant() -> Vec<u8> {
     turn_as_mode(2, 128, 1000)
 }

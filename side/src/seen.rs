@@ -17,6 +17,7 @@ pub struct Seen {
     pub plant: Numbers,
     pub sheet: Numbers,
     pub make: Numbers,
+    pub relay: Numbers,
     pub check: Numbers,
     pub control: Numbers,
     pub start_make: Numbers,
@@ -76,6 +77,17 @@ impl Seen {
             |(plant, form), buffer| second::maker::make(plant, *form, buffer),
         );
         self.make[answer.0 as usize] += 1;
+        answer
+    }
+
+    pub fn relay(&mut self, plant: &[u8], table: &[u8], form: u64, length: usize) -> Told {
+        let answer = written(
+            &(plant, table, form),
+            length,
+            |(plant, table, form), buffer| crate::relay(plant, table, *form, buffer),
+            |(plant, table, form), buffer| second::relay::relay(plant, table, *form, buffer),
+        );
+        self.relay[answer.0 as usize] += 1;
         answer
     }
 

@@ -50,8 +50,9 @@ impl Start {
         other
     }
 
-    pub fn has_both_forms(&self) -> bool {
-        FORMS.iter().all(|form| self.tables.iter().any(|table| u64::from(table[0]) == *form))
+    /// How many forms its tables are of.
+    pub fn forms(&self) -> usize {
+        FORMS.iter().filter(|form| self.tables.iter().any(|table| u64::from(table[0]) == **form)).count()
     }
 
     /// Where the byte length of a table stands among the fields.
@@ -88,22 +89,22 @@ pub fn made_start(plant: &[u8], chain: &[Field], form: u64) -> Option<Start> {
     start_make(plant, &file(chain), form).ok().map(|bytes| Start::of(chain, &bytes))
 }
 
-/// The made start files of both forms, as far as there are any, and one with tables of both.
+/// The made start files of all forms, as far as there are any, and one with tables of several.
 pub fn made_starts(random: &mut Random, plant: &[u8], chain: &[Field]) -> Vec<Start> {
     with_mixed(random, FORMS.iter().filter_map(|form| made_start(plant, chain, *form)).collect())
 }
 
-/// Start files of one plant and chain; where there are two, also one that has each table from either by chance.
+/// Start files of one plant and chain; where there are several, also one that has each table from any of them by chance.
 pub fn with_mixed(random: &mut Random, mut all: Vec<Start>) -> Vec<Start> {
-    if let [one, other] = &all[..] {
-        let pairs = one.tables.iter().zip(&other.tables);
-        let tables = pairs.map(|(one, other)| if random.chance(2) { one.clone() } else { other.clone() }).collect();
+    if let [one, _, ..] = &all[..] {
+        let any = |index: usize| all[random.within(0, all.len() as i64 - 1) as usize].tables[index].clone();
+        let tables = (0..one.tables.len()).map(any).collect();
         all.push(Start { chain: one.chain.clone(), tables });
     }
     all
 }
 
-/// A start file that keeps every rule, with tables of either form that chance came upon; None where it does not for some box.
+/// A start file that keeps every rule, with tables of any form that chance came upon; None where it does not for some box.
 pub fn other_start(random: &mut Random, plant: &Plant, chain: &[Field]) -> Option<Start> {
     let boxes = boxes_of(plant, chain);
     let table = |index| {

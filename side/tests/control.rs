@@ -1,12 +1,12 @@
 //! The controller's call side by side: readings around R and S, states that
-//! can be and cannot, tables of both forms whole, cut, damaged and under every
+//! can be and cannot, tables of all forms whole, cut, damaged and under every
 //! other form.
 
 use second::plant::read_plant;
 use side::common::file;
 use side::inputs::{any_reading, any_state, papers_plants, plant_fields, random, rounds};
 use side::seen::{each_came, Seen};
-use side::tables::{in_no_form, in_other_form, made_table, made_tables, FORMS};
+use side::tables::{in_no_form, in_other_forms, made_table, made_tables, FORMS};
 use side::{largest_table_plant, longest_table_plant, NO_MODE};
 
 #[test]
@@ -67,7 +67,7 @@ fn every_corner(plant: &[u8], form: u64) {
     assert!(seen.control[0] > 20 && seen.control[11] > 1, "{:?}", seen.control);
 }
 
-/// Under the other form a call finds other tiles, and under none it tells so before the state and the reading.
+/// Under another form a call finds other tiles, and under none it tells so before the state and the reading.
 #[test]
 fn tables_under_another_form() {
     let (mut random, mut seen, mut others) = (random(11), Seen::default(), Seen::default());
@@ -82,12 +82,14 @@ fn tables_under_another_form() {
             }
             for x in [plant.edges.r_lo, plant.edges.r_hi, any_reading(&mut random, &plant)] {
                 let own = others.control(&bytes, &table, 0, 0, x);
-                otherwise += usize::from(others.control(&bytes, &in_other_form(&table), 0, 0, x) != own);
+                for other in in_other_forms(&table) {
+                    otherwise += usize::from(others.control(&bytes, &other, 0, 0, x) != own);
+                }
             }
         }
     }
     println!("{otherwise} calls answered otherwise");
     assert!(otherwise > 100, "{otherwise}");
-    each_came("control, the other form", &others.control, &[0, 1, 6, 11], 20);
+    each_came("control, another form", &others.control, &[0, 1, 6, 11], 20);
     each_came("control, no form", &seen.control, &[1, 2], 1_000);
 }

@@ -1,12 +1,12 @@
 //! The maker side by side: answer and every byte of the buffer, on plants with
-//! and without a table, of both forms and of numbers that are none, in buffers
+//! and without a table, of all forms and of numbers that are none, in buffers
 //! long enough, just long enough and too short.
 
 use second::plant::read_plant;
 use side::common::{file, Random, S, U};
 use side::inputs::{papers_plants, plant_fields, random, rounds, spoiled};
 use side::seen::{each_came, Seen};
-use side::tables::{any_form, halvings, made_table, FORMS, NO_FORMS};
+use side::tables::{any_form, deepest, made_table, FORMS, NO_FORMS};
 use side::{largest_table_plant, longest_table_plant, turn_as_mode};
 
 /// Whether there is a table.
@@ -31,8 +31,9 @@ fn the_papers_plants() {
             every_buffer(&mut seen, &plant, form);
         }
         for length in 0..plant.len() {
-            seen.make(&plant[..length], 1, 40);
-            seen.make(&plant[..length], 3, 40);
+            for form in FORMS {
+                seen.make(&plant[..length], form, 40);
+            }
         }
     }
 }
@@ -46,11 +47,15 @@ fn the_largest_tables() {
     for (plant, form, length) in [
         (&largest, 1, 30_039),
         (&longest, 1, 54_615),
+        (&largest, 2, 34_389),
+        (&longest, 2, second::LARGEST_TABLE),
         (&largest, 3, 32_769),
-        (&longest, 3, second::LARGEST_TABLE),
+        (&longest, 3, 57_345),
         (&four_rooms[0], 1, 28_947),
+        (&four_rooms[0], 2, 33_297),
         (&four_rooms[0], 3, 32_769),
-        (&four_rooms[1], 3, second::LARGEST_TABLE),
+        (&four_rooms[1], 2, 57_873),
+        (&four_rooms[1], 3, 57_345),
     ] {
         assert_eq!(seen.make(plant, form, length), (0, length as u64, 0));
         assert_eq!(seen.make(plant, form, length - 1), (10, 0, 0));
@@ -68,14 +73,15 @@ struct Came {
 }
 
 impl Came {
-    fn count(&mut self, plant: &[u8], [one, three]: [bool; 2]) {
+    fn count(&mut self, plant: &[u8], [one, two, three]: [bool; 3]) {
+        assert_eq!(one, two, "forms 1 and 2 are one tree: {plant:?}");
         self.both += usize::from(one && three);
         self.one_alone += usize::from(one && !three);
         self.three_alone += usize::from(three && !one);
         let Some(table) = made_table(plant, 3) else { return };
         let plant_read = read_plant(plant).expect("a sound plant");
         self.fewer_tiles += usize::from(made_table(plant, 1).is_some_and(|other| other.len() > table.len()));
-        self.deepest[plant_read.rooms()] += usize::from(plant_read.d > 0 && halvings(&table) == plant_read.n * plant_read.d);
+        self.deepest[plant_read.rooms()] += usize::from(plant_read.d > 0 && deepest(&plant_read, &table) == plant_read.n * plant_read.d);
     }
 }
 

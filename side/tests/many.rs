@@ -9,7 +9,7 @@ use second::plant::read_plant;
 use side::common::{file, Field, Random, S, U};
 use side::inputs::{any_reading, any_state, damaged, other_forms, plant_fields, random, rounds, sheet_fields, spoiled};
 use side::seen::{each_came, Seen};
-use side::tables::{any_form, any_told_form, any_tree, in_no_form, in_other_form, made_table, other_table, FORMS};
+use side::tables::{any_form, any_told_form, any_tree, in_no_form, in_other_forms, made_table, other_table, wrong_lengths, FORMS};
 use side::NO_MODE;
 
 /// The numbers that each function can tell.
@@ -80,14 +80,19 @@ fn tables(random: &mut Random, seen: &mut Seen, bytes: &[u8]) {
         all.extend(made_table(bytes, form));
     }
     all.extend(other_table(random, &plant, form));
+    let mut others = Vec::new();
     for table in &all[1..] {
         assert_eq!(seen.check(bytes, table), (0, 0, 0), "{bytes:?} {table:?}");
+        for (other, wanted) in wrong_lengths(&plant, &plant.r(), table) {
+            assert_eq!(seen.check(bytes, &other), wanted, "{bytes:?} {other:?}");
+            others.push(other);
+        }
     }
     for table in all {
-        let mut others = [vec![table.clone(); 20], vec![in_other_form(&table); 5]].concat();
+        others.extend([vec![table.clone(); 20], in_other_forms(&table), in_other_forms(&table)].concat());
         others.extend(in_no_form(&table).into_iter().map(|(other, _)| other));
         damaged(random, &table, |other| others.push(other.to_vec()));
-        for other in others {
+        for other in others.drain(..) {
             seen.check(bytes, &other);
             let (place, left) = any_state(random, &other);
             let x = any_reading(random, &plant);
@@ -138,7 +143,7 @@ const FAULTS: [(&[u8], (u64, u64)); 21] = [
     (&[1, 1, 2, 0], (1, 4)),
     (&[1, 1, 1, 0x80, 0x80, 0x80, 0x80, 0x80, 1], (1, 3)),
     (&[0], (2, 0)),
-    (&[2, 1, 1, 0], (2, 0)),
+    (&[4, 1, 1, 0], (2, 0)),
     (&[0x81, 1], (2, 0)),
     (&[0x83, 1, 1, 1, 0], (2, 0)),
     (&[1, 0], (6, 1)),
@@ -151,43 +156,55 @@ const FAULTS: [(&[u8], (u64, u64)); 21] = [
     (&[1, 1, 0, 1, 0, 0], (6, 5)),
 ];
 
-/// A table of form 1 as one of another form: in one room both split alike, and a form that is not known stays as it is.
-fn of_form(form: u8, table: &[u8]) -> Vec<u8> {
-    table.iter().enumerate().map(|(at, byte)| if (at, *byte) == (0, 1) { form } else { *byte }).collect()
+/// A table of form 1 and the place of its fault as one of another form: in one room all split alike, form 2 with a length behind the 0, here one that
+/// leads to the fault; a form that is not known stays as it is.
+fn of_form(form: u8, table: &[u8], place: u64) -> (Vec<u8>, u64) {
+    let mut other: Vec<u8> = table.iter().enumerate().map(|(at, byte)| if (at, *byte) == (0, 1) { form } else { *byte }).collect();
+    if other.starts_with(&[2, 1, 0]) {
+        other.insert(3, place as u8 - 3);
+        return (other, place + 1);
+    }
+    (other, place)
 }
 
 /// 1, 2, 6, 7 and 8 of a table: each cause, place and step.
 fn every_kind_of_place_in_tables(seen: &mut Seen, form: u8) {
     every_step(seen, form);
     for (table, (number, place)) in FAULTS {
-        let table = of_form(form, table);
+        let (table, place) = of_form(form, table, place);
         // the same of a split with no depth left and of one with no side left; and by the controller, idle
         for plant in [adding(1, 1), adding(1, 2)] {
             assert_eq!(seen.check(&plant, &table), (number, place, 0), "{table:?}");
             assert_eq!(seen.control(&plant, &table, 0, 0, [1; 4]), (NO_MODE, [number, place, 0, 0, 0]), "{table:?}");
         }
     }
-    // what is behind the tile is told by the checker alone; a tile that is passed is read
+    // what is behind the tile is told by the checker alone; a tile that is passed is read, but where lengths lead past it
     let plant = adding(1, 1);
     assert_eq!(seen.check(&plant, &[form, 1, 1, 0, 9]), (6, 4, 0));
     assert_eq!(seen.control(&plant, &[form, 1, 1, 0, 9], 0, 0, [0; 4]), (0, [0; 5]));
-    assert_eq!(seen.control(&plant, &[form, 1, 0, 1, 3, 1, 0], 0, 0, [1; 4]), (NO_MODE, [6, 4, 0, 0, 0]));
+    if form == 2 {
+        assert_eq!(seen.control(&plant, &[2, 1, 0, 2, 1, 3, 1, 0], 0, 0, [1; 4]), (0, [0; 5]));
+    } else {
+        assert_eq!(seen.control(&plant, &[form, 1, 0, 1, 3, 1, 0], 0, 0, [1; 4]), (NO_MODE, [6, 4, 0, 0, 0]));
+    }
 }
 
 /// 7 at every step of patterns of every length, and 8, in the first tile and behind another.
 fn every_step(seen: &mut Seen, form: u8) {
-    let (plant, upper) = (adding(1, 1), [form, 1, 0, 1, 0]);
+    let plant = adding(1, 1);
+    let upper: &[u8] = if form == 2 { &[2, 1, 0, 2, 1, 0] } else { &[form, 1, 0, 1, 0] };
+    let behind = upper.len() as u64;
     for length in 1..=6 {
         for step in 1..=length {
             let mut pattern = vec![0; length];
             pattern[step - 1] = 2;
             let tile = [&[length as u8], &pattern[..]].concat();
             assert_eq!(seen.check(&plant, &[&upper[..2], &tile].concat()), (7, 2, step as u64));
-            assert_eq!(seen.check(&plant, &[&upper[..], &tile].concat()), (7, 5, step as u64));
+            assert_eq!(seen.check(&plant, &[upper, &tile].concat()), (7, behind, step as u64));
             pattern[step - 1] = 1;
             let tile = [&[length as u8], &pattern[..]].concat();
             assert_eq!(seen.check(&plant, &[&upper[..2], &tile].concat()), (8, 2, length as u64));
-            assert_eq!(seen.check(&plant, &[&upper[..], &tile].concat()), (8, 5, length as u64));
+            assert_eq!(seen.check(&plant, &[upper, &tile].concat()), (8, behind, length as u64));
         }
     }
 }

@@ -1,12 +1,12 @@
 //! The papers' cases of docs/PAPERS.md by the proved library: the same files in
 //! samples/, which second/tests/papers.rs pins, give the second program's
 //! bytes, are accepted, and drive rooms that do what the plant allows; tables
-//! and start files of both forms.
+//! and start files of all forms.
 
 use second::plant::{read_plant, Plant};
 use side::common::{Random, Raw};
 use side::rooms::{following, Next, EVERY_NEXT};
-use side::starts::Start;
+use side::starts::{boxes_of, Start};
 use side::tables::{longest_pattern, FORMS};
 use side::{check, control, make, sheet, start_check, start_control, start_make, Standing, Told, NO_MODE};
 
@@ -106,8 +106,8 @@ fn the_start_files_of_001() {
         let [plant, chain, start] = ["plant", "chain", "start"].map(|kind| sample(&format!("{name}.{kind}")));
         let made = |form| written(second::LARGEST_START, |buffer| start_make(&plant, &chain, form, buffer));
         assert_eq!(made(1), start, "{name}");
-        assert_eq!(made(3), second::start::start_make(&plant, &chain, 3).expect("a start file"), "{name}");
         for form in FORMS {
+            assert_eq!(made(form), second::start::start_make(&plant, &chain, form).expect("a start file"), "{name}");
             assert_eq!(start_check(&plant, &made(form)), (0, 0, 0), "{name}");
         }
     }
@@ -135,7 +135,9 @@ fn home_from_35_degrees_of_frost() {
 fn samples_promised(plant: &[u8], chain: &[u8], start: &[u8]) -> usize {
     let whole = Start::of(&[Raw(chain.to_vec())], start);
     assert_eq!(start_check(plant, &whole.bytes()), (0, 0, 0));
-    whole.tables[1..].iter().map(|table| longest_pattern(table)).sum()
+    let read = read_plant(plant).expect("a plant");
+    let boxes = boxes_of(&read, &whole.chain);
+    (1..=boxes.m()).map(|index| longest_pattern(&read, boxes.root(index), &whole.tables[index])).sum()
 }
 
 /// Samples until an idle call meets a reading in R, of a thousand that are driven.

@@ -7,7 +7,7 @@ use second::form::Form;
 use second::image::image;
 use second::plant::{read_plant, write_plant, Plant};
 use second::tile::tile_rule;
-use side::common::{file, told, with, Field, Random, U};
+use side::common::{file, groups, told, with, Field, Random, U};
 use side::inputs::{plant_fields, random, rounds, A, BAND, EDGE};
 use side::tables::{any_form, FORMS};
 use side::{check, control, make, NO_MODE};
@@ -274,11 +274,28 @@ impl Division {
             self.table.push(0);
             self.to_come += children.len();
             self.splits[children.len()] += 1;
-            children.iter().for_each(|child| self.divide(random, child, depth_left - 1));
+            let (first_tile, mut bounds) = (self.tiles.len(), vec![self.table.len()]);
+            for child in &children {
+                self.divide(random, child, depth_left - 1);
+                bounds.push(self.table.len());
+            }
+            if self.form.tells_lengths() {
+                self.put_lengths(&bounds, first_tile);
+            }
             return;
         }
         self.tiles.push(Tile { of: *here, place: self.table.len() as u64, depth_left });
         self.table.extend([2, 0, 0]);
+    }
+
+    /// Sets the lengths of a split's children but the last before the first of them, and moves their tiles.
+    fn put_lengths(&mut self, bounds: &[usize], first_tile: usize) {
+        let told = bounds[..bounds.len() - 1].windows(2);
+        let lengths: Vec<u8> = told.flat_map(|child| groups((child[1] - child[0]) as u128)).collect();
+        for tile in &mut self.tiles[first_tile..] {
+            tile.place += lengths.len() as u64;
+        }
+        self.table.splice(bounds[0]..bounds[0], lengths);
     }
 
     /// The table with a split in place of a tile.
@@ -347,7 +364,7 @@ fn every_tile_of_a_division() {
             pin_division(&mut random, &mut divided, form);
         }
         println!("form {form}: {divided:?}");
-        let (deepest, children) = if form == 1 { (6, &[2, 4, 8, 16][..]) } else { (12, &[2][..]) };
+        let (deepest, children) = if form == 3 { (12, &[2][..]) } else { (6, &[2, 4, 8, 16][..]) };
         assert!((0..17).all(|count| (divided.splits[count] > 100) == children.contains(&count)), "{divided:?}");
         assert!(divided.depths[..=deepest].iter().all(|times| *times > 5), "{divided:?}");
         assert!(divided.deepest[1..].iter().all(|times| *times > 100), "{divided:?}");

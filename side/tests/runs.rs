@@ -8,13 +8,13 @@ use second::plant::read_plant;
 use side::common::{file, Random};
 use side::inputs::{papers_plants, plant_fields, random, rounds};
 use side::rooms::{following, Next, EVERY_NEXT};
-use side::tables::{halvings, longest_pattern, other_table, FORMS};
+use side::tables::{deepest, longest_pattern, other_table, FORMS};
 use side::{check, control, largest_table_plant, longest_table_plant, make, NO_MODE};
 
 /// One run from a reading in R.
 fn run(random: &mut Random, next: Next, samples: usize, bytes: &[u8], table: &[u8], mut x: [i64; 4]) {
     let plant = read_plant(bytes).unwrap();
-    let longest = longest_pattern(table);
+    let longest = longest_pattern(&plant, &plant.r(), table);
     let (mut place, mut left, mut since_idle) = (0, 0, 0);
     for sample in 0..samples {
         assert!(plant.s().contains(&x), "{x:?} outside S: {bytes:?} {table:?}");
@@ -67,15 +67,15 @@ struct Came {
 
 /// The made table of a form and another one drive the plant.
 fn driven(random: &mut Random, came: &mut Came, bytes: &[u8], form: u64) {
-    let made = made(bytes, form);
-    let other = other_table(random, &read_plant(bytes).unwrap(), form).filter(|other| Some(other) != made.as_ref());
+    let (made, plant) = (made(bytes, form), read_plant(bytes).unwrap());
+    let other = other_table(random, &plant, form).filter(|other| Some(other) != made.as_ref());
     came.others += usize::from(other.is_some());
-    let lengths = [&made, &other].map(|table| table.as_ref().map_or(0, |table| longest_pattern(table)));
+    let lengths = [&made, &other].map(|table| table.as_ref().map_or(0, |table| longest_pattern(&plant, &plant.r(), table)));
     came.longer += usize::from(lengths[0] < lengths[1]);
     for table in [made, other].into_iter().flatten() {
         came.tables += 1;
         came.own_bands += usize::from(bytes[0] == 2);
-        came.halved += usize::from(form == 3 && halvings(&table) > 1);
+        came.halved += usize::from(form == 3 && deepest(&plant, &table) > 1);
         came.samples += runs(random, bytes, &table);
     }
 }
@@ -96,5 +96,5 @@ fn accepted_tables_keep_their_promise() {
     for came in &by_form {
         assert!(came.samples >= 100_000 && came.others > 30 && came.longer > 10 && came.own_bands > 100, "{came:?}");
     }
-    assert!(by_form[1].halved > 30, "{by_form:?}");
+    assert!(by_form[2].halved > 30, "{by_form:?}");
 }

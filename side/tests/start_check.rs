@@ -1,37 +1,47 @@
 //! The checker of start files side by side: start files whole, spoiled in each
 //! number of the beginning and in each byte length, damaged in each byte, cut
 //! at each length, with every fault of a table at every index, with tables of
-//! both forms in one file and under other forms. Every answer is number, place
-//! and step.
+//! several forms in one file and under other forms. Every answer is number,
+//! place and step.
 
 use second::plant::read_plant;
 use second::MOST_BOXES;
 use side::common::{chain_fields, cold_chain, cold_p, file, p_fields, start_fields, Field, Random, T1};
 use side::inputs::{damaged, plant_fields, random, rounds, spoiled};
 use side::seen::{each_came, Seen};
-use side::starts::{any_chain, any_start, made_start, made_starts, other_start, spoiled_chain, spoiled_lengths, turning, Start};
-use side::tables::{any_tree, in_no_form, in_other_form, FORMS};
+use side::starts::{any_chain, any_start, boxes_of, made_start, made_starts, other_start, spoiled_chain, spoiled_lengths, turning, Start};
+use side::tables::{any_tree, in_no_form, in_other_forms, wrong_lengths, FORMS};
 
 /// Faults of a table of P in S, with the number of each.
-const FAULTS: [(&[u8], u64); 18] = [
+const FAULTS: [(&[u8], u64); 28] = [
     (&[], 1),
     (&[1, 0x80], 1),
     (&[1, 1], 1),
+    (&[2, 1], 1),
     (&[3, 1], 1),
     (&[1, 1, 2, 0], 1),
+    (&[2, 1, 0], 1),
+    (&[2, 1, 0, 0x82, 0, 1, 1, 1, 0], 1),
+    (&[2, 1, 0, 2, 1, 1], 1),
     (&[1, 1, 0, 1, 0x81, 0, 1, 0], 1),
     (&[0, 1], 2),
-    (&[2, 1, 1, 0], 2),
+    (&[4, 1, 1, 0], 2),
     (&[0x81, 1], 2),
     (&[1, 2], 6),
+    (&[2, 2], 6),
     (&[3, 2], 6),
     (&[1, 1, 3], 6),
     (&[1, 1, 0, 0], 6),
+    (&[2, 1, 0, 2, 0], 6),
     (&[3, 1, 0, 0], 6),
+    (&[2, 1, 0, 1, 1, 1, 1, 0], 6),
+    (&[2, 1, 0, 3, 1, 1, 1, 0], 6),
+    (&[2, 1, 0, 99, 1, 1, 1, 0], 6),
     (&[1, 1, 2, 0, 2], 6),
     (&[1, 1, 1, 1], 7),
     (&[3, 1, 0, 1, 1, 1, 1], 7),
     (&[1, 1, 0, 1, 1, 2, 0, 0], 8),
+    (&[2, 1, 0, 99, 2, 1, 0, 1, 0], 8),
 ];
 
 /// Each of them in each of nine tables: told as of the table alone, its place moved.
@@ -108,7 +118,9 @@ fn accepted(random: &mut Random, seen: &mut Seen, plant: &[u8], start: &Start) {
         assert_eq!(seen.start_check(plant, &other), wanted);
     }
     for index in 0..start.tables.len() {
-        seen.start_check(plant, &start.with_table(index, &in_other_form(&start.tables[index])).bytes());
+        for table in in_other_forms(&start.tables[index]) {
+            seen.start_check(plant, &start.with_table(index, &table).bytes());
+        }
         for (table, wanted) in in_no_form(&start.tables[index]).into_iter().step_by(random.within(1, 9) as usize) {
             let other = start.with_table(index, &table);
             assert_eq!(seen.start_check(plant, &other.bytes()), (wanted.0, other.places(index).1, 0));
@@ -119,12 +131,28 @@ fn accepted(random: &mut Random, seen: &mut Seen, plant: &[u8], start: &Start) {
     });
 }
 
-/// What was accepted: made, others, and those with tables of both forms.
+/// An accepted start file with each length of the first split of each of its tables of form 2 made wrong; how many there were.
+fn lengths_made_wrong(seen: &mut Seen, bytes: &[u8], start: &Start) -> usize {
+    let plant = read_plant(bytes).expect("a sound plant");
+    let boxes = boxes_of(&plant, &start.chain);
+    let mut wrong = 0;
+    for (index, table) in start.tables.iter().enumerate() {
+        for (table, (number, place, _)) in wrong_lengths(&plant, boxes.root(index), table) {
+            let other = start.with_table(index, &table);
+            assert_eq!(seen.start_check(bytes, &other.bytes()), (number, other.places(index).1 + place, 0), "{bytes:?} {table:?} at {index}");
+            wrong += 1;
+        }
+    }
+    wrong
+}
+
+/// What was accepted: made, others, and those with tables of several forms; and how many lengths of a split were made wrong.
 #[derive(Default, Debug)]
 struct Came {
     made: usize,
     others: usize,
     mixed: usize,
+    wrong: usize,
 }
 
 /// A plant's start files over a chain, whole and spoiled.
@@ -142,7 +170,8 @@ fn start_files(random: &mut Random, seen: &mut Seen, came: &mut Came) {
     came.others += usize::from(other.is_some());
     all.extend(other);
     for start in all {
-        came.mixed += usize::from(start.has_both_forms());
+        came.mixed += usize::from(start.forms() > 1);
+        came.wrong += lengths_made_wrong(seen, &bytes, &start);
         accepted(random, seen, &bytes, &start);
         for index in 0..start.tables.len() {
             let spoilt = start.with_table(index, &any_tree(random, bytes[1]));
@@ -161,7 +190,7 @@ fn many_start_files() {
         start_files(&mut random, &mut seen, &mut came);
     }
     println!("{came:?}");
-    assert!(came.made > 60 && came.others > 30 && came.mixed > 50, "{came:?}");
+    assert!(came.made > 60 && came.others > 30 && came.mixed > 50 && came.wrong > 1_000, "{came:?}");
     each_came("start check", &seen.start_check, &[0, 1, 2, 3, 4, 5, 6, 7, 8, 15], 20);
     assert!(seen.start_check.iter().sum::<usize>() >= 100_000);
 }

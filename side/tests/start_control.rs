@@ -1,15 +1,15 @@
 //! The controller's call with a start file side by side: readings about every
 //! box, states that can be and cannot, start files whole, spoiled and damaged,
-//! of tables of both forms.
+//! of tables of all forms.
 
 use second::plant::read_plant;
 use side::common::{chain_fields, cold_chain, cold_p, encode, file, p_fields, start_fields, two_rooms, with, Field, Random, Raw, T1, U};
 use side::inputs::{any_reading, any_state, damaged, plant_fields, random, rounds, spoiled};
 use side::seen::{each_came, Seen};
 use side::starts::{
-    any_chain, any_reading_about, any_standing, any_start, made_start, made_starts, other_start, spoiled_chain, spoiled_lengths, turning, Start,
+    any_chain, any_reading_about, any_standing, any_start, boxes_of, made_start, made_starts, other_start, spoiled_chain, spoiled_lengths, turning, Start,
 };
-use side::tables::{any_form, any_tree, in_no_form, in_other_form, made_table, FORMS};
+use side::tables::{any_form, any_tree, in_no_form, in_other_forms, made_table, wrong_lengths, FORMS};
 use side::{Standing, NO_MODE};
 
 const IDLE: Standing = [0, 0, 0];
@@ -22,8 +22,10 @@ fn refused(number: u64, place: u64) -> (u64, [u64; 6]) {
 #[test]
 fn a_cold_room_comes_home() {
     let (mut seen, plant) = (Seen::default(), cold_p());
-    let samples = [(160, IDLE, 1), (174, [2, 5, 1], 1), (187, IDLE, 1), (198, [1, 5, 1], 1), (208, IDLE, 0), (197, [0, 4, 1], 1)];
     for form in FORMS {
+        // tables 1 and 2 split, so that in form 2 a length stands before their tiles
+        let second = if form == 2 { 6 } else { 5 };
+        let samples = [(160, IDLE, 1), (174, [2, second, 1], 1), (187, IDLE, 1), (198, [1, second, 1], 1), (208, IDLE, 0), (197, [0, 4, 1], 1)];
         let start = made_start(&plant, &cold_chain(), form).expect("a start file").bytes();
         for (at, (x, standing, mode)) in samples.into_iter().enumerate() {
             let next = samples.get(at + 1).map_or(IDLE, |sample| sample.1);
@@ -37,12 +39,14 @@ fn a_cold_room_comes_home() {
 type Case = (Vec<Field>, Standing, [i64; 4], (u64, [u64; 6]));
 
 /// Each fault of a call with P beside all that are told after it.
-fn every_fault() -> [Case; 29] {
+fn every_fault() -> [Case; 36] {
     let start = |tables: [&[u8]; 2]| start_fields(&chain_fields(&[[(190, 230)]]), &tables);
     let whole = start([&T1, &T1]);
     let (_, places) = encode(&whole);
     assert_eq!(places[4..8], [6, 7, 14, 15]);
-    let (nowhere, outside, in_r1) = ([9, 9, 9], [0; 4], [190, 0, 0, 0]);
+    let (nowhere, outside, in_r1, in_r) = ([9, 9, 9], [0; 4], [190, 0, 0, 0], [225, 0, 0, 0]);
+    // table 0 of form 2 with this length, its first byte at 7
+    let by_length = |length: u8| start([&[2, 1, 0, length, 1, 1, 1, 0], &T1]);
     let apart = start_fields(&chain_fields(&[[(196, 230)]]), &[&T1, &T1]);
     [
         (apart, nowhere, outside, refused(15, 1)),
@@ -57,10 +61,11 @@ fn every_fault() -> [Case; 29] {
         (with(&whole, 6, U((1 << 32) + 7)), IDLE, in_r1, refused(3, 14)),
         (with(&whole, 6, U((1 << 35) + 7)), IDLE, in_r1, refused(1, 14)),
         (with(&whole, 6, U(99)), [1, 5, 0], outside, refused(3, 14)),
-        (start([&T1, &[2, 2, 7]]), [1, 5, 0], outside, refused(2, 15)),
+        (start([&T1, &[5, 2, 7]]), [1, 5, 0], outside, refused(2, 15)),
         (start([&T1, &[4, 2, 7]]), IDLE, in_r1, refused(2, 15)),
         (start([&T1, &[0x83, 0]]), IDLE, in_r1, refused(1, 15)),
         (start([&T1, &[1, 2, 7]]), [1, 5, 0], outside, refused(6, 16)),
+        (start([&T1, &[2, 2, 7]]), [1, 5, 0], outside, refused(6, 16)),
         (start([&T1, &[3, 2, 7]]), [1, 5, 0], outside, refused(6, 16)),
         (start([&T1, &[1]]), [1, 5, 0], outside, refused(1, 16)),
         (start([&T1, &[3, 1, 7]]), [1, 5, 0], outside, refused(12, 0)),
@@ -71,6 +76,13 @@ fn every_fault() -> [Case; 29] {
         (start([&T1, &[1, 1, 1, 0]]), [1, 3, 1], outside, refused(11, 0)),
         (start([&T1, &[1, 1, 7]]), IDLE, in_r1, refused(6, 17)),
         (start([&T1, &[1, 1, 0, 1]]), IDLE, in_r1, refused(1, 19)),
+        // a length past the table's own end, though not the file's; just at that end; to a running call it is nothing
+        (by_length(5), IDLE, in_r, refused(6, 10)),
+        (by_length(4), IDLE, in_r, refused(1, 15)),
+        (by_length(2), IDLE, in_r, (0, [0; 6])),
+        (by_length(5), IDLE, in_r1, (1, [0; 6])),
+        (by_length(99), [0, 5, 1], in_r, (1, [0; 6])),
+        (start([&T1, &[2, 1, 0, 0x82, 0, 1, 1, 1, 0]]), IDLE, in_r1, refused(1, 18)),
         // nothing of table 0 but its length is read, nothing behind the tile, no surplus, no leftover
         (start([&[9; 7], &[1, 1, 0, 1, 1, 9, 9]]), IDLE, in_r1, (1, [0; 6])),
         (start([&[9; 7], &[3, 1, 0, 1, 1, 9, 9]]), IDLE, in_r1, (1, [0; 6])),
@@ -171,7 +183,7 @@ fn calls(random: &mut Random, seen: &mut Seen, bytes: &[u8], start: &Start, file
 /// Calls on a start file whole, with its chain and its lengths spoiled, its tables others and under other forms, and damaged; how many ran on.
 fn calls_on(random: &mut Random, seen: &mut Seen, bytes: &[u8], start: &Start) -> usize {
     let plant = read_plant(bytes).expect("a sound plant");
-    let whole = start.bytes();
+    let (whole, boxes) = (start.bytes(), boxes_of(&plant, &start.chain));
     let rest = &whole[file(&start.chain).len()..];
     for (other, wanted) in spoiled_chain(&plant, &start.chain).into_iter().step_by(5) {
         let other = [&file(&other)[..], rest].concat();
@@ -180,8 +192,12 @@ fn calls_on(random: &mut Random, seen: &mut Seen, bytes: &[u8], start: &Start) -
     for (other, _) in spoiled_lengths(start) {
         calls(random, seen, bytes, start, &other, 1);
     }
+    let sound = second::start::start_check(bytes, &whole).is_ok();
     for (index, table) in start.tables.iter().enumerate() {
-        let mut others = vec![any_tree(random, bytes[1]), in_other_form(table)];
+        let mut others = [vec![any_tree(random, bytes[1])], in_other_forms(table)].concat();
+        if sound {
+            others.extend(wrong_lengths(&plant, boxes.root(index), table).into_iter().map(|(other, _)| other));
+        }
         others.extend(in_no_form(table).into_iter().step_by(7).map(|(other, _)| other));
         for spoilt in others.iter().map(|other| start.with_table(index, other)) {
             calls(random, seen, bytes, &spoilt, &spoilt.bytes(), 3);
@@ -216,10 +232,10 @@ fn many_calls() {
         for start in &all {
             let on = calls_on(&mut random, &mut seen, &bytes, start);
             ran_on += on;
-            mixed += if start.has_both_forms() { on } else { 0 };
+            mixed += if start.forms() > 1 { on } else { 0 };
         }
     }
-    println!("{ran_on} running states above R0's table, {mixed} in files with tables of both forms");
+    println!("{ran_on} running states above R0's table, {mixed} in files with tables of several forms");
     assert!(ran_on > 200 && mixed > 50, "{ran_on} {mixed}");
     each_came("start control", &seen.start_control, &[0, 1, 2, 3, 4, 5, 6, 11, 12, 15], 20);
     assert!(seen.start_control.iter().sum::<usize>() >= 100_000);

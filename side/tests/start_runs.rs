@@ -41,7 +41,8 @@ impl Cold<'_> {
     /// One run from a reading of Rm; how many samples until arrival, and how many were promised.
     fn run(&self, random: &mut Random, next: Next, mut x: [i64; 4]) -> (usize, usize) {
         let index = self.boxes.smallest_holding(&x);
-        let promised = self.start.tables[1..=index].iter().map(|table| longest_pattern(table)).sum();
+        let longest = |i: usize| longest_pattern(&self.plant, self.boxes.root(i), &self.start.tables[i]);
+        let promised = (1..=index).map(longest).sum();
         let (mut standing, mut sample) = (IDLE, 0);
         while !self.arrived(standing, &x) {
             assert!(sample < promised, "{sample} samples, {promised} promised: {:?} {:?}", self.bytes, self.file);
@@ -63,7 +64,7 @@ impl Cold<'_> {
 }
 
 /// What the runs came to: how many, how many took a sample at least, how many as many as promised, how many more than one pattern can take, how many of
-/// plants whose modes differ in their bands took a sample, and how many by tables all of form 3, and by tables of both forms.
+/// plants whose modes differ in their bands took a sample, and how many by tables all of form 3, all of form 2, and by tables of several forms.
 #[derive(Default, Debug)]
 struct Came {
     runs: usize,
@@ -72,6 +73,7 @@ struct Came {
     far: usize,
     own_bands: usize,
     halved: usize,
+    by_lengths: usize,
     mixed: usize,
 }
 
@@ -98,8 +100,10 @@ fn runs(random: &mut Random, came: &mut Came, bytes: &[u8], start: &Start) {
                 came.sharp += usize::from(samples > 0 && samples == promised);
                 came.far += usize::from(samples > plant.k as usize);
                 came.own_bands += usize::from(samples > 0 && plant.bands.iter().any(|band| *band != plant.bands[0]));
-                came.halved += usize::from(samples > 0 && start.tables.iter().all(|table| table[0] == 3));
-                came.mixed += usize::from(samples > 0 && start.has_both_forms());
+                let all_of = |form: u8| usize::from(samples > 0 && start.tables.iter().all(|table| table[0] == form));
+                came.halved += all_of(3);
+                came.by_lengths += all_of(2);
+                came.mixed += usize::from(samples > 0 && start.forms() > 1);
             }
         }
     }
@@ -132,5 +136,5 @@ fn cold_rooms_come_home() {
     }
     println!("{came:?}, {others} start files not the made ones");
     assert!(came.runs > 10_000 && came.cold > 1_000 && came.sharp > 500 && came.far > 20 && came.own_bands > 200 && others > 30, "{came:?} {others}");
-    assert!(came.halved > 300 && came.mixed > 300, "{came:?}");
+    assert!(came.halved > 300 && came.by_lengths > 300 && came.mixed > 300, "{came:?}");
 }

@@ -103,7 +103,7 @@ abbrev spoilt : ℕ → List ℕ → List ℕ
 spoilt m behind = take m start ++ behind
 
 faults : (judged (spoilt 6 []) ≡ Verdict.Refused (broken 6)) × (judged (spoilt 21 []) ≡ Verdict.Refused (unfit 14))
-    × (judged (spoilt 6 (6 ∷ 1 ∷ 1 ∷ 0 ∷ 1 ∷ 1 ∷ 1 ∷ [])) ≡ Verdict.Refused (broken 13)) × (judged (spoilt 6 (7 ∷ 2 ∷ 1 ∷ 0 ∷ 1 ∷ 1 ∷ 1 ∷ 0 ∷ [])) ≡ Verdict.Refused (refusal 2 7 0))
+    × (judged (spoilt 6 (6 ∷ 1 ∷ 1 ∷ 0 ∷ 1 ∷ 1 ∷ 1 ∷ [])) ≡ Verdict.Refused (broken 13)) × (judged (spoilt 6 (7 ∷ 4 ∷ 1 ∷ 0 ∷ 1 ∷ 1 ∷ 1 ∷ 0 ∷ [])) ≡ Verdict.Refused (refusal 2 7 0))
     × (judged (spoilt 14 (7 ∷ 1 ∷ 2 ∷ 0 ∷ 1 ∷ 1 ∷ 1 ∷ 0 ∷ [])) ≡ Verdict.Refused (badTable 16)) × (judged (spoilt 6 (8 ∷ 1 ∷ 1 ∷ 0 ∷ 1 ∷ 1 ∷ 1 ∷ 0 ∷ 7 ∷ [])) ≡ Verdict.Refused (unfit 6))
     × (judged (start ++ 0 ∷ []) ≡ Verdict.Refused (unfit 22))
 unfolding computing

@@ -37,8 +37,8 @@ P =
 abbrev behind : List ℕ
 behind = 0x01 ∷ 0x00 ∷ 0x01 ∷ 0x01 ∷ 0x01 ∷ 0x00 ∷ []
 
-tables : (made P 1 ≡ good (0x01 ∷ behind)) × (made P 3 ≡ good (0x03 ∷ behind)) × (made P 2 ≡ bad wrongForm) × (made P 0 ≡ bad wrongForm)
-    × (checked P (0x03 ∷ behind) ≡ Verdict.Accepted) × (checked P (0x02 ∷ behind) ≡ Verdict.Refused wrongForm) × (checked P [] ≡ Verdict.Refused (broken 0))
+tables : (made P 1 ≡ good (0x01 ∷ behind)) × (made P 3 ≡ good (0x03 ∷ behind)) × (made P 4 ≡ bad wrongForm) × (made P 0 ≡ bad wrongForm)
+    × (checked P (0x03 ∷ behind) ≡ Verdict.Accepted) × (checked P (0x04 ∷ behind) ≡ Verdict.Refused wrongForm) × (checked P [] ≡ Verdict.Refused (broken 0))
     × (controlled P (0x03 ∷ behind) idle (pos 195 ∷ []) ≡ Answer.Mode 1 idle) × (controlled P (0x03 ∷ behind) idle (pos 225 ∷ []) ≡ Answer.Mode 0 idle)
 unfolding computing
 tables = (refl, refl, refl, refl, refl, refl, refl, refl, refl)
@@ -84,8 +84,8 @@ either = (refl, refl, refl, refl)
 abbrev single : List ℕ
 single = fileOf plantForm (pos 1 ∷ pos 1 ∷ pos 1 ∷ pos 1 ∷ pos 1 ∷ pos 1 ∷ pos 7 ∷ pos 7 ∷ pos 7 ∷ pos 7 ∷ pos 0 ∷ pos 0 ∷ pos 1 ∷ pos 0 ∷ [])
 
-refused : (controlled P (0x02 ∷ behind) idle (pos 195 ∷ []) ≡ Answer.Refused wrongForm)
-    × (controlled P (0x02 ∷ behind) (record { place = 4; left = 1 }) (pos 195 ∷ []) ≡ Answer.Refused wrongForm)
+refused : (controlled P (0x04 ∷ behind) idle (pos 195 ∷ []) ≡ Answer.Refused wrongForm)
+    × (controlled P (0x04 ∷ behind) (record { place = 4; left = 1 }) (pos 195 ∷ []) ≡ Answer.Refused wrongForm)
     × (controlled P (0x03 ∷ behind) (record { place = 4; left = 1 }) (pos 230 ∷ []) ≡ Answer.Mode 1 idle)
     × (checked single (0x03 ∷ 0x01 ∷ 0x00 ∷ 0x01 ∷ 0x00 ∷ 0x01 ∷ 0x00 ∷ []) ≡ Verdict.Refused (badTable 2))
     × (checked single (0x03 ∷ 0x01 ∷ 0x01 ∷ 0x00 ∷ []) ≡ Verdict.Accepted)
@@ -99,11 +99,11 @@ chain = 0x01 ∷ 0x01 ∷ 0xFC ∷ 0x02 ∷ 0xCC ∷ 0x03 ∷ []
 abbrev start : ℕ → ℕ → List ℕ
 start one two = chain ++ (0x07 ∷ one ∷ behind) ++ (0x07 ∷ two ∷ behind)
 
-starts : (startChecked P (start 3 1) ≡ Verdict.Accepted) × (startChecked P (start 3 2) ≡ Verdict.Refused (moved 15 wrongForm))
-    × (startMade P chain 3 ≡ good (start 3 3)) × (startMade P chain 1 ≡ good (start 1 1)) × (startMade P chain 2 ≡ bad wrongForm)
-    × (startMade P (0x01 ∷ 0x09 ∷ []) 2 ≡ bad (unfit 1)) × (startMade P (0x01 ∷ 0x01 ∷ 0xFA ∷ 0x02 ∷ 0xCC ∷ 0x03 ∷ []) 2 ≡ bad (notHeld 1))
+starts : (startChecked P (start 3 1) ≡ Verdict.Accepted) × (startChecked P (start 3 4) ≡ Verdict.Refused (moved 15 wrongForm))
+    × (startMade P chain 3 ≡ good (start 3 3)) × (startMade P chain 1 ≡ good (start 1 1)) × (startMade P chain 4 ≡ bad wrongForm)
+    × (startMade P (0x01 ∷ 0x09 ∷ []) 4 ≡ bad (unfit 1)) × (startMade P (0x01 ∷ 0x01 ∷ 0xFA ∷ 0x02 ∷ 0xCC ∷ 0x03 ∷ []) 4 ≡ bad (notHeld 1))
     × (startControlled P (start 3 1) startIdle (pos 190 ∷ []) ≡ StartAnswer.Mode 1 startIdle)
     × (startControlled P (start 3 1) startIdle (pos 225 ∷ []) ≡ StartAnswer.Mode 0 startIdle)
-    × (startControlled P (start 3 2) startIdle (pos 190 ∷ []) ≡ StartAnswer.Refused (moved 15 wrongForm))
+    × (startControlled P (start 3 4) startIdle (pos 190 ∷ []) ≡ StartAnswer.Refused (moved 15 wrongForm))
 unfolding computing
 starts = (refl, refl, refl, refl, refl, refl, refl, refl, refl, refl)

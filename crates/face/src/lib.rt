@@ -9,6 +9,7 @@ use meaning::State;
 use tables::checks;
 use tables::control;
 use tables::makes;
+use tables::relays;
 use tables::start_checks;
 use tables::start_control;
 use tables::start_makes;
@@ -16,6 +17,7 @@ ghost use mathlib.Core.Path.{_≡_};
 ghost use Rattle.meaning.specs.Plants.{plantRead};
 ghost use mathlib.Core.List.{[], _∷_};
 ghost use Rattle.meaning.specs.Refusals.{verdictShown, writtenShown, answerShown, startAnswerShown};
+ghost use Rattle.meaning.specs.Relays.{relayLeft};
 ghost use Rattle.meaning.specs.Sheets.{madeLeft};
 ghost use Rattle.meaning.specs.Starts.{startChecked, startLeft, startControlled};
 ghost use Rattle.meaning.specs.Tables.{checked, makerLeft, controlled};
@@ -65,6 +67,25 @@ pub extern "C" fn hoachulim_make(plant: &[u8], form: u64, buf: &mut [u8], out: &
 {
     let told = form as usize;
     let written = makes::make(plant, told, buf);
+    shown::written(written, out)
+}
+
+// A table file for a plant file as one of the form that is told, into a lent buffer: 0, or the number of the refusal, the checker's where that refuses the
+// table; out holds the length written, or place and step. Finished, only the table's bytes are changed; refused, the buffer is all zeros.
+#[no_mangle]
+pub extern "C" fn hoachulim_relay(
+    plant: &[u8],
+    table: &[u8],
+    form: u64,
+    buf: &mut [u8],
+    out: &mut [u64; 2],
+) -> u64
+    ensures number { λ r. ⌜ r ≡ writtenShown (relayLeft (now (plant .entry)) (now (table .entry)) form (now (buf .entry)) .answer) .number ⌝ }
+    ensures length { λ r. ⌜ now (out .exit) ≡ lengthOrPlace (relayLeft (now (plant .entry)) (now (table .entry)) form (now (buf .entry)) .answer) ⌝ }
+    ensures bytes { λ r. ⌜ now (buf .exit) ≡ relayLeft (now (plant .entry)) (now (table .entry)) form (now (buf .entry)) .buffer ⌝ }
+{
+    let told = form as usize;
+    let written = relays::relay(plant, table, told, buf);
     shown::written(written, out)
 }
 

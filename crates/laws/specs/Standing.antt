@@ -4,8 +4,8 @@ use mathlib.Core.Path.{_≡_, refl, sym, ap, _∙_}
 use mathlib.Core.List.{List, [], _∷_, _++_, append-assoc}
 use native.Mathlib.Omega.{arith}
 use native.Mathlib.Nat.{add-zero}
-use lib.ListN.{length, getD, drop, take, length-append, length-drop, length-take, take-append-drop}
-use lib.Seq.{drop-drop, drop-append-seam, getD-drop, drop-append-le, take-take, take-at}
+use lib.ListN.{length, getD, drop, length-append, length-drop}
+use lib.Seq.{drop-drop, drop-append-seam, getD-drop}
 
 -- the entries xs stand in s from `at` up to `next`
 pub record Stands (s : List ℕ) (at : ℕ) (xs : List ℕ) (next : ℕ) : Type 0 where
@@ -44,21 +44,3 @@ at-cons s i x t e = (
 -- a list holds what stands in it
 pub stand-within : (s bs : List ℕ) (at m : ℕ) → Stands s at bs m → 1 ≤ length bs → m ≤ length s
 stand-within s bs at m h l = omega (arith, h .end, length-drop at s, length-drop m s, length-append bs (drop m s), ap length (h .bytes))
-
--- what stands stands in every list that agrees so far, here up to e
-pub stand-agreed : (s z bs : List ℕ) (at m e : ℕ) → Stands s at bs m → m ≤ e → take e s ≡ take e z → Stands z at bs m
-stand-agreed s z [] at m e h l t = let q : m ≡ at = omega (arith, h .end) in rw q (stand-nil z at)
-stand-agreed s z (x ∷ xs) at m e h l t =
-    let bs = x ∷ xs in
-    let w : m ≤ length s = stand-within s bs at m h (omega arith) in
-    let tm : take m s ≡ take m z = sym (take-take m e s l) ∙ ap (λ (y : List ℕ). take m y) t ∙ take-take m e z l in
-    let v : m ≤ length z = omega (arith, length-take m s, length-take m z, ap length tm) in
-    let le : at ≤ m = omega (arith, h .end) in
-    let front : drop at (take m s) ++ drop m s ≡ bs ++ drop m s =
-    sym (drop-append-le at (take m s) (drop m s) (omega (arith, length-take m s))) ∙ ap (λ (y : List ℕ). drop at y) (take-append-drop m s) ∙ h .bytes in
-    let long : length (drop at (take m s)) ≡ length bs = omega (arith, length-drop at (take m s), length-take m s, h .end) in
-    let is : drop at (take m s) ≡ bs =
-    sym (take-at (drop at (take m s)) (drop m s) (length bs) long) ∙ ap (λ (y : List ℕ). take (length bs) y) front ∙ take-at bs (drop m s) (length bs) refl in
-    let parts : drop at z ≡ drop at (take m z) ++ drop m z =
-    ap (λ (y : List ℕ). drop at y) (sym (take-append-drop m z)) ∙ drop-append-le at (take m z) (drop m z) (omega (arith, length-take m z)) in
-    record { end = h .end; bytes = parts ∙ ap (λ (y : List ℕ). y ++ drop m z) (ap (λ (y : List ℕ). drop at y) (sym tm) ∙ is) }

@@ -1,4 +1,4 @@
-// The listing (document 01, "The listing program"; request 2026-06): the table of a plant in the form that is asked for, a line for each tile in file order.
+// The listing (document 01, "The listing program"; requests 2026-06 and 2026-01): the table of a plant in the form that is asked for, a line for each tile in file order.
 // Relies on crate tables for the table, on boxes for the tiles' boxes. Leaves out whether a table is right: it lists what the maker made.
 // The tree is walked twice: the header tells how many tiles there are before the first is told.
 use crate::boxes;
@@ -96,6 +96,23 @@ fn tile(shown: bool, n: usize, table: &[u8], place: usize, k: usize, b: Bx, t: T
     }
 }
 
+// The place behind the lengths that a split of form 2 tells, one of each child but the last.
+fn past_lengths(form: usize, table: &[u8], at: usize, children: usize) -> usize {
+    if form != 2 {
+        return at;
+    }
+    let mut place = at;
+    let mut left = children;
+    while 1 < left {
+        let Number::Value(_, next) = numbers::number(table, place) else {
+            return place;
+        };
+        place = next;
+        left -= 1;
+    }
+    place
+}
+
 // The tree at the tally's place, of a table of that form, over box b with depth d left.
 fn tree(shown: bool, form: usize, n: usize, table: &[u8], d: usize, b: Bx, t: Tally) -> Tally {
     let Number::Value(k, next) = numbers::number(table, t.place) else {
@@ -109,7 +126,7 @@ fn tree(shown: bool, form: usize, n: usize, table: &[u8], d: usize, b: Bx, t: Ta
     }
     let count = boxes::count(form, n, b);
     let mut past = Tally {
-        place: next,
+        place: past_lengths(form, table, next, count),
         tiles: t.tiles,
         longest: t.longest,
     };
@@ -197,7 +214,7 @@ pub fn show_part(n: usize, d: usize, i: usize, table: &[u8], root: Bx) {
 
 // The listing of a plant's table of that form, or the refusal. No table has more bytes than there is room for.
 pub fn list(plant: &[u8], form: usize) {
-    let mut room = [0u8; 57_345];
+    let mut room = [0u8; 58_965];
     let table: &mut [u8] = &mut room;
     match makes::make(plant, form, table) {
         Written::Refused(e) => tellings::tell_place(e),

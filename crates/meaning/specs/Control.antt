@@ -3,6 +3,7 @@
 use Prim.Native.Nat.{ℕ, zero, suc, _+_}
 use mathlib.Core.Bool.{Bool, true, false, _&&_}
 use mathlib.Core.List.{List, [], _∷_}
+use mathlib.Core.Option.{Option, none, some}
 use lib.ListN.{length}
 use lib.Dec.{leb, eqb}
 use Rattle.laws.specs.Guards.{guard, choose}
@@ -15,7 +16,8 @@ use Rattle.meaning.specs.Refusals.{badTable, outside, badState}
 use Rattle.meaning.specs.Numbers.{numberAt}
 use Rattle.meaning.specs.Files.{Read, read, refused}
 use Rattle.meaning.specs.Rules.{Rules, holds, missed}
-use Rattle.meaning.specs.Verdicts.{onNumber, onWalk, splitAt, modesAt, nodeAt, walk, header}
+use Rattle.meaning.specs.Trees.{tells}
+use Rattle.meaning.specs.Verdicts.{Length, onNumber, onWalk, onRead, splitAt, modesAt, lengthsBy, nodeAt, walk, header}
 
 abbrev pub idle : State
 idle = record { place = 0; left = 0 }
@@ -25,13 +27,32 @@ abbrev pub tileFound : Read (List ℕ) → ℕ → ℕ → Found
 tileFound (refused e) from k = Found.Refused e
 tileFound (read us next) from k = Found.Tile from k
 
+-- Where lengths are told (request 2026-01): the first whose child would end past the file, each beginning where the one before ends.
+unfoldable pub pastFile : ℕ → List Length → ℕ → Option ℕ
+pastFile size [] at = none
+pastFile size (l ∷ ls) at = guard (leb (at + l .size) size) (some (l .place)) λ _. pastFile size ls (at + l .size)
+
+abbrev pub unlessPast : Option ℕ → (ℕ → Found) → (Unit {0} → Found) → Found
+unlessPast (some place) refuse rest = refuse place
+unlessPast none refuse rest = rest tt
+
+-- How a child is passed: by its length where lengths are told, and else by walking over it. The last has none, and nothing is behind it.
+abbrev pub passBy : {B : Type 0} → Bool → (ℕ → B → Walk) → List Length → ℕ → B → Walk
+passBy false over ls at b = over at b
+passBy true over [] at b = Walk.Next at
+passBy true over (l ∷ ls) at b = Walk.Next (at + l .size)
+
+abbrev pub behind : List Length → List Length
+behind [] = []
+behind (l ∷ ls) = ls
+
 -- The children before the one that holds the reading are passed, and that one is gone into. That no child holds it does not occur below a box
 -- that holds it, and is answered by 6 at the split.
-unfoldable pub among : {B : Type 0} → (B → Bool) → (ℕ → B → Found) → (ℕ → B → Walk) → ℕ → List B → ℕ → Found
-among has enter pass split [] at = Found.Refused (badTable split)
-among has enter pass split (b ∷ bs) at =
+unfoldable pub among : {B : Type 0} → (B → Bool) → (ℕ → B → Found) → (List Length → ℕ → B → Walk) → ℕ → List B → List Length → ℕ → Found
+among has enter pass split [] ls at = Found.Refused (badTable split)
+among has enter pass split (b ∷ bs) ls at =
     choose (has b) (λ _. enter at b) λ _.
-    onWalk (pass at b) Found.Refused λ next. among has enter pass split bs next
+    onWalk (pass ls at b) Found.Refused λ next. among has enter pass split bs (behind ls) next
 
 -- the state with so many modes to come, the next of them at that place
 abbrev pub stateAt : ℕ → ℕ → State
@@ -70,7 +91,9 @@ module _ (r : Rules) where
       (λ k next. tileFound (modesAt N k s next) next k)
   find (suc d) s at b x = nodeAt K s at Found.Refused
       (λ next. splitAt (children b) (Found.Refused (badTable at)) λ cs.
-      among (λ c. holds r c x) (λ p c. find d s p c x) (λ p c. walk r (λ _ _. Works) d s p c) at cs next)
+      onRead (lengthsBy (tells form) cs s next) Found.Refused λ ls first.
+      unlessPast (pastFile (length s) ls first) (λ place. Found.Refused (badTable place)) λ _.
+      among (λ c. holds r c x) (λ p c. find d s p c x) (passBy (tells form) (λ p c. walk r (λ _ _. Works) d s p c)) at cs ls first)
       (λ k next. tileFound (modesAt N k s next) next k)
 
   -- the reading must be in a box, or 11 with the first dimension

@@ -12,6 +12,7 @@ pub mod Defined
 pub mod Control
 pub mod Runs
 pub mod Tables
+pub mod Relays
 pub mod Starts
 pub mod Sheets
 pub mod Computing

@@ -20,7 +20,7 @@ use Rattle.meaning.specs.Images.{Step, image, follows}
 use Rattle.meaning.specs.Files.{Judged, good, bad}
 use Rattle.meaning.specs.Plants.{Plant, plantJudged, rootOf, safeOf, stepOf}
 use Rattle.meaning.specs.Rules.{Rules, holds}
-use Rattle.meaning.specs.Trees.{Tree, tableOf}
+use Rattle.meaning.specs.Trees.{Tree, tells, tableOf}
 use Rattle.meaning.specs.Verdicts.{verdict}
 use Rattle.meaning.specs.Defined.{definedTree}
 use Rattle.meaning.specs.Control.{idle, call}
@@ -31,14 +31,14 @@ use Rattle.meaning.specs.Buffers.{Left, left}
 abbrev pub readingOf : ℕ → List ℤ → List ℤ
 readingOf n x = tab (at x) n 0
 
--- ---- the forms of tables: 1, all long sides at once; 3 (request 2026-06), the longest side alone
+-- ---- the forms of tables: 1, all long sides at once; 2 (request 2026-01), the same with lengths; 3 (request 2026-06), the longest side alone
 
 -- whether a form splits the longest side alone
 abbrev pub oneSide : ℕ → Bool
 oneSide form = eqb form 3
 
 abbrev pub knownForm : ℕ → Bool
-knownForm form = eqb form 1 || oneSide form
+knownForm form = eqb form 1 || tells form || oneSide form
 
 abbrev pub childrenBy : ℕ → List Side → List (List Side)
 childrenBy form b = cond (oneSide form) (longestHalved b) (children b)

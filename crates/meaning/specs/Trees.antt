@@ -1,8 +1,9 @@
 -- Trees of tiles (document 01, "Table file"): their bytes, their tiles, and what it is to keep the file's rules.
 use Prim.Native.Nat.{ℕ, zero, suc, _+_, _≤_, _<_, max}
 use mathlib.Core.Path.{_≡_}
-use mathlib.Core.Bool.{cond}
+use mathlib.Core.Bool.{Bool, cond}
 use mathlib.Core.List.{List, [], _∷_, _++_}
+use lib.Dec.{eqb}
 use lib.ListN.{length}
 use Rattle.meaning.specs.Numbers.{bytesOf}
 use Rattle.meaning.specs.Rules.{Rules, holds}
@@ -20,15 +21,29 @@ unfoldable pub modesBytes : List ℕ → List ℕ
 modesBytes [] = []
 modesBytes (u ∷ us) = bytesOf u ++ modesBytes us
 
+-- whether a form tells, behind a split's 0, how many bytes each child has but the last (request 2026-01)
+abbrev pub tells : ℕ → Bool
+tells form = eqb form 2
+
+-- a length, unless its child is the last
+abbrev pub unlessLast : Forest → List ℕ → List ℕ
+unlessLast leaf bytes = []
+unlessLast (more t f) bytes = bytes
+
 -- preorder: number 0 is a split, its children behind it; number k is a tile, followed by its k modes
 unfoldable mutual
-  pub layout : Tree → List ℕ
-  layout (split f) = bytesOf 0 ++ layouts f
-  layout (tile us) = bytesOf (length us) ++ modesBytes us
+  pub layout : Bool → Tree → List ℕ
+  layout told (split f) = bytesOf 0 ++ (cond told (lengthsOf told f) [] ++ layouts told f)
+  layout told (tile us) = bytesOf (length us) ++ modesBytes us
 
-  pub layouts : Forest → List ℕ
-  layouts leaf = []
-  layouts (more t f) = layout t ++ layouts f
+  pub layouts : Bool → Forest → List ℕ
+  layouts told leaf = []
+  layouts told (more t f) = layout told t ++ layouts told f
+
+  -- the byte length of each child but the last, its own lengths counted
+  pub lengthsOf : Bool → Forest → List ℕ
+  lengthsOf told leaf = []
+  lengthsOf told (more t f) = unlessLast f (bytesOf (length (layout told t))) ++ lengthsOf told f
 
 -- the table's longest pattern
 unfoldable mutual
@@ -55,7 +70,7 @@ module _ (r : Rules) where
 
   -- form, n, then the tree
   abbrev pub tableOf : Tree → List ℕ
-  tableOf t = bytesOf form ++ (bytesOf n ++ layout t)
+  tableOf t = bytesOf form ++ (bytesOf n ++ layout (tells form) t)
 
   -- A tree over a box with that much depth left, whose splits are possible and not too deep and whose tiles are all as P says.
   module _ (P : Box → List ℕ → Type 0) where
@@ -81,12 +96,12 @@ module _ (r : Rules) where
   unfoldable mutual
     pub tilesOf : Tree → Box → ℕ → List Tile
     tilesOf (tile us) b at = record { box = b; modes = us; place = at } ∷ []
-    tilesOf (split f) b at = tilesIn f (children b) (at + length (bytesOf 0))
+    tilesOf (split f) b at = tilesIn f (children b) (at + length (bytesOf 0) + length (cond (tells form) (lengthsOf (tells form) f) []))
 
     pub tilesIn : Forest → List Box → ℕ → List Tile
     tilesIn leaf bs at = []
     tilesIn (more t f) [] at = []
-    tilesIn (more t f) (b ∷ bs) at = tilesOf t b at ++ tilesIn f bs (at + length (layout t))
+    tilesIn (more t f) (b ∷ bs) at = tilesOf t b at ++ tilesIn f bs (at + length (layout (tells form) t))
 
   -- those of them whose box holds a reading
   unfoldable pub having : Reading → List Tile → List Tile

@@ -1,7 +1,8 @@
 -- The checker's verdict on a table (document 01, "Table file", rows 1, 2, 6, 7, 8 and the order of judgement): the header, then the tree in
 -- file order; a tile's modes are all read before its images; leftover bytes last. One walk serves the checker, whose judge of a tile is
 -- the tile rule, and the passing of a subtree, whose judge lets every tile be.
-use Prim.Native.Nat.{ℕ, zero, suc}
+use Prim.Native.Nat.{ℕ, zero, suc, _+_, _-_}
+use mathlib.Core.Bool.{Bool, true, false}
 use mathlib.Core.List.{List, [], _∷_}
 use lib.ListN.{length}
 use lib.Dec.{ltb, leb, eqb}
@@ -16,6 +17,7 @@ use Rattle.meaning.specs.Refusals.{broken, wrongForm, badTable, leaves, 
 use Rattle.meaning.specs.Numbers.{numberAt}
 use Rattle.meaning.specs.Files.{Read, read, refused, before}
 use Rattle.meaning.specs.Rules.{Rules, rule}
+use Rattle.meaning.specs.Trees.{tells}
 
 abbrev pub onNumber {ℓ} : {A : Type ℓ} → Number → A → (ℕ → ℕ → A) → A
 onNumber Number.Broken otherwise rest = otherwise
@@ -36,10 +38,36 @@ abbrev pub onModes : Read (List ℕ) → ℕ → (List ℕ → Tried) → Walk
 onModes (refused e) at judge = Walk.Refused e
 onModes (read us next) at judge = onTried (judge us) at next
 
--- children one after another
-unfoldable pub each : {B : Type 0} → (ℕ → B → Walk) → List B → ℕ → Walk
-each one [] at = Walk.Next at
-each one (b ∷ bs) at = onWalk (one at b) Walk.Refused λ next. each one bs next
+-- a length that a split tells of a child, and where it stands (request 2026-01)
+pub record Length : Type 0 where
+  pub place : ℕ
+  pub size : ℕ
+
+abbrev pub lengthAt : ℕ → ℕ → Length
+lengthAt place size = record { place = place; size = size }
+
+abbrev pub onRead {ℓ} : {A : Type 0} {B : Type ℓ} → Read A → (Refusal → B) → (A → ℕ → B) → B
+onRead (refused e) refuse rest = refuse e
+onRead (read a next) refuse rest = rest a next
+
+-- k lengths
+unfoldable pub lengthsAt : ℕ → List ℕ → ℕ → Read (List Length)
+lengthsAt zero s at = read [] at
+lengthsAt (suc k) s at = onNumber (numberAt s at) (refused (broken at)) λ size next. before (lengthAt at size) (lengthsAt k s next)
+
+-- those of a split's children, of all but the last; none where they are not told
+abbrev pub lengthsBy : {B : Type 0} → Bool → List B → List ℕ → ℕ → Read (List Length)
+lengthsBy false bs s at = read [] at
+lengthsBy true bs s at = lengthsAt (length bs - 1) s at
+
+-- children one after another, each held to the length that is told of it as soon as it is read
+unfoldable pub each : {B : Type 0} → (ℕ → B → Walk) → List B → List Length → ℕ → Walk
+each one [] ls at = Walk.Next at
+each one (b ∷ bs) [] at = onWalk (one at b) Walk.Refused λ next. each one bs [] next
+each one (b ∷ bs) (l ∷ ls) at =
+    onWalk (one at b) Walk.Refused λ next.
+    guard (eqb next (at + l .size)) (Walk.Refused (badTable (l .place))) λ _.
+    each one bs ls next
 
 -- a split's children; where there are none it is not possible
 abbrev pub splitAt : {A B : Type 0} → List B → A → (List B → A) → A
@@ -83,7 +111,8 @@ module _ (r : Rules) where
       (λ next. Walk.Refused (badTable at))
       (λ k next. onModes (modesAt N k s next) at (judge b))
   walk judge (suc d) s at b = nodeAt K s at Walk.Refused
-      (λ next. splitAt (children b) (Walk.Refused (badTable at)) λ cs. each (λ p c. walk judge d s p c) cs next)
+      (λ next. splitAt (children b) (Walk.Refused (badTable at)) λ cs.
+      onRead (lengthsBy (tells form) cs s next) Walk.Refused λ ls first. each (λ p c. walk judge d s p c) cs ls first)
       (λ k next. onModes (modesAt N k s next) at (judge b))
 
   -- the place behind a table: the header and the tree

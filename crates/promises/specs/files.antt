@@ -17,6 +17,7 @@ pub mod PlantLengths
 pub mod PlantShapes
 pub mod Plants
 pub mod Related
+pub mod SameBytes
 pub mod Sound
 pub mod Taken
 pub mod Telling

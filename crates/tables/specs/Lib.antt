@@ -11,6 +11,9 @@ pub mod Search
 pub mod Drafts
 pub mod Makes
 pub mod Walks
+pub mod Lengths
+pub mod Turns
+pub mod Finds
 pub mod Chains
 pub mod Parts
 pub mod StartChecks

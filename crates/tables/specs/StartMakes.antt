@@ -9,17 +9,17 @@ use Rattle.laws.specs.Writing.{Put}
 use Rattle.meaning.specs.declared.Walk.{Walk}
 use Rattle.laws.specs.Guards.{guard}
 use Rattle.meaning.specs.Buffers.{Left, left}
-use Rattle.meaning.specs.Defined.{mapSome}
+use Rattle.meaning.specs.Defined.{mapSome, definedTree}
 use Rattle.meaning.specs.Files.{Judged, good, bad, valuesOf}
 use Rattle.meaning.specs.Numbers.{bytesOf}
 use Rattle.meaning.specs.Refusals.{wrongForm}
 use Rattle.meaning.specs.Rules.{Rules}
 use Rattle.meaning.specs.Starts.{chainForm, above, boxAt, boxBelow, onChain, partsOf, tablesFrom, startBytes}
 use Rattle.meaning.specs.Tables.{knownForm, rulesFrom}
+use Rattle.meaning.specs.Trees.{tableOf}
 use Rattle.tables.specs.declared.frames.Frame.{Frame}
 use Rattle.tables.specs.Boxes.{boxOf}
 use Rattle.tables.specs.Chains.{frameAt}
-use Rattle.tables.specs.Drafts.{definedBytes}
 use Rattle.tables.specs.Frames.{formed, stepIn, rulesIn, PlantSound}
 
 -- a table behind its length
@@ -28,7 +28,7 @@ withLength t = bytesOf (length t) ++ t
 
 -- the defined table of some rules so, where there is one
 abbrev pub partBytes : Rules → Option (List ℕ)
-partBytes r = mapSome withLength (definedBytes r)
+partBytes r = mapSome (λ t. withLength (tableOf r t)) (definedTree r)
 
 -- The tables that are asked for, or 9: what was answered, and the buffer as it is left. At 9 the bytes in it are left open, for the maker zeros them.
 abbrev pub WroteParts : Judged (List (List ℕ)) → List ℕ → ℕ → Walk → List ℕ → Type 0

@@ -1,18 +1,19 @@
-// Boxes (document 01, "Split"; request 2026-06): the split of a side, the children of a box by a table's form, a reading in a box, a box in a box.
+// Boxes (document 01, "Split"; request 2026-06): the split of a side, the children of a box by a table's form, a reading in a box and in a child of it, a box in a box.
 // Relies on crates/meaning for what they are. Leaves out who splits which box, and to what depth.
 // Each loop goes through the first n sides; what an array holds behind them is never read.
 ghost use mathlib.Core.Path.{_≡_};
-ghost use mathlib.Core.Bool.{_&&_};
+ghost use mathlib.Core.Bool.{true, _&&_};
 ghost use mathlib.Core.List.{[]};
-ghost use Prim.Native.Nat.{_≤_, _<_};
+ghost use Prim.Native.Nat.{_≤_, _<_, _*_};
 ghost use lib.ListN.{length, getD};
 ghost use lib.IntN.{natAbs};
 ghost use lib.Signed.{leZ};
 ghost use Rattle.laws.specs.Lists.{firstFalse};
-ghost use Rattle.meaning.specs.Boxes.{side, middle, fits, within, children, longestHalved};
+ghost use Rattle.meaning.specs.Boxes.{side, middle, halves, fits, within, children, longestHalved};
 ghost use Rattle.meaning.specs.Plants.{edgeLimit};
 ghost use Rattle.meaning.specs.Tables.{readingOf, childrenBy};
-ghost use Rattle.tables.specs.Boxes.{boxOf, Small, pieceOf, restOf, longestAt};
+ghost use Rattle.tables.specs.Boxes.{boxOf, Small, pieceOf, restOf, partOf, bitOf, longestAt};
+ghost use Rattle.tables.specs.Finds.{holdsIn, HalfOf};
 
 pub struct Bx {
     pub lo: [i64; 4],
@@ -24,6 +25,22 @@ struct Piece {
     lo: i64,
     hi: i64,
     bits: usize,
+}
+
+// One side of the child that holds a reading, what it adds to the child's number, and how many children the sides up to it make.
+struct Part {
+    lo: i64,
+    hi: i64,
+    add: usize,
+    count: usize,
+}
+
+// The child that holds a reading, of a box that holds it, where all long sides are halved at once: its box, its number, and how many children there are; 1 where no
+// side is long, and there are none.
+pub struct Holder {
+    pub kid: Bx,
+    pub number: usize,
+    pub count: usize,
 }
 
 // The floor of (l + h) / 2: a shift copies the sign and so rounds down, below zero too.
@@ -82,6 +99,65 @@ fn all_halved(n: usize, b: Bx, x: usize) -> Bx
         due -= 1;
     }
     kid
+}
+
+// The half of the side l..h that holds v, where the sides before it make so many children: the upper half's children are numbered behind those of the lower.
+fn part_of(l: i64, h: i64, v: i64, count: usize) -> Part
+    requires { ⌜ (natAbs l ≤ edgeLimit) × (natAbs h ≤ edgeLimit) × (count ≤ 8) ⌝ }
+    ensures { λ r. ⌜ (side (r .lo) (r .hi) ≡ partOf (side l h) v) × (r .add ≡ count * bitOf (side l h) v) × (r .count ≡ count * length (halves (side l h))) ⌝ }
+{
+    if l < h {
+        let m = middle(l, h);
+        let twice = count * 2;
+        if v <= m {
+            Part {
+                lo: l,
+                hi: m,
+                add: 0,
+                count: twice,
+            }
+        } else {
+            let next = m + 1;
+            Part {
+                lo: next,
+                hi: h,
+                add: count,
+                count: twice,
+            }
+        }
+    } else {
+        Part {
+            lo: l,
+            hi: h,
+            add: 0,
+            count,
+        }
+    }
+}
+
+// The child of a box that holds a reading that the box holds, with no child tried: each side says by itself which of its halves it is.
+pub fn half_of(n: usize, b: Bx, x: [i64; 4]) -> Holder
+    requires { ⌜ (n ≤ 4) × Small edgeLimit (boxOf n b) × (holdsIn n x (boxOf n b) ≡ true) ⌝ }
+    ensures { λ r. ⌜ HalfOf n (boxOf n b) x r ⌝ }
+{
+    let mut kid = b;
+    let mut number: usize = 0;
+    let mut count: usize = 1;
+    let mut j: usize = 0;
+    while j < n {
+        let l = b.lo[j];
+        let h = b.hi[j];
+        let v = x[j];
+        let e = part_of(l, h, v, count);
+        let el = e.lo;
+        let eh = e.hi;
+        kid.lo[j] = el;
+        kid.hi[j] = eh;
+        number += e.add;
+        count = e.count;
+        j += 1;
+    }
+    Holder { kid, number, count }
 }
 
 // The dimension, from 0, of the longest side, the lowest where several are equal. No side is empty: the first leads until another reaches further.

@@ -31,17 +31,13 @@ fn end_by(f: Frame, bands: &[i64], coef: &[i64], table: &[u8]) -> Walk
             let root = f.root;
             let depth = frames::depth(f.form, f.n, f.d);
             let edges = frames::edges_of(f);
-            walks::walk(
-                frames::counts_of(f),
-                &edges,
-                bands,
-                coef,
-                true,
-                table,
-                depth,
-                at,
-                root,
-            )
+            let counts = frames::counts_of(f);
+            // A form that tells lengths and those that tell none have a walk each.
+            if f.form == 2 {
+                walks::walk_told(counts, &edges, bands, coef, true, table, depth, at, root)
+            } else {
+                walks::walk(counts, &edges, bands, coef, true, table, depth, at, root)
+            }
         }
     }
 }

@@ -1,4 +1,5 @@
-// The defined table of a frame (document 01, "The defined table"), drafted in an array: what the maker and the maker of start files write.
+// The defined table of a frame (document 01, "The defined table"), drafted in an array: what the maker and the maker of start files write. Its splits tell no
+// lengths, whatever the form: module turns writes them from the draft.
 // Relies on crate files for numbers, on search for a box's first pattern, on boxes for a split's children, on limits. Leaves out what is answered where
 // there is no table, and whether the table works: that is proved of the definition.
 use crate::boxes;
@@ -16,6 +17,7 @@ use crate::limits::MOST_MARKS;
 use crate::search;
 use files::numbers;
 ghost use Prim.Native.Nat.{_*_, _≤_};
+ghost use mathlib.Core.Bool.{false};
 ghost use lib.ListN.{length};
 ghost use Rattle.laws.specs.Writing.{Put};
 ghost use Rattle.meaning.specs.Plants.{edgeLimit};
@@ -24,7 +26,7 @@ ghost use Rattle.tables.specs.Boxes.{boxOf, Small};
 ghost use Rattle.tables.specs.Frames.{frameFrom, rulesIn, PlantSound};
 ghost use Rattle.tables.specs.Limits.{limitsSize, marksSize, LimitsLaid};
 ghost use Rattle.tables.specs.Tiles.{longestPattern, patternOf};
-ghost use Rattle.tables.specs.Drafts.{Wrote, treeBytes, definedBytes};
+ghost use Rattle.tables.specs.Drafts.{Wrote, treeBytes, draftBytes};
 
 // No table has more bytes than MOST; none of at most BRIEF modes, which take a byte each, more than LONG; and none of such and at most sixteen tiles more than
 // FEW. The zeros of a long draft are a good part of what a small house's table takes (docs/DECISIONS.md, "The maker drafts").
@@ -45,7 +47,7 @@ pub enum Grown {
 // A tile of k modes: its number, then its modes, the first k of us.
 fn put_tile(buf: &mut [u8], at: usize, k: usize, us: &[usize; LONGEST]) -> usize
     requires { ⌜ k ≤ longestPattern ⌝ }
-    ensures { λ r. ⌜ Put (now (buf .entry)) at (layout (tile (patternOf k (now (us .entry))))) r (now (buf .exit)) ⌝ }
+    ensures { λ r. ⌜ Put (now (buf .entry)) at (layout false (tile (patternOf k (now (us .entry))))) r (now (buf .exit)) ⌝ }
 {
     let mut place = numbers::put_number(buf, at, k);
     let mut j: usize = 0;
@@ -123,7 +125,7 @@ fn table_with(
 ) -> Grown
     requires plant { ⌜ PlantSound f (now bands) (now coef) ⌝ }
     requires room { ⌜ (limitsSize * f .modes ≤ length (now limits)) × (marksSize * f .modes ≤ length (now marks)) ⌝ }
-    ensures { λ r. ⌜ Wrote (definedBytes (rulesIn f (now (bands .entry)) (now (coef .entry)))) (now (buf .entry)) 0 r (now (buf .exit)) ⌝ }
+    ensures { λ r. ⌜ Wrote (draftBytes (rulesIn f (now (bands .entry)) (now (coef .entry)))) (now (buf .entry)) 0 r (now (buf .exit)) ⌝ }
 {
     let depth = frames::depth(f.form, f.n, f.d);
     limits::lay(f, bands, coef, limits, marks);
@@ -148,7 +150,7 @@ fn table_with(
 // In limits for any plant. A function of its own, so that makers for few modes have no room for many on their stack.
 fn table_many(f: Frame, bands: &[i64], coef: &[i64], buf: &mut [u8]) -> Grown
     requires { ⌜ PlantSound f (now bands) (now coef) ⌝ }
-    ensures { λ r. ⌜ Wrote (definedBytes (rulesIn f (now (bands .entry)) (now (coef .entry)))) (now (buf .entry)) 0 r (now (buf .exit)) ⌝ }
+    ensures { λ r. ⌜ Wrote (draftBytes (rulesIn f (now (bands .entry)) (now (coef .entry)))) (now (buf .entry)) 0 r (now (buf .exit)) ⌝ }
 {
     let mut limits = [0i64; MOST_LIMITS];
     let mut marks = [0i64; MOST_MARKS];
@@ -158,7 +160,7 @@ fn table_many(f: Frame, bands: &[i64], coef: &[i64], buf: &mut [u8]) -> Grown
 // The table of a frame.
 pub fn table(f: Frame, bands: &[i64], coef: &[i64], buf: &mut [u8]) -> Grown
     requires { ⌜ PlantSound f (now bands) (now coef) ⌝ }
-    ensures { λ r. ⌜ Wrote (definedBytes (rulesIn f (now (bands .entry)) (now (coef .entry)))) (now (buf .entry)) 0 r (now (buf .exit)) ⌝ }
+    ensures { λ r. ⌜ Wrote (draftBytes (rulesIn f (now (bands .entry)) (now (coef .entry)))) (now (buf .entry)) 0 r (now (buf .exit)) ⌝ }
 {
     if FEW_MODES < f.modes {
         return table_many(f, bands, coef, buf);

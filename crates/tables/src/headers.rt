@@ -1,4 +1,4 @@
-// The header of a table's file (document 01, "Table file"): form, then n; and the forms that are known (document 02, request 2026-06).
+// The header of a table's file (document 01, "Table file"): form, then n; and the forms that are known (document 02, requests 2026-01 and 2026-06).
 // Relies on crate files for numbers. Leaves out the tree behind it. Private to the crate: checker and controller read it.
 use crate::refusals;
 use files::numbers;
@@ -8,11 +8,17 @@ ghost use mathlib.Core.Path.{_≡_};
 ghost use Rattle.meaning.specs.Tables.{knownForm, formOf};
 ghost use Rattle.meaning.specs.Verdicts.{header};
 
-// 1 halves all long sides at once, 3 the longest alone.
+// 1 halves all long sides at once, 2 too and tells lengths, 3 the longest alone.
 pub fn known(form: usize) -> bool
     ensures { λ r. ⌜ r ≡ knownForm form ⌝ }
 {
-    if form == 1 { true } else { form == 3 }
+    if form == 1 {
+        return true;
+    }
+    if form == 2 {
+        return true;
+    }
+    form == 3
 }
 
 // The form that a table says, by which it is judged and run; 1 where it says none that is known, which its header then refuses.

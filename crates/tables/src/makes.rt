@@ -1,7 +1,7 @@
 // The maker (document 01, "The defined table"): the table that is defined for a plant, of the form that it is told. It is drafted in an array of its own,
 // and the lent buffer is touched once: plant, 2, 9, 10.
-// Relies on crate files for the plant and for what a write leaves, on drafts for the table. Leaves out whether the table works: that is proved of the
-// definition.
+// Relies on crate files for the plant and for what a write leaves, on drafts for the table, on turns for the lengths that it tells. Leaves out whether the
+// table works: that is proved of the definition.
 use crate::arrays::FEW_BANDS;
 use crate::arrays::FEW_COEFFICIENTS;
 use crate::arrays::FEW_MODES;
@@ -15,6 +15,7 @@ use crate::frames;
 use crate::frames::Frame;
 use crate::headers;
 use crate::refusals;
+use crate::turns;
 use files::buffers;
 use files::plants;
 use meaning::BANDS;
@@ -30,7 +31,8 @@ ghost use Rattle.tables.specs.Drafts.{bytesMost};
 ghost use Rattle.tables.specs.Frames.{rulesIn, PlantSound};
 ghost use Rattle.tables.specs.Makes.{definedLeft};
 
-// The table of a frame, drafted where there is room for it, and written: 9, 10. Finished, only the table's bytes are changed; refused, the buffer is all zeros.
+// The table of a frame, drafted where there is room for it, and written, with the lengths that form 2 tells: 9, 10. Finished, only the table's bytes are
+// changed; refused, the buffer is all zeros.
 fn write_table<'a>(
     f: Frame,
     bands: &'a [i64],
@@ -46,6 +48,9 @@ fn write_table<'a>(
     let Grown::Next(length) = drafts::table(f, bands, coef, draft) else {
         return buffers::refuse(refusals::no_table(0), buf);
     };
+    if f.form == 2 {
+        return turns::leave(f, false, f.form, &draft[..length], buf);
+    }
     buffers::leave(Verdict::Accepted, &draft[..length], buf)
 }
 

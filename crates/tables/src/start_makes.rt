@@ -1,8 +1,8 @@
 // The start file's maker (document 02, request 2026-03): a chain of boxes with the table that is defined for each behind its length. It is written straight
 // into the lent buffer, for 9 comes before 10: plant, chain, 15, 2 where the form that it is told for all is not known, 9 with the first index that has no
 // table, 10.
-// Relies on crate files for the plant, for numbers and for what a write leaves, on chains for the chain and each box's frame, on drafts for a table. Leaves
-// out whether the tables work: that is proved of the definition.
+// Relies on crate files for the plant, for numbers and for what a write leaves, on chains for the chain and each box's frame, on drafts for a table, on
+// turns for the lengths that it tells. Leaves out whether the tables work: that is proved of the definition.
 use crate::arrays::FEW_BANDS;
 use crate::arrays::FEW_COEFFICIENTS;
 use crate::arrays::FEW_MODES;
@@ -18,6 +18,7 @@ use crate::frames;
 use crate::frames::Frame;
 use crate::headers;
 use crate::refusals;
+use crate::turns;
 use files::buffers;
 use files::numbers;
 use files::plants;
@@ -40,7 +41,7 @@ ghost use Rattle.tables.specs.Drafts.{Wrote, bytesMost};
 ghost use Rattle.tables.specs.Frames.{rulesIn, PlantSound};
 ghost use Rattle.tables.specs.StartMakes.{partBytes, WroteParts, framesTables, FramesSound, behindChain, chainLeft};
 
-// A frame's table behind its length: drafted where there is room for it, then copied.
+// A frame's table behind its length: drafted where there is room for it, then copied, with the lengths that form 2 tells.
 fn put_part(
     f: Frame,
     bands: &[i64],
@@ -56,6 +57,12 @@ fn put_part(
     let Grown::Next(size) = drafts::table(f, bands, coef, draft) else {
         return Grown::Nothing;
     };
+    if f.form == 2 {
+        let long = turns::table_size(f, &draft[..size]);
+        let behind = numbers::put_number(buf, at, long);
+        let next = turns::put_table(f, false, f.form, &draft[..size], buf, behind);
+        return Grown::Next(next);
+    }
     let past_length = numbers::put_number(buf, at, size);
     Grown::Next(buffers::put_bytes(buf, past_length, &draft[..size]))
 }

@@ -37,6 +37,11 @@ impl<'a> Reader<'a> {
         self.bytes.len() - self.at
     }
 
+    /// A reader of what is still to come, asked for nothing.
+    pub fn ahead(&self) -> Reader<'a> {
+        Reader { bytes: self.bytes, at: self.at, asked: None, noted: None }
+    }
+
     /// What was noted at the asked place.
     pub fn noted(self) -> Option<String> {
         self.noted

@@ -62,11 +62,57 @@ impl Table {
             |node| node_cause(node, plant, self.form, sides, depth),
         )?;
         if node == 0 {
+            let split = Split { form: self.form, plant, children: &children, depth };
+            split.lengths(file)?;
             return children.iter().try_for_each(|child| self.node(file, plant, child, depth + 1));
         }
         let modes = (0..node).map(|_| mode(file, plant, sides)).collect::<Option<_>>()?;
         self.tiles.push(Tile { place, sides: sides.to_vec(), depth, modes });
         Some(())
+    }
+}
+
+/// A split of a box at some depth.
+struct Split<'a> {
+    form: Form,
+    plant: &'a Plant,
+    children: &'a [Sides],
+    depth: u64,
+}
+
+impl Split<'_> {
+    /// The children whose lengths are told.
+    fn told(&self) -> &[Sides] {
+        let told = if self.form.tells_lengths() { self.children.len().saturating_sub(1) } else { 0 };
+        &self.children[..told]
+    }
+
+    /// The lengths behind the 0. What a child has is counted only where its length is at fault.
+    fn lengths(&self, file: &mut Reader) -> Option<()> {
+        for (index, child) in self.told().iter().enumerate() {
+            let ahead = file.ahead();
+            file.number(
+                || format!("the length of box {}", boxes::words(child)),
+                |length| {
+                    let has = self.bytes_of(ahead, index).expect("a child is read before its length is found wrong");
+                    format!("box {} is to have {} and has {has}", boxes::words(child), counted(length, "byte"))
+                },
+            )?;
+        }
+        Some(())
+    }
+
+    /// How many bytes a child has, by a reader that stands at its length.
+    fn bytes_of(&self, mut ahead: Reader, index: usize) -> Option<usize> {
+        for _ in index..self.told().len() {
+            ahead.number(String::new, |_| String::new())?;
+        }
+        let (mut table, mut first) = (Table { form: self.form, tiles: Vec::new() }, 0);
+        for child in &self.children[..=index] {
+            first = ahead.place();
+            table.node(&mut ahead, self.plant, child, self.depth + 1)?;
+        }
+        Some(ahead.place() - first)
     }
 }
 

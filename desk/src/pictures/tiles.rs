@@ -249,11 +249,11 @@ impl Drawing<'_> {
     }
 }
 
-/// The rooms by their numbers in form 1, which cuts them all alike, and where one map shows all. Else those that are cut most first, so that few panels are
-/// left: of four rooms one alone may be cut a thousand times.
+/// The rooms by their numbers in forms 1 and 2, which cut them all alike, and where one map shows all. Else those that are cut most first, so that few
+/// panels are left: of four rooms one alone may be cut a thousand times.
 fn order(table: &Table, rooms: usize) -> Vec<usize> {
     let mut order: Vec<usize> = (0..rooms).collect();
-    if table.form != Form::One && rooms > 2 {
+    if !table.form.splits_as(Form::One) && rooms > 2 {
         order.sort_by_key(|&room| Reverse(beginnings(table, room).len()));
     }
     order

@@ -1,4 +1,4 @@
-//! Plants for which every table is right, and seeded tables for them: tables of either form and of every shape and size, which no maker would make.
+//! Plants for which every table is right, and seeded tables for them: tables of all forms and of every shape and size, which no maker would make.
 
 use hoachulim::files::numbers::Writer;
 use hoachulim::files::plants::{Bounds, Row};
@@ -36,30 +36,32 @@ pub fn lengthening(rooms: u32, narrower: u32) -> Vec<Bounds> {
 
 /// A table for such a plant: a box with depth left is split in `split` of four cases, and patterns are drawn.
 pub fn table(random: &mut Random, house: &House, form: Form, split: u64) -> Vec<u8> {
-    let mut bytes = vec![form.number() as u8, house.plant.rooms.len() as u8];
-    node(random, house, form, &house.plant.r(), split, 0, &mut bytes);
-    bytes
+    let head = [form.number() as u8, house.plant.rooms.len() as u8];
+    [&head[..], &node(random, house, form, &house.plant.r(), split, 0)].concat()
 }
 
-fn node(random: &mut Random, house: &House, form: Form, sides: &[Side], split: u64, depth: u64, bytes: &mut Vec<u8>) {
+fn node(random: &mut Random, house: &House, form: Form, sides: &[Side], split: u64, depth: u64) -> Vec<u8> {
     let children = form.split(sides);
+    let mut bytes = Writer(Vec::new());
     if depth < form.depth(&house.plant) && !children.is_empty() && random.below(4) < split {
-        bytes.push(0);
-        return children.iter().for_each(|child| node(random, house, form, child, split, depth + 1, bytes));
+        let trees: Vec<_> = children.iter().map(|child| node(random, house, form, child, split, depth + 1)).collect();
+        let told = if form.tells_lengths() { trees.len() - 1 } else { 0 };
+        bytes.number(0);
+        trees[..told].iter().for_each(|tree| bytes.number(tree.len() as u64));
+        return [bytes.0, trees.concat()].concat();
     }
     let length = 1 + random.below(house.plant.longest);
-    bytes.push(length as u8);
-    let mut modes = Writer(Vec::new());
-    (0..length).for_each(|_| modes.number(random.below(house.plant.modes.len() as u64)));
-    bytes.extend(modes.0);
+    bytes.number(length);
+    (0..length).for_each(|_| bytes.number(random.below(house.plant.modes.len() as u64)));
+    bytes.0
 }
 
-/// Plants of one to four rooms with tables of either form and every depth.
+/// Plants of one to four rooms with tables of all forms and every depth.
 pub fn many() -> Vec<(House, Vec<u8>)> {
     [split_at_once(), halved()].concat()
 }
 
-/// Of form 1: narrow and wide R, S far and near.
+/// Of form 1 and of form 2 by turns: narrow and wide R, S far and near.
 fn split_at_once() -> Vec<(House, Vec<u8>)> {
     let mut random = Random(20_261_116);
     let boxes = [((2_000, 2_200), (1_900, 2_300)), ((-7, 8), (-7, 8)), ((0, 3), (-1_000_000, 1_000_000)), ((-1_000_000, 1_000_000), (-1_000_000, 1_000_000)), ((5, 5), (5, 6))];
@@ -67,9 +69,9 @@ fn split_at_once() -> Vec<(House, Vec<u8>)> {
     for (r, s) in boxes.map(|(r, s)| (Side { lo: r.0, hi: r.1 }, Side { lo: s.0, hi: s.1 })) {
         for rooms in 1..=4 {
             for depth in 0..=(12 / rooms as u64).min(if rooms == 1 { 6 } else { 3 }) {
-                for modes in [16, 256] {
+                for (modes, form) in [(16, Form::One), (256, Form::Two), (256, Form::One)] {
                     let house = steady(rooms, 1 + random.below(modes) as usize, 1 + random.below(6), depth, r, s);
-                    let bytes = table(&mut random, &house, Form::One, 3);
+                    let bytes = table(&mut random, &house, form, 3);
                     many.push((house, bytes));
                 }
             }
@@ -96,12 +98,12 @@ fn halved() -> Vec<(House, Vec<u8>)> {
     many
 }
 
-/// The largest tables there are: 4,096 tiles of six modes, in two, three and four rooms, of sixteen modes and of 256; of form 1, and of form 3 with rooms as
-/// long as each other, longer ones, and one that alone is cut.
+/// The largest tables there are: 4,096 tiles of six modes, in two, three and four rooms, of sixteen modes and of 256; of forms 1 and 2, and of form 3 with
+/// rooms as long as each other, longer ones, and one that alone is cut.
 pub fn largest() -> Vec<(House, Vec<u8>)> {
     let mut random = Random(4_096);
     let mut largest = Vec::new();
-    for (form, narrower) in [(Form::One, 0), (Form::Three, 0), (Form::Three, 4), (Form::Three, 20)] {
+    for (form, narrower) in [(Form::One, 0), (Form::Two, 0), (Form::Three, 0), (Form::Three, 4), (Form::Three, 20)] {
         for (rooms, modes) in [(2, 16), (3, 16), (4, 16), (2, 256), (3, 256), (4, 256)] {
             let house = steady_in(lengthening(rooms, narrower), modes, 6, 12 / u64::from(rooms));
             let bytes = table(&mut random, &house, form, 4);

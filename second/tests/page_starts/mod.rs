@@ -2,7 +2,7 @@
 //! it; then these files are spoilt and buffers, states and readings drawn until each number has been told that can be.
 
 use super::{bytes, left, refused, verdict, wholes, Page, FORM};
-use crate::common::{chain_fields, file, marked, Field, Random, S, U};
+use crate::common::{chain_fields, file, marked, start_fields, Field, Random, P, S, U};
 use second::refusal::Refusal;
 use second::start::{start_check, start_control, start_make, start_make_into, StartState};
 use std::collections::HashSet;
@@ -187,4 +187,18 @@ pub fn starts(page: &mut Page, seed: u64, n: usize, m: usize) {
         reading[..cold.n].fill_with(|| random.within(-45, 45));
         call(&plant, &start, cold.state(random), reading)
     });
+}
+
+/// P and R1 190..230 with inner tables of form 2: "past the file" is past the table's own length. 4 is no form.
+pub fn starts_by_lengths(page: &mut Page) {
+    page.section("form 2 in start files");
+    let chain = chain_fields(&[[(190, 230)]]);
+    let table = |length: u8| [2, 1, 0, length, 1, 1, 1, 0];
+    let start = |first: &[u8]| file(&start_fields(&chain, &[first, &[1, 1, 0, 1, 1, 1, 0]]));
+    check(&P, &start(&table(2))).put(page);
+    check(&P, &start(&table(3))).put(page);
+    check(&P, &start(&[4, 1, 0, 2, 1, 1, 1, 0])).put(page);
+    for (length, x) in [(2, 225), (5, 225), (5, 190)] {
+        call(&P, &start(&table(length)), StartState::IDLE, [x, 0, 0, 0]).put(page);
+    }
 }

@@ -3,7 +3,10 @@
 //! come; and the plants that the tests behind them draw.
 #![allow(dead_code)]
 
+pub mod calls;
 pub mod plants;
+
+pub use calls::*;
 
 use crate::common::{chain_fields, file, groups, Random};
 use second::band::Band;
@@ -156,11 +159,18 @@ pub fn slow_tree(form: u64, plant: &Plant, goal: &Wide, of: &Wide, depth: u64) -
     if depth == 0 || children.len() == 1 {
         return None;
     }
-    let mut tree = vec![0];
+    let mut trees = vec![];
     for child in children {
-        tree.extend(slow_tree(form, plant, goal, &child, depth - 1)?);
+        trees.push(slow_tree(form, plant, goal, &child, depth - 1)?);
     }
-    Some(tree)
+    Some(slow_layout(form, &trees))
+}
+
+/// A split's bytes in a form, its children's given.
+pub fn slow_layout(form: u64, trees: &[Vec<u8>]) -> Vec<u8> {
+    let told = if form == 2 { &trees[..trees.len() - 1] } else { &[] };
+    let lengths = told.iter().flat_map(|tree| groups(tree.len() as u128));
+    [0].into_iter().chain(lengths).chain(trees.concat()).collect()
 }
 
 /// The defined table that covers `root` with patterns that end in `goal`.
@@ -349,12 +359,29 @@ pub fn slow_number_or_1(table: &[u8], place: usize) -> Result<(u64, usize), Told
 
 /// A tile of a table: its place, the place behind its first mode, its modes, its
 /// box and how many splits lie above it.
+#[derive(Clone, Debug, PartialEq)]
 pub struct SlowTile {
     pub place: usize,
     pub second: usize,
+    pub end: usize,
     pub pattern: Vec<u8>,
     pub of: Wide,
     pub depth: u64,
+}
+
+impl SlowTile {
+    /// What a call that finds it answers: mode, place and left.
+    pub fn answer(&self) -> (u8, u64, u64) {
+        let left = self.pattern.len() as u64 - 1;
+        (self.pattern[0], if left == 0 { 0 } else { self.second as u64 }, left)
+    }
+}
+
+/// What is still to come in a table: a box with its depth and, where one was told,
+/// its length with that number's place; or the end of one that began here.
+enum ToCome {
+    Box(Wide, u64, Option<(usize, u64)>),
+    End(usize, (usize, u64)),
 }
 
 /// Reads a table by the list of boxes still to come and hands each tile to `with`,
@@ -366,35 +393,50 @@ pub fn slow_walk(
     mut with: impl FnMut(SlowTile) -> Result<bool, Told>,
 ) -> Result<usize, Told> {
     let (form, mut at) = slow_header(plant, table)?;
-    let mut to_come = vec![(root.clone(), 0)];
-    while let Some((of, depth)) = to_come.pop() {
-        let place = at;
-        let node;
-        (node, at) = slow_number_or_1(table, place)?;
+    let mut to_come = vec![ToCome::Box(root.clone(), 0, None)];
+    while let Some(next) = to_come.pop() {
+        let (of, depth, length) = match next {
+            ToCome::Box(of, depth, length) => (of, depth, length),
+            ToCome::End(first, (_, length)) if (at - first) as u64 == length => continue,
+            ToCome::End(_, (place, _)) => return Err((6, place as u64, 0)),
+        };
+        to_come.extend(length.map(|length| ToCome::End(at, length)));
+        let (node, behind) = slow_number_or_1(table, at)?;
         if node == 0 {
             let children = slow_split(form, &of);
             if depth == slow_depth(form, plant) || children.len() == 1 {
-                return Err((6, place as u64, 0));
+                return Err((6, at as u64, 0));
             }
-            to_come.extend(children.into_iter().rev().map(|child| (child, depth + 1)));
+            let lengths;
+            (lengths, at) = slow_lengths(table, behind, if form == 2 { children.len() - 1 } else { 0 })?;
+            for (i, child) in children.into_iter().enumerate().rev() {
+                to_come.push(ToCome::Box(child, depth + 1, lengths.get(i).copied()));
+            }
             continue;
         }
-        if node > plant.k {
-            return Err((6, place as u64, 0));
-        }
-        let (pattern, ends) = slow_modes(plant, table, at, node)?;
-        at = ends[node as usize - 1];
-        if with(SlowTile { place, second: ends[0], pattern, of, depth })? {
+        let tile = slow_tile_at(plant, table, at, &of, depth)?;
+        at = tile.end;
+        if with(tile)? {
             break;
         }
     }
     Ok(at)
 }
 
+/// The tile that stands at a place.
+fn slow_tile_at(plant: &Plant, table: &[u8], place: usize, of: &Wide, depth: u64) -> Result<SlowTile, Told> {
+    let (node, behind) = slow_number_or_1(table, place)?;
+    if node > plant.k {
+        return Err((6, place as u64, 0));
+    }
+    let (pattern, ends) = slow_modes(plant, table, behind, node)?;
+    Ok(SlowTile { place, second: ends[0], end: ends[node as usize - 1], pattern, of: of.clone(), depth })
+}
+
 /// A table's form, and where its tree begins.
 fn slow_header(plant: &Plant, table: &[u8]) -> Result<(u64, usize), Told> {
     let (form, place) = slow_number_or_1(table, 0)?;
-    if ![1, 3].contains(&form) {
+    if ![1, 2, 3].contains(&form) {
         return Err((2, 0, 0));
     }
     let (n, tree) = slow_number_or_1(table, place)?;
@@ -425,18 +467,6 @@ pub fn slow_tiles(plant: &Plant, root: &Wide, table: &[u8]) -> Vec<SlowTile> {
     });
     assert_eq!(walked, Ok(table.len()));
     tiles
-}
-
-/// An idle call in R: mode, place and left, by the first tile that holds the reading.
-pub fn slow_idle(plant: &Plant, table: &[u8], reading: &[i64; 4]) -> Result<(u8, u64, u64), Told> {
-    let here = wide(reading, reading, plant.n as usize);
-    let mut answer = (0, 0, 0);
-    slow_walk(plant, &r_of(plant), table, |tile| {
-        let left = tile.pattern.len() as u64 - 1;
-        answer = (tile.pattern[0], if left == 0 { 0 } else { tile.second as u64 }, left);
-        Ok(inside(&here, &tile.of))
-    })?;
-    Ok(answer)
 }
 
 /// The checker's verdict: where the last tile ends, or the refusal.
@@ -522,12 +552,12 @@ pub fn made_starts(seed: u64, wanted: usize) -> Vec<Drawn> {
     drawn_starts(seed, wanted, |_, bytes, chain, _| start_make(bytes, &chain_bytes(chain), 1).ok())
 }
 
-/// Start files with for each box a table of one form or the other, as it is drawn.
+/// Start files with for each box a table of some form, as it is drawn.
 pub fn mixed_starts(seed: u64, wanted: usize) -> Vec<Drawn> {
     drawn_starts(seed, wanted, |plant, _, chain, random| {
-        let forms: Vec<u64> = (0..=chain.len()).map(|_| [1, 3][random.within(0, 1) as usize]).collect();
-        // With one form there is nothing mixed, and one room's trees are the same in both.
-        let mixed = plant.n > 1 && forms.contains(&1) && forms.contains(&3);
+        let forms: Vec<u64> = (0..=chain.len()).map(|_| random.within(1, 3) as u64).collect();
+        // With one form there is nothing mixed, and one room's trees are the same in all.
+        let mixed = plant.n > 1 && forms.iter().any(|form| *form != forms[0]);
         if mixed { slow_start(plant, chain, &forms).ok() } else { None }
     })
 }

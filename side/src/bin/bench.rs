@@ -3,9 +3,10 @@
 //! says that the proved library is the faster.
 
 use second::control::State;
+use second::plant::read_plant;
 use second::start::StartState;
 use side::starts::turning;
-use side::tables::made_table;
+use side::tables::{made_table, read_by_a_call};
 use side::{
     check, common, control, four_rooms, four_rooms_without_a_table, largest, largest_table_plant, make, plant, sheet, start_check, start_control,
     start_make,
@@ -127,6 +128,7 @@ fn main() {
     starts();
     either_form();
     many_modes();
+    by_lengths();
     longest_side_alone();
 }
 
@@ -146,6 +148,21 @@ fn the_sheet() {
             black_box(second::sheet::sheet_to_plant(black_box(house), black_box(&mut theirs))).unwrap();
         },
     );
+}
+
+/// Form 2 on the plant of the largest table: 4,096 tiles of one count, six splits each. An idle call on the last tile reads those six and the tile, and
+/// should take little more than the running call behind it.
+fn by_lengths() {
+    let bytes = largest_table_plant();
+    let table = made_table(&bytes, 2).unwrap();
+    assert_eq!(table.len(), 34_389);
+    compare_make("make, form 2, a table of 34,389 bytes", 2, &bytes, 2, table.len());
+    compare_check("check, form 2, that table", 20, &bytes, &table);
+    assert_eq!(control(&bytes, &table, 0, 0, LAST), (0, [0, 0, 0, 34_384, 5]));
+    compare_control("control, form 2, idle call on the last tile of that table", 2000, &bytes, &table, State::IDLE, LAST);
+    compare_control("control, form 2, running call, the next mode of its pattern", 2000, &bytes, &table, running(table.len()), LAST);
+    let read = read_by_a_call(&read_plant(&bytes).unwrap(), &table, &LAST).iter().map(|(from, to)| to - from).sum::<usize>();
+    println!("control, form 2: that idle call reads {read} of {} bytes, in form 1 all {USUAL_TABLE}", table.len());
 }
 
 /// Form 3 on the plant of the largest table: 4,096 tiles of one count, twelve halvings each.

@@ -18,7 +18,7 @@ use side::common::{file, marked, Field, Random};
 use side::inputs::{any_reading, any_state, damaged, other_forms, plant_fields, random, sheet_fields, spoiled};
 use side::seen::{each_came, Numbers};
 use side::starts::{any_chain, any_reading_about, any_standing, any_start, made_start, other_start, spoiled_chain, spoiled_lengths, turning, Start};
-use side::tables::{any_form, any_told_form, any_tree, in_no_form, in_other_form, made_table, other_table, FORMS, NO_FORMS};
+use side::tables::{any_form, any_told_form, any_tree, in_no_form, in_other_forms, made_table, other_table, wrong_lengths, FORMS, NO_FORMS};
 use side::{largest_table_plant, longest_table_plant, Standing};
 use std::fs::File;
 use std::io::{BufWriter, Write};
@@ -206,8 +206,14 @@ fn tables(random: &mut Random, cases: &mut Cases, bytes: &[u8]) {
         cases.make(&other, form, random.one(&[0, 3, 20, 200, second::LARGEST_TABLE]));
     }
     let all = [Some(any_tree(random, bytes[1])), made_table(bytes, form), other_table(random, &plant, form)];
+    // of the made one, which is accepted
+    let wrong = all[1].iter().flat_map(|table| wrong_lengths(&plant, &plant.r(), table)).collect();
+    for (other, _) in some(random, wrong, EACH / 2) {
+        cases.check(bytes, &other);
+        cases.control(bytes, &other, 0, 0, any_reading(random, &plant));
+    }
     for table in all.iter().flatten() {
-        let mut others = [vec![table.clone(); 4], vec![in_other_form(table); 2], some_damaged(random, table, EACH)].concat();
+        let mut others = [vec![table.clone(); 4], in_other_forms(table), some_damaged(random, table, EACH)].concat();
         others.extend(some(random, in_no_form(table), 2).into_iter().map(|(other, _)| other));
         for other in others {
             cases.check(bytes, &other);
@@ -246,7 +252,7 @@ fn starts(random: &mut Random, cases: &mut Cases, bytes: &[u8]) {
     }
 }
 
-/// The largest tables of modes of one byte and of two, in both forms, and eight large boxes, as far as a call reaches.
+/// The largest tables of modes of one byte and of two, in all forms, and eight large boxes, as far as a call reaches.
 fn largest(cases: &mut Cases) {
     for plant in [largest_table_plant(), longest_table_plant()] {
         for form in FORMS {

@@ -1,10 +1,11 @@
 //! The largest files that the exported functions can meet, for the figures of
 //! firmware/figures: written to the folder that is named.
 //!
-//! - `table`: the plant with the largest tables there are, of form 1 and, `table_halved`, of form 3;
+//! - `table`: the plant with the largest tables there are, of form 1 and, `table_lengths` and `table_halved`, of forms 2 and 3;
 //! - `plant`: the plant of the largest length and a table for it;
 //! - `sheet`: the largest sheet;
-//! - `start`: a plant, its chain of eight boxes, and the start files of them, with tables of form 1 and, `start_halved`, of form 3.
+//! - `start`: a plant, its chain of eight boxes, and the start files of them, with tables of form 1 and, `start_lengths` and
+//!   `start_halved`, of forms 2 and 3.
 
 use second::checker::check;
 use side::common::{file, Field, F, S, U};
@@ -34,7 +35,7 @@ fn main() -> std::io::Result<()> {
     };
     let plant = longest_table_plant();
     write("table.plant", &plant)?;
-    for (name, form) in [("table.table", 1), ("table_halved.table", 3)] {
+    for (name, form) in [("table.table", 1), ("table_lengths.table", 2), ("table_halved.table", 3)] {
         write(name, &made_table(&plant, form).expect("a table"))?;
     }
     let (plant, table) = (largest::plant(), largest::table());
@@ -43,7 +44,7 @@ fn main() -> std::io::Result<()> {
     write("plant.table", &table)?;
     write("sheet.sheet", &largest_sheet())?;
     let (plant, chain) = turning();
-    for (name, form) in [("start.start", 1), ("start_halved.start", 3)] {
+    for (name, form) in [("start.start", 1), ("start_lengths.start", 2), ("start_halved.start", 3)] {
         write(name, &second::start::start_make(&plant, &chain, form).expect("a start file"))?;
     }
     write("start.plant", &plant)?;

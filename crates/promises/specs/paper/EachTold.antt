@@ -82,7 +82,7 @@ pub record EachTold : Type 0 where
   pub checker : Every (λ n. (p table : List ℕ) × (verdictShown (plantRead p .verdict) .number ≡ 0) × (verdictShown (checked p table) .number ≡ n)) checkerNumbers
   pub controller : Every (λ n. (table : List ℕ) × (st : State) × (x : List ℤ) × (answerShown (controlled P table st x) .number ≡ n)) controllerNumbers
   -- 2: a good plant and a form that the maker does not know, before 9 and 10
-  pub unknown-form : (writtenShown (makerLeft P 2 [] .answer) ≡ shows 2 0 0 []) × (writtenShown (makerLeft (plantWith 0 190 230 4) 0 [] .answer) ≡ shows 2 0 0 [])
+  pub unknown-form : (writtenShown (makerLeft P 4 [] .answer) ≡ shows 2 0 0 []) × (writtenShown (makerLeft (plantWith 0 190 230 4) 0 [] .answer) ≡ shows 2 0 0 [])
   -- 5: line 12's plant; the second mode of a plant of form 2; the second dimension; a sheet
   pub narrow-first : verdictShown (plantRead (plantWith 1 190 230 3) .verdict) ≡ shows 5 0 0 []
   pub narrow-mode : verdictShown (plantRead (ownWith 4 3) .verdict) ≡ shows 5 1 0 []
@@ -99,8 +99,8 @@ each-told = record {
   plant-writer = ((plantOf (plantBy 1 long 1 190 230 4), [], refl), ((plantOf (plantBy 3 10 1 190 230 4), [], refl), ((plantOf (plantBy 1 0 1 190 230 4), [], refl), ((plantOf (plantBy 1 10 1 196 230 4), [], refl), ((plantOf (plantBy 1 10 1 190 230 3), [], refl), ((plantOf (plantBy 1 10 1 190 230 4), [], refl), tt))))));
   formed-writer = ((plantOf (plantBy 1 long 1 190 230 4), refl, [], refl), ((plantOf (plantBy 1 0 1 190 230 4), refl, [], refl), ((plantOf (plantBy 1 10 1 196 230 4), refl, [], refl), ((plantOf (plantBy 1 10 1 190 230 3), refl, [], refl), ((plantOf (plantBy 1 10 1 190 230 4), refl, [], refl), tt)))));
   sheet-writer = ((sheetOf (sheetBy long 190 3 one eight), [], refl), ((sheetOf (sheetBy 0 190 3 one eight), [], refl), ((sheetOf (sheetBy 8 196 3 one eight), [], refl), ((sheetOf (sheetBy 8 190 2 one eight), [], refl), ((sheetOf (sheetBy 8 190 3 one eight), [], refl), ((sheetOf (sheetBy 8 190 3 0 eight), [], refl), ((sheetOf (sheetBy 8 190 3 one huge), [], refl), tt)))))));
-  checker = ((P, [], refl, refl), ((P, 2 ∷ [], refl, refl), ((P, 1 ∷ 2 ∷ [], refl, refl), ((P, 1 ∷ 1 ∷ 1 ∷ 1 ∷ [], refl, refl), ((P′, 1 ∷ 1 ∷ 1 ∷ 1 ∷ [], refl, refl), tt)))));
-  controller = (([], idle, [], refl), ((2 ∷ [], idle, [], refl), ((1 ∷ 2 ∷ [], idle, [], refl), ((1 ∷ 1 ∷ [], idle, pos 194 ∷ [], refl), ((1 ∷ 1 ∷ [], record { place = 1; left = 0 }, pos 200 ∷ [], refl), tt)))));
+  checker = ((P, [], refl, refl), ((P, 4 ∷ [], refl, refl), ((P, 1 ∷ 2 ∷ [], refl, refl), ((P, 1 ∷ 1 ∷ 1 ∷ 1 ∷ [], refl, refl), ((P′, 1 ∷ 1 ∷ 1 ∷ 1 ∷ [], refl, refl), tt)))));
+  controller = (([], idle, [], refl), ((4 ∷ [], idle, [], refl), ((1 ∷ 2 ∷ [], idle, [], refl), ((1 ∷ 1 ∷ [], idle, pos 194 ∷ [], refl), ((1 ∷ 1 ∷ [], record { place = 1; left = 0 }, pos 200 ∷ [], refl), tt)))));
   unknown-form = (refl, refl);
   narrow-first = refl;
   narrow-mode = refl;

@@ -179,7 +179,7 @@ header-shown form n fit small s m = Iff·trans (walk-exactly (header form n s) (
 pub walk-shown : (r : Rules) → Sizes r → (s : List ℕ) (judge : r .Box → List ℕ → Tried) (d at : ℕ) (b : r .Box) (m : ℕ)
     → (walkShown (walk r judge d s at b) ≡ shows 0 0 0 (pos m ∷ [])) ↔ TreeStands r judge d s at b m
 walk-shown r z s judge d at b m =
-    Iff·trans (walk-exactly (walk r judge d s at b) (Walk.Next m)) (λ e. walk-stands r judge d s at b m e, λ w. walk-reads r z judge (w .tree) d s at b m (w .over) (w .stand))
+    Iff·trans (walk-exactly (walk r judge d s at b) (Walk.Next m)) (λ e. walk-stands r judge d s at b m e, λ w. walk-reads r z judge (w .tree) d s at b m (w .over) (w .fits) (w .stand))
 
 module _ (plant : List ℕ) (p : Plant) (good-plant : plantJudged plant ≡ good p) (table : List ℕ) where
   -- the checker shows what the header shows that is refused; then what the walk shows; then 6 where bytes are left over

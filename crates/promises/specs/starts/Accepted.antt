@@ -103,7 +103,7 @@ shorts (t ∷ ts) h = (h 0 (omega arith), shorts ts (λ k l. h (suc k) (omega ar
 
 module _ (plant start : List ℕ) where
   module _ (t : Started plant start) where
-    pub table-short : (i : ℕ) → i < length (t .tables) → length (getD (t .tables) i []) ≤ 57_345
+    pub table-short : (i : ℕ) → i < length (t .tables) → length (getD (t .tables) i []) ≤ 58_965
     table-short i h = let table = getD (t .tables) i [] in over-box (formOf table) (form-known table) (t .p) (judged-sound plant (t .p) (t .judged)) _ _ (box-size (t .p) (t .vs) i) (getD (t .tables) i []) (t .each i h)
 
     pub tables-short : Every Short (t .tables)

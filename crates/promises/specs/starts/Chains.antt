@@ -117,7 +117,7 @@ module _ (p : Plant) (vs : List ℤ) (c : Chained p vs) where
 
 module _ (p : Plant) (sound : Sound p) (vs : List ℤ) (i form : ℕ) where
   pub box-sizes : knownForm form ≡ true → Sizes (boxRules p vs i form)
-  box-sizes known = sizes-over form known p sound (boxOf p vs i) (boxBelow (p .n) (rootOf p) vs i)
+  box-sizes known = sizes-over form known p sound (boxOf p vs i) (boxBelow (p .n) (rootOf p) vs i) (box-size p vs i)
 
   pub box-splits : Splits (boxRules p vs i form)
   box-splits = splits-from form (p .n) (p .modes) (p .k) (p .d) (boxOf p vs i) (boxBelow (p .n) (rootOf p) vs i) (safeOf p) (stepOf p)

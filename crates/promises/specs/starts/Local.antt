@@ -1,9 +1,9 @@
 -- What a call on a start file reads (document 02, request 2026-03; readings: nothing of the tables before the one that is called but their lengths): the
--- chain, the lengths up to that table's own, and of the table, idle, no more than up to the last mode of the tile that is found, running, its header and
--- the modes left from the state's place on. On every file that has the same bytes there, and is long enough for that table, the answer is the same: bytes of other
+-- chain, the lengths up to that table's own, and of the table, idle, no more than up to the last mode of the tile that is found, and of what is before it only the
+-- splits on the way where it tells lengths; running, its header and the modes left from the state's place on. On every file that has the same bytes there, and is long enough for that table, the answer is the same: bytes of other
 -- tables, and all that stands behind the tile, do not count. Of every file, kept or not. Relies on page Local within the table, on Agreeing and Reaching.
 -- What a refused call reads is left out, but for one that is refused before any length, and a running one whose modes left can be read.
-use Prim.Native.Nat.{ℕ, zero, suc, _+_, _-_, _≤_, _<_}
+use Prim.Native.Nat.{ℕ, zero, suc, _+_, _≤_, _<_}
 use mathlib.Core.Path.{_≡_, refl, sym, ap, _∙_}
 use mathlib.Core.Bool.{true, false, _&&_}
 use mathlib.Core.Logic.{_⊎_, inl, inr}
@@ -13,6 +13,7 @@ use lib.ListN.{length, getD, set, length-append, length-set}
 use lib.Seq.{getD-set-other}
 use lib.Dec.{leb, eqb}
 use lib.IntN.{ℤ}
+use Rattle.laws.specs.Every.{Every}
 use Rattle.laws.specs.Lists.{tab, all}
 use Rattle.laws.specs.Standing.{Stands, stand-within}
 use Rattle.laws.specs.Tests.{never, second, guard-passed}
@@ -38,13 +39,14 @@ use Rattle.promises.specs.tables.Chosen.{Went, went}
 use Rattle.promises.specs.files.Judged.{judged-sound}
 use Rattle.promises.specs.tables.Laws.{Sizes}
 use Rattle.promises.specs.tables.Layouts.{ModesStand, modes-stand, first-read, modes-read, header-stands, header-read}
-use Rattle.promises.specs.tables.Local.{Unseen, unseen}
+use Rattle.promises.specs.tables.Local.{readOf, Seen, seen-bytes, seen}
 use Rattle.promises.specs.tables.Modes.{refused-mode}
 use Rattle.promises.specs.tables.PlantRules.{header-size}
 use Rattle.promises.specs.files.Sound.{Sound}
 use Rattle.promises.specs.tables.TableForms.{form-known, header-form}
 use Rattle.promises.specs.tables.Walking.{walk-went}
-use Rattle.promises.specs.starts.Agreeing.{part-byte, LengthByte, Same, stand-same, values-same, table-behind, table-same, part-same}
+use Rattle.promises.specs.files.SameBytes.{In, in-before, Same, stand-same}
+use Rattle.promises.specs.starts.Agreeing.{part-byte, LengthByte, values-same, table-behind, table-same}
 use Rattle.promises.specs.starts.Chains.{box-sizes}
 use Rattle.promises.specs.starts.Parts.{part-size}
 use Rattle.promises.specs.starts.Places.{table-inside}
@@ -56,6 +58,12 @@ pub data Sees (start : List ℕ) (i next place : ℕ) (T : ℕ → Type 0) : ℕ
   of-chain : {k : ℕ} → k < next → Sees start i next place T k
   of-length : {k : ℕ} → LengthByte start i next k → Sees start i next place T k
   of-table : (j : ℕ) → T j → Sees start i next place T (place + j)
+
+-- what sees more of the table sees more
+sees-more : {start : List ℕ} {i next place k : ℕ} {T U : ℕ → Type 0} → ((j : ℕ) → T j → U j) → Sees start i next place T k → Sees start i next place U k
+sees-more h (of-chain l) = of-chain l
+sees-more h (of-length b) = of-length b
+sees-more h (of-table j t) = of-table j (h j t)
 
 -- where one byte is another, those that are not it are the same
 others : (s : List ℕ) (k b : ℕ) (P : ℕ → Type 0) → (P k → ⊥) → (j : ℕ) → P j → getD (set s k b) j 0 ≡ getD s j 0
@@ -106,9 +114,12 @@ pub record IdleUnread (plant start : List ℕ) (x : List ℤ) (u : ℕ) (then : 
   pub found : find (rulesOn way) (rulesOn way .D) (tableOn way) 2 (rulesOn way .root) x ≡ Found.Tile from (length modes)
   pub end : ℕ
   pub are : modesAt (way .p .modes) (length modes) (tableOn way) from ≡ read modes end
-  -- the same on every file with the same bytes in chain, lengths and table up to there
+  -- all that is read of the table is before that
+  pub inside : Every (λ p. p .to ≤ end) (readOf (rulesOn way) x (tableOn way) 2)
+  -- The same on every file with the same bytes in chain and lengths, and in the table where it was read: up to there where the table tells no lengths, and else
+  -- its header, the splits on the way and the tile. How long the table is is told in front of it.
   pub same : (other : List ℕ) → way .place + way .size ≤ length other
-      → ((k : ℕ) → Sees start (boxOn way) (way .next) (way .place) (λ j. j < end) k → getD other k 0 ≡ getD start k 0)
+      → ((k : ℕ) → Sees start (boxOn way) (way .next) (way .place) (In (readOf (rulesOn way) x (tableOn way) 2)) k → getD other k 0 ≡ getD start k 0)
       → startControlled plant other startIdle x ≡ StartAnswer.Mode u then
 
 pub idle-unread : (plant start : List ℕ) (x : List ℤ) (u : ℕ) (then : StartState) → startControlled plant start startIdle x ≡ StartAnswer.Mode u then
@@ -118,10 +129,11 @@ idle-unread plant start x u then a =
     let t = table-answered plant start startIdle x way a in
     of way (judged-sound plant (way .p) (way .judged)) (went (rulesOn way) (tableOn way) x u (t .0) (t .1))
   where
-    by-tile : (way : Reaching plant start startIdle x) (from k : ℕ) (z : Unseen (rulesOn way) x (tableOn way) from k)
+    by-tile : (way : Reaching plant start startIdle x) (from k : ℕ) (z : Seen (rulesOn way) x (tableOn way) 2 from k)
         → find (rulesOn way) (rulesOn way .D) (tableOn way) 2 (rulesOn way .root) x ≡ Found.Tile from k → IdleUnread plant start x u then
     by-tile way from k z found =
         let count : length (z .modes) ≡ k = modes-stand (way .p .modes) k (tableOn way) from (z .modes) (z .end) (z .are) .count in
+        let size : length (tableOn way) ≡ way .size = part-size start (way .place) (way .size) (table-inside start (way .there)) in
         record {
           way = way;
           from = from;
@@ -129,29 +141,40 @@ idle-unread plant start x u then a =
           found = rw count found;
           end = z .end;
           are = rw count (z .are);
+          inside = z .inside;
           same = λ other long same.
               let t = part other (way .place) (way .size) in
-              let q = part-same start other (way .place) (way .size) (z .end) (table-inside start (way .there)) long (bytes way (z .end) other same) in
-              let h = z .head t q in
-              call-same way other long (λ j. j < z .end) same (header-form (formOf (tableOn way)) (way .p .n) (form-known (tableOn way)) t (h .0) (h .1)) (z .same t q) ∙ a;
+              let T = In (readOf (rulesOn way) x (tableOn way) 2) in
+              let alike : length t ≡ way .size = part-size other (way .place) (way .size) long in
+              let bytes : (j : ℕ) → T j → getD t j 0 ≡ getD (tableOn way) j 0 = λ j h.
+              let l : j < z .end = in-before (z .end) (readOf (rulesOn way) x (tableOn way) 2) j (z .inside) h in
+              let few : j < way .size = omega (arith, z .in-file, size, l) in
+              part-byte other (way .place) (way .size) j few ∙ same (way .place + j) (of-table j h) ∙ sym (part-byte start (way .place) (way .size) j few) in
+              let b = seen-bytes (rulesOn way) x (tableOn way) 2 from k z t (omega (arith, z .in-file, size, alike)) bytes in
+              call-same way other long T same (header-form (formOf (tableOn way)) (way .p .n) (form-known (tableOn way)) t 2 (z .head t b)) (z .same t (λ _. alike ∙ sym size) b) ∙ a;
         }
-      where
-        bytes : (way : Reaching plant start startIdle x) (end : ℕ) (other : List ℕ)
-            → ((k : ℕ) → Sees start (boxOn way) (way .next) (way .place) (λ j. j < end) k → getD other k 0 ≡ getD start k 0) → Same start other (way .place) (way .place + end)
-        bytes way end other same k g h = let e : k ≡ way .place + (k - way .place) = omega arith in rw e (same (way .place + (k - way .place)) (of-table (k - way .place) (omega arith)))
 
     of : (way : Reaching plant start startIdle x) → Sound (way .p) → Went (rulesOn way) (tableOn way) x → IdleUnread plant start x u then
     of way sound w =
         let begin : w .at ≡ 2 = omega (arith, header-stands (formOf (tableOn way)) (way .p .n) (tableOn way) (w .at) (w .head) .end, header-size (formOf (tableOn way)) (form-known (tableOn way)) (way .p) sound) in
-        by-tile way (w .from) (w .k) (unseen (rulesOn way) (box-sizes (way .p) sound (way .vs) (boxOn way) (formOf (tableOn way)) (form-known (tableOn way))) x (tableOn way) (w .at) (w .from) (w .k) (w .head) (w .found))
-        (rw begin at (w .found))
+        let found = rw begin at (w .found) in
+        by-tile way (w .from) (w .k)
+        (seen (rulesOn way) (box-sizes (way .p) sound (way .vs) (boxOn way) (formOf (tableOn way)) (form-known (tableOn way))) x (tableOn way) 2 (w .from) (w .k) (rw begin at (w .head)) found) found
+
+-- up to the tile's last mode
+pub idle-front : {plant start : List ℕ} {x : List ℤ} {u : ℕ} {then : StartState} (w : IdleUnread plant start x u then) (other : List ℕ)
+    → w .way .place + w .way .size ≤ length other
+    → ((k : ℕ) → Sees start (boxOn (w .way)) (w .way .next) (w .way .place) (λ j. j < w .end) k → getD other k 0 ≡ getD start k 0)
+    → startControlled plant other startIdle x ≡ StartAnswer.Mode u then
+idle-front w other l same = w .same other l (λ k s. same k (sees-more (λ j h. in-before (w .end) _ j (w .inside) h) s))
 
 -- so a byte that it does not read may be any other
 pub idle-byte : {plant start : List ℕ} {x : List ℤ} {u : ℕ} {then : StartState} (w : IdleUnread plant start x u then) (k b : ℕ)
-    → (Sees start (boxOn (w .way)) (w .way .next) (w .way .place) (λ j. j < w .end) k → ⊥) → startControlled plant (set start k b) startIdle x ≡ StartAnswer.Mode u then
-idle-byte {start = start} w k b n =
+    → (Sees start (boxOn (w .way)) (w .way .next) (w .way .place) (In (readOf (rulesOn (w .way)) x (tableOn (w .way)) 2)) k → ⊥)
+    → startControlled plant (set start k b) startIdle x ≡ StartAnswer.Mode u then
+idle-byte {start = start} {x = x} w k b n =
     w .same (set start k b) (rw (length-set start k b) (table-inside start (w .way .there)))
-    (others start k b (Sees start (boxOn (w .way)) (w .way .next) (w .way .place) (λ j. j < w .end)) n)
+    (others start k b (Sees start (boxOn (w .way)) (w .way .next) (w .way .place) (In (readOf (rulesOn (w .way)) x (tableOn (w .way)) 2))) n)
 
 -- ---- running
 

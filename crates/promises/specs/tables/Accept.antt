@@ -17,10 +17,10 @@ use Rattle.meaning.specs.declared.Verdict.{Verdict}
 use Rattle.meaning.specs.Refusals.{badTable}
 use Rattle.meaning.specs.Numbers.{bytesOf}
 use Rattle.meaning.specs.Rules.{Rules, rule}
-use Rattle.meaning.specs.Trees.{Tree, layout, tableOf}
+use Rattle.meaning.specs.Trees.{Tree, tells, layout, tableOf}
 use Rattle.meaning.specs.Verdicts.{walk, header, tableEnd, verdict}
 use Rattle.promises.specs.tables.Laws.{Sizes}
-use Rattle.promises.specs.tables.Shapes.{Working}
+use Rattle.promises.specs.tables.Shapes.{Working, working-shaped}
 use Rattle.promises.specs.tables.Walking.{walk-went}
 use Rattle.promises.specs.tables.Layouts.{walk-stands, header-stands, walk-reads, headed, table-stands, table-header}
 
@@ -31,10 +31,11 @@ module _ (r : Rules) where
   open Rules r using (root, form, n, D)
 
   -- a header and a tree that fill the file
-  filled : (s : List ℕ) (at : ℕ) (t : Tree) → Stands s 0 (bytesOf form ++ bytesOf n) at → Stands s at (layout t) (length s) → s ≡ tableOf r t
+  filled : (s : List ℕ) (at : ℕ) (t : Tree) → Stands s 0 (bytesOf form ++ bytesOf n) at → Stands s at (layout (tells form) t) (length s) → s ≡ tableOf r t
   filled s at t h p =
       let head = bytesOf form ++ bytesOf n in
-      stand-join h p .bytes ∙ rw (drop-length s, append-nil (head ++ layout t)) (append-assoc (bytesOf form) (bytesOf n) (layout t))
+      let tree = layout (tells form) t in
+      stand-join h p .bytes ∙ rw (drop-length s, append-nil (head ++ tree)) (append-assoc (bytesOf form) (bytesOf n) tree)
 
   -- a table is accepted exactly where it ends with its file
   pub accepted-end : (s : List ℕ) → (verdict r s ≡ Verdict.Accepted) ↔ (tableEnd r s ≡ Walk.Next (length s))
@@ -62,7 +63,7 @@ module _ (r : Rules) where
     is-accepted t o =
         let s = tableOf r t in
         let is = sym (append-nil s) in
-        let w = walk-reads r sizes (rule r) t D s (headed form n) root (length s) o (table-stands r s [] t is .1) in
+        let w = walk-reads r sizes (rule r) t D s (headed form n) root (length s) o (sizes .lengths t (working-shaped r t o)) (table-stands r s [] t is .1) in
         simp (table-header r sizes s [] t is, w, eq-eqb (length s) (length s) refl)
 
     pub accepted-exactly : (s : List ℕ) → (verdict r s ≡ Verdict.Accepted) ↔ ((t : Tree) × Working r t × (s ≡ tableOf r t))

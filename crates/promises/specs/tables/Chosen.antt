@@ -1,12 +1,13 @@
 -- S8 over bytes: on an accepted table an idle call on a reading in R chooses the one tile of the table that holds it, and answers that tile's first
--- mode; and of every table, accepted or not, an idle call that is answered reads nothing behind the last mode of the tile that it chose.
--- Relies on pages Finds and Local at document 01's rules.
-use Prim.Native.Nat.{ℕ}
+-- mode; and of every table, accepted or not, an idle call that is answered reads the header, of the splits on the way their numbers and lengths, and the tile that it
+-- chose; where no lengths are told, what it passes too, but nothing behind the tile's last mode. Relies on pages Finds and Local at document 01's rules. How many
+-- bytes that is, is page Little.
+use Prim.Native.Nat.{ℕ, _≤_}
 use mathlib.Core.Path.{_≡_, refl, sym, ap, subst, _∙_}
-use mathlib.Core.Bool.{true}
+use mathlib.Core.Bool.{true, false}
 use mathlib.Core.List.{List, [], _∷_, append-nil}
 use native.Mathlib.Omega.{arith}
-use lib.ListN.{length, take}
+use lib.ListN.{length, getD, take}
 use lib.IntN.{ℤ}
 use Rattle.laws.specs.Tests.{never, guard-passed}
 use Rattle.meaning.specs.declared.Refusal.{Refusal}
@@ -22,13 +23,14 @@ use Rattle.meaning.specs.Rules.{Rules, rule, holds}
 use Rattle.meaning.specs.Tables as T
 use Rattle.meaning.specs.Tables.{depthBy, formOf, rulesOf, onPlant, controlled, startsIn}
 use Rattle.meaning.specs.Trees as Y
-use Rattle.meaning.specs.Trees.{tableOf, Tile, tilesOf, having}
+use Rattle.meaning.specs.Trees.{tells, tableOf, Tile, tilesOf, having}
 use Rattle.meaning.specs.Verdicts.{modesAt, header}
 use Rattle.promises.specs.tables.Checked.{Tiled}
 use Rattle.promises.specs.tables.Finds.{nextPlace, firstPlace, endPlace, the, finds, call-finds}
 use Rattle.promises.specs.files.Judged.{judged-sound}
-use Rattle.promises.specs.tables.Layouts.{modes-stand, header-stands, headed, table-header, tile-read}
-use Rattle.promises.specs.tables.Local.{unseen}
+use Rattle.promises.specs.files.SameBytes.{In}
+use Rattle.promises.specs.tables.Layouts.{modes-stand, header-stands, table-header, tile-read}
+use Rattle.promises.specs.tables.Local.{readOf, AsLong, seen-bytes, seen-front, untold-long, seen}
 use Rattle.promises.specs.tables.PlantMotion.{splits}
 use Rattle.promises.specs.tables.PlantRules.{sizes, header-size, controlled-as}
 use Rattle.promises.specs.tables.Shapes.{Good}
@@ -50,9 +52,21 @@ pub record Chosen (plant table : List ℕ) (t : Tiled plant table) (x : List ℤ
   pub later : List ℕ
   pub modes-are : the .modes ≡ first ∷ later
   pub answered : controlled plant table idle x ≡ Answer.Mode first (stateWith later (nextPlace (firstPlace (rulesOf (formOf table) (t .p)) the) first))
-  -- and the answer is the same on every table that agrees with this one up to the tile's last mode
-  pub unread : (other : List ℕ) → take (endPlace (rulesOf (formOf table) (t .p)) the) table ≡ take (endPlace (rulesOf (formOf table) (t .p)) the) other
+  -- the answer is the same on every table that has the same bytes where this one was read, and is as long where lengths are told
+  pub seen : (other : List ℕ) → endPlace (rulesOf (formOf table) (t .p)) the ≤ length other → AsLong (rulesOf (formOf table) (t .p)) table other
+      → ((k : ℕ) → In (readOf (rulesOf (formOf table) (t .p)) x table 2) k → getD other k 0 ≡ getD table k 0)
       → controlled plant other idle x ≡ controlled plant table idle x
+  -- and where none are told, on every table that agrees with this one up to the tile's last mode
+  pub unread : tells (formOf table) ≡ false → (other : List ℕ) → take (endPlace (rulesOf (formOf table) (t .p)) the) table ≡ take (endPlace (rulesOf (formOf table) (t .p)) the) other
+      → controlled plant other idle x ≡ controlled plant table idle x
+
+-- what is the same by the rules of this table's form is so by those of the other's, whose header says that form too
+on-other : (plant table : List ℕ) (p : Plant) → plantJudged plant ≡ good p → (other : List ℕ) (x : List ℤ) (at : ℕ) → header (formOf table) (p .n) other ≡ Walk.Next at
+    → call (rulesOf (formOf table) p) other idle x ≡ call (rulesOf (formOf table) p) table idle x → controlled plant other idle x ≡ controlled plant table idle x
+on-other plant table p e other x at h q =
+    controlled-as plant p e other idle x
+    ∙ ap (λ (k : ℕ). call (rulesOf k p) other idle x) (header-form (formOf table) (p .n) (form-known table) other at h)
+    ∙ q ∙ sym (controlled-as plant p e table idle x)
 
 -- S8, of a reading in R and a table that is that of a tree
 pub chosen : (plant table : List ℕ) (t : Tiled plant table) (x : List ℤ) → startsIn plant x ≡ true → Chosen plant table t x
@@ -68,29 +82,35 @@ chosen plant table t x h =
     let is = t .is ∙ sym (append-nil (tableOf r (t .tree))) in
     let f = finds r z (splits form p) (Good r (rule r)) (λ b us g. g .shape) table [] (t .tree) is (t .works) x held in
     let us = f .first ∷ f .later in
-    let w = unseen r z x table (headed form (p .n)) (firstPlace r (the r f)) (length us) (table-header r z table [] (t .tree) is) (f .told) in
+    let two = header-size form known p s in
+    let head : header form (p .n) table ≡ Walk.Next 2 = table-header r z table [] (t .tree) is ∙ ap (λ (m : ℕ). Walk.Next m) two in
+    let found : find r (depthBy form (p .n) (p .d)) table 2 (rootOf p) x ≡ Found.Tile (firstPlace r (the r f)) (length us) =
+    subst (λ (m : ℕ). find r (depthBy form (p .n) (p .d)) table m (rootOf p) x ≡ Found.Tile (firstPlace r (the r f)) (length us)) two (f .told) in
+    let w = seen r z x table 2 (firstPlace r (the r f)) (length us) head found in
     let same : w .end ≡ f .end = cc (tile-read r z us table (f .place) (f .end) (f .known .shape) (f .stand) .1, w .are) in
     let end : w .end ≡ endPlace r (the r f) = _∙_ {c = endPlace r (the r f)} same (f .stand .end) in
     record {
       the = the r f;
-      only = subst (λ (m : ℕ). having r x (tilesOf r (t .tree) (rootOf p) m) ≡ the r f ∷ []) (header-size form known p s) (f .only);
+      only = subst (λ (m : ℕ). having r x (tilesOf r (t .tree) (rootOf p) m) ≡ the r f ∷ []) two (f .only);
       holds-it = f .holds-it;
-      found = subst (λ (m : ℕ). find r (depthBy form (p .n) (p .d)) table m (rootOf p) x ≡ Found.Tile (firstPlace r (the r f)) (length us)) (header-size form known p s) (f .told);
+      found = found;
       first = f .first;
       later = f .later;
       modes-are = refl;
       answered = controlled-as plant p (t .judged) table idle x
           ∙ call-finds r z (splits form p) (Good r (rule r)) (λ b us g. g .shape) table [] (t .tree) is (t .works) x held;
-      unread = λ other q.
-          controlled-as plant p (t .judged) other idle x
-          ∙ ap (λ (k : ℕ). call (rulesOf k p) other idle x) (header-form form (p .n) known other (w .head other (subst (λ (m : ℕ). take m table ≡ take m other) (sym end) q) .0) (w .head other (subst (λ (m : ℕ). take m table ≡ take m other) (sym end) q) .1))
-          ∙ w .same other (subst (λ (m : ℕ). take m table ≡ take m other) (sym end) q)
-          ∙ sym (controlled-as plant p (t .judged) table idle x);
+      seen = λ other l long bytes.
+          let a = seen-bytes r x table 2 _ _ w other (subst (λ (m : ℕ). m ≤ length other) (sym end) l) bytes in
+          on-other plant table p (t .judged) other x 2 (w .head other a) (w .same other long a);
+      unread = λ plain other q.
+          let a = seen-front r x table 2 _ _ w other (subst (λ (m : ℕ). take m table ≡ take m other) (sym end) q) in
+          on-other plant table p (t .judged) other x 2 (w .head other a) (w .same other (untold-long r plain table other) a);
     }
 
 -- ---- of every table, accepted or not
 
--- An idle call was answered so: by the tile whose modes stand from `from` up to `end`, and the same on every table that agrees up to there.
+-- An idle call was answered so: by the tile whose modes stand from `from` up to `end`; and the same on every table that has the same bytes where this one was read, and is
+-- as long where lengths are told. Where none are told, that is on every table that agrees up to the end.
 pub record Unread (plant table : List ℕ) (x : List ℤ) (u : ℕ) (then : State) : Type 0 where
   pub p : Plant
   pub judged : plantJudged plant ≡ good p
@@ -99,7 +119,10 @@ pub record Unread (plant table : List ℕ) (x : List ℤ) (u : ℕ) (then : Stat
   pub found : find (rulesOf (formOf table) p) (depthBy (formOf table) (p .n) (p .d)) table 2 (rootOf p) x ≡ Found.Tile from (length modes)
   pub end : ℕ
   pub are : modesAt (p .modes) (length modes) table from ≡ read modes end
-  pub same : (other : List ℕ) → take end table ≡ take end other → controlled plant other idle x ≡ Answer.Mode u then
+  pub in-file : end ≤ length table
+  pub seen : (other : List ℕ) → end ≤ length other → AsLong (rulesOf (formOf table) p) table other
+      → ((k : ℕ) → In (readOf (rulesOf (formOf table) p) x table 2) k → getD other k 0 ≡ getD table k 0) → controlled plant other idle x ≡ Answer.Mode u then
+  pub same : tells (formOf table) ≡ false → (other : List ℕ) → take end table ≡ take end other → controlled plant other idle x ≡ Answer.Mode u then
 
 refused-mode : {e : Refusal} {u : ℕ} {then : State} → Answer.Refused e ≡ Answer.Mode u then → ⊥
 refused-mode q = never cc
@@ -134,10 +157,11 @@ unread plant table x u then = go (plantJudged plant) refl
         let known = form-known table in
         let r = rulesOf form p in
         let s = judged-sound plant p e in
-        let z = unseen r (sizes form known p s) x table (w .at) (w .from) (w .k) (w .head) (w .found) in
+        let begin : w .at ≡ 2 = omega (arith, header-stands form (p .n) table (w .at) (w .head) .end, header-size form known p s) in
+        let z = seen r (sizes form known p s) x table 2 (w .from) (w .k) (rw begin at (w .head)) (rw begin at (w .found)) in
         let m = modes-stand (p .modes) (w .k) table (w .from) (z .modes) (z .end) (z .are) in
         let count : length (z .modes) ≡ w .k = m .count in
-        let begin : w .at ≡ 2 = omega (arith, header-stands form (p .n) table (w .at) (w .head) .end, header-size form known p s) in
+        let was : controlled plant table idle x ≡ Answer.Mode u then = controlled-as plant p e table idle x ∙ a in
         record {
           p = p;
           judged = e;
@@ -146,13 +170,21 @@ unread plant table x u then = go (plantJudged plant) refl
           found = rw count (rw begin at (w .found));
           end = z .end;
           are = rw count (z .are);
-          same = λ other q.
-              controlled-as plant p e other idle x
-              ∙ ap (λ (k : ℕ). call (rulesOf k p) other idle x) (header-form form (p .n) known other (z .head other q .0) (z .head other q .1))
-              ∙ z .same other q ∙ a;
+          in-file = z .in-file;
+          seen = λ other l long bytes.
+              let b = seen-bytes r x table 2 (w .from) (w .k) z other l bytes in
+              on-other plant table p e other x 2 (z .head other b) (z .same other long b) ∙ was;
+          same = λ plain other q.
+              let b = seen-front r x table 2 (w .from) (w .k) z other q in
+              on-other plant table p e other x 2 (z .head other b) (z .same other (untold-long r plain table other) b) ∙ was;
         }
 
     go : (j : Judged Plant) → plantJudged plant ≡ j → onPlant j Answer.Refused (λ p. call (rulesOf (formOf table) p) table idle x) ≡ Answer.Mode u then
         → Unread plant table x u then
     go (bad e) q a = absurd (refused-mode a)
     go (good p) q a = of p q a (went (rulesOf (formOf table) p) table x u then a)
+
+-- So what an answer depends on, whatever the form: the header, the splits on the way and the tile, what is passed where no lengths are told, and the file's length.
+pub depends : (plant table : List ℕ) (x : List ℤ) (u : ℕ) (then : State) (w : Unread plant table x u then) (other : List ℕ) → length other ≡ length table
+    → ((k : ℕ) → In (readOf (rulesOf (formOf table) (w .p)) x table 2) k → getD other k 0 ≡ getD table k 0) → controlled plant other idle x ≡ Answer.Mode u then
+depends plant table x u then w other long bytes = w .seen other (omega (arith, w .in-file, long)) (λ _. long) bytes

@@ -7,9 +7,12 @@ use mathlib.Core.Path.{_≡_, refl, sym, ap, _∙_}
 use mathlib.Core.Bool.{Bool, true, false}
 use mathlib.Core.List.{List, [], _∷_, _++_, append-nil, append-assoc}
 use native.Mathlib.Omega.{arith}
+use lib.Dec.{eqb}
 use lib.ListN.{length}
+use borrow.Author.Tests.{eq-eqb}
 use Rattle.laws.specs.Every as E
 use Rattle.laws.specs.Every.{Every, every-append, every-parts}
+use Rattle.laws.specs.Guards.{guard}
 use Rattle.laws.specs.Standing.{Stands, stand-front, stand-back}
 use Rattle.laws.specs.Tests.{never}
 use Rattle.meaning.specs.declared.Refusal.{Refusal}
@@ -18,18 +21,21 @@ use Rattle.meaning.specs.declared.Tried.the-variants.{Works, Leaves, Misses}
 use Rattle.meaning.specs.declared.Verdict.{Verdict}
 use Rattle.meaning.specs.declared.Walk.{Walk}
 use Rattle.meaning.specs.Numbers.{bytesOf}
-use Rattle.meaning.specs.Refusals.{leaves, misses}
+use Rattle.meaning.specs.Refusals.{badTable, leaves, misses}
 use Rattle.meaning.specs.Rules as R
 use Rattle.meaning.specs.Rules.{Rules, ruleFrom, rule}
 use Rattle.meaning.specs.Trees as Y
-use Rattle.meaning.specs.Trees.{Tree, Forest, split, tile, leaf, more, layout, layouts, Pattern, tableOf, Over, Overs, Tile, tilesOf, tilesIn}
+use Rattle.meaning.specs.Trees.{Tree, Forest, split, tile, leaf, more, tells, layout, layouts, Pattern, tableOf, Over, Overs, Tile, tilesOf, tilesIn}
 use Rattle.meaning.specs.Verdicts as C
-use Rattle.meaning.specs.Verdicts.{onTried, onWalk, each, walk, verdict}
-use Rattle.promises.specs.tables.Laws.{Sizes}
-use Rattle.promises.specs.tables.Layouts.{tile-read, split-read, headed, table-stands, table-header}
+use Rattle.meaning.specs.Verdicts.{Length, onTried, onWalk, each, walk, verdict}
+use Rattle.promises.specs.tables.Laws as L
+use Rattle.promises.specs.tables.Laws.{Sizes, Fits, FitsEach}
+use Rattle.promises.specs.tables.Layouts.{overs-count, tile-read, headed, table-stands, table-header}
 use Rattle.promises.specs.tables.Patterns as T
 use Rattle.promises.specs.tables.Patterns.{lastOf, images, Lands, works-exactly}
 use Rattle.promises.specs.tables.Shapes.{Good, Shaped, Working}
+use Rattle.promises.specs.tables.SplitLengths as S
+use Rattle.promises.specs.tables.SplitLengths.{Held, firstChild, split-stands}
 use Rattle.promises.specs.tables.Walking.{walk-split, walk-tile}
 
 module _ (r : Rules) where
@@ -148,28 +154,42 @@ module _ (r : Rules) where
       Patterns b us = Pattern K N us
 
       mutual
-        unfolding Y.layout Y.Over Y.tilesOf C.each tilesJudged
+        unfolding Y.layout Y.Over Y.tilesOf C.each S.Held L.Fits tilesJudged
 
-        walk-judges : (t : Tree) (d : ℕ) (s : List ℕ) (at : ℕ) (b : Box) (m : ℕ) → Over r Patterns t d b → Stands s at (layout t) m
-            → walk r judge d s at b ≡ tilesJudged judge (tilesOf r t b at) m
-        walk-judges (tile us) d s at b m g p =
+        walk-judges : (t : Tree) (d : ℕ) (s : List ℕ) (at : ℕ) (b : Box) (m : ℕ) → Over r Patterns t d b → Fits (tells form) t
+            → Stands s at (layout (tells form) t) m → walk r judge d s at b ≡ tilesJudged judge (tilesOf r t b at) m
+        walk-judges (tile us) d s at b m g fit p =
             let q = tile-read r sizes us s at m g p in
             walk-tile r judge d s at b (length us) (at + length (bytesOf (length us))) (q .0) (g .some) (g .few) ∙ rw (q .1) (one-judged (judge b us) at m)
-        walk-judges (split f) zero s at b m o p = absurd o
-        walk-judges (split f) (suc d) s at b m o p =
-            walk-split r judge (suc d) s at b (at + length (bytesOf 0)) d (split-read f s at m p) refl (o .0)
-            ∙ each-judges f d s (at + length (bytesOf 0)) (children b) m (o .1) (stand-back (bytesOf 0) (layouts f) p)
+        walk-judges (split f) zero s at b m o fit p = absurd o
+        walk-judges (split f) (suc d) s at b m o fit p =
+            let w = split-stands (tells form) f (children b) s at m (overs-count r Patterns f d (children b) (o .1)) (fit .0) p in
+            walk-split r judge (suc d) s at b (at + length (bytesOf 0)) d (w .number) refl (o .0)
+            ∙ rw (w .are) (each-judges f d s (firstChild (tells form) f at) (children b) (w .lengths) m (o .1) (fit .1) (w .held) (w .stand))
 
-        each-judges : (f : Forest) (d : ℕ) (s : List ℕ) (at : ℕ) (bs : List Box) (m : ℕ) → Overs r Patterns f d bs → Stands s at (layouts f) m
-            → each (λ p c. walk r judge d s p c) bs at ≡ tilesJudged judge (tilesIn r f bs at) m
-        each-judges leaf d s at [] m o p = let q : m ≡ at = omega (arith, p .end) in rw q refl
-        each-judges leaf d s at (b ∷ bs) m o p = absurd o
-        each-judges (more t f) d s at [] m o p = absurd o
-        each-judges (more t f) d s at (b ∷ bs) m o p =
-            let mid = at + length (layout t) in
-            rw (walk-judges t d s at b mid (o .0) (stand-front (layout t) (layouts f) p))
-            (judged-join (tilesOf r t b at) (tilesIn r f bs mid) mid m (λ y. each (λ p c. walk r judge d s p c) bs y)
-            (each-judges f d s mid bs m (o .1) (stand-back (layout t) (layouts f) p)))
+        each-judges : (f : Forest) (d : ℕ) (s : List ℕ) (at : ℕ) (bs : List Box) (ls : List Length) (m : ℕ) → Overs r Patterns f d bs
+            → FitsEach (tells form) f → Held (tells form) ls f → Stands s at (layouts (tells form) f) m
+            → each (λ p c. walk r judge d s p c) bs ls at ≡ tilesJudged judge (tilesIn r f bs at) m
+        each-judges leaf d s at [] [] m o fit h p = let q : m ≡ at = omega (arith, p .end) in rw q refl
+        each-judges leaf d s at [] (l ∷ ls) m o fit h p = let q : m ≡ at = omega (arith, p .end) in rw q refl
+        each-judges leaf d s at (b ∷ bs) ls m o fit h p = absurd o
+        each-judges (more t f) d s at [] ls m o fit h p = absurd o
+        each-judges (more t f) d s at (b ∷ bs) [] m o fit h p =
+            let tree = layout (tells form) t in
+            let rest = layouts (tells form) f in
+            let mid = at + length tree in
+            rw (walk-judges t d s at b mid (o .0) (fit .0) (stand-front tree rest p))
+            (judged-join (tilesOf r t b at) (tilesIn r f bs mid) mid m (λ y. each (λ p c. walk r judge d s p c) bs [] y)
+            (each-judges f d s mid bs [] m (o .1) (fit .1) h (stand-back tree rest p)))
+        each-judges (more t f) d s at (b ∷ bs) (l ∷ ls) m o fit h p =
+            let tree = layout (tells form) t in
+            let rest = layouts (tells form) f in
+            let mid = at + length tree in
+            let size : l .size ≡ length tree = h .0 in
+            let on : ℕ → Walk = λ y. guard (eqb y (at + l .size)) (Walk.Refused (badTable (l .place))) λ _. each (λ p c. walk r judge d s p c) bs ls y in
+            rw (walk-judges t d s at b mid (o .0) (fit .0) (stand-front tree rest p))
+            (judged-join (tilesOf r t b at) (tilesIn r f bs mid) mid m on
+            (rw (size, eq-eqb mid mid refl) (each-judges f d s mid bs ls m (o .1) (fit .1) (h .1) (stand-back tree rest p))))
 
   -- ---- the verdict
 
@@ -196,15 +216,16 @@ module _ (r : Rules) where
     tree-works : (t : Tree) (d : ℕ) (b : Box) (at : ℕ) → Over r (λ b us. Pattern K N us) t d b → Every TileWorks (tilesOf r t b at) → Over r (Good r (rule r)) t d b
     tree-works (tile us) d b at o h = record { shape = o; works = h .0 }
     tree-works (split f) zero b at o h = o
-    tree-works (split f) (suc d) b at o h = (o .0, forest-works f d (children b) (at + length (bytesOf 0)) (o .1) h)
+    tree-works (split f) (suc d) b at o h = (o .0, forest-works f d (children b) (firstChild (tells form) f at) (o .1) h)
 
     forest-works : (f : Forest) (d : ℕ) (bs : List Box) (at : ℕ) → Overs r (λ b us. Pattern K N us) f d bs → Every TileWorks (tilesIn r f bs at) → Overs r (Good r (rule r)) f d bs
     forest-works leaf d [] at o h = o
     forest-works leaf d (b ∷ bs) at o h = o
     forest-works (more t f) d [] at o h = o
     forest-works (more t f) d (b ∷ bs) at o h =
-        let w = every-parts TileWorks (tilesOf r t b at) (tilesIn r f bs (at + length (layout t))) h in
-        (tree-works t d b at (o .0) (w .0), forest-works f d bs (at + length (layout t)) (o .1) (w .1))
+        let mid = at + length (layout (tells form) t) in
+        let w = every-parts TileWorks (tilesOf r t b at) (tilesIn r f bs mid) h in
+        (tree-works t d b at (o .0) (w .0), forest-works f d bs mid (o .1) (w .1))
 
   -- the tiles behind those of a front that work
   comes-from : (t : Tree) → Shaped r t → (front rest : List (Tile r)) → tilesOf r t root (headed form n) ≡ front ++ rest → Every TileWorks front → Comes t
@@ -235,7 +256,7 @@ module _ (r : Rules) where
         let s = tableOf r t in
         let is = sym (append-nil s) in
         let w : walk r (rule r) D s (headed form n) root ≡ Walk.Refused e =
-        walk-judges (rule r) sizes t D s (headed form n) root (length s) shape (table-stands r s [] t is .1)
+        walk-judges (rule r) sizes t D s (headed form n) root (length s) shape (sizes .lengths t shape) (table-stands r s [] t is .1)
         ∙ rw (bad .are) (judged-first (rule r) (bad .front) one (bad .back) (length s) e (bad .work) q) in
         simp (table-header r sizes s [] t is, w)
 

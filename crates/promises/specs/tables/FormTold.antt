@@ -1,5 +1,5 @@
--- 2 of a table (request 2026-06: "2 now means neither form"), for a plant that was judged good: the checker tells it exactly where the table says a form that is
--- not known, and then every call does, idle or running. Relies on pages TableForms (of the header) and WalkTold (the tree tells 1, 6, 7 and 8 alone).
+-- 2 of a table (request 2026-01: "2 now means neither form", and by 2026-06 none of 1, 2 and 3), for a plant that was judged good: the checker tells it exactly
+-- where the table says a form that is not known, and then every call does, idle or running. Relies on pages TableForms (of the header) and WalkTold (the tree tells 1, 6, 7 and 8 alone).
 use Prim.Native.Nat.{ℕ, _≤_}
 use mathlib.Core.Path.{_≡_, refl, sym, ap, _∙_}
 use mathlib.Core.Bool.{Bool, true, false}

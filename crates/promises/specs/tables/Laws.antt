@@ -2,13 +2,32 @@
 -- plant are so is pages PlantRules (Sizes) and PlantMotion (Splits, Motion, Returns).
 use Prim.Native.Nat.{ℕ, _^_, _≤_, _<_}
 use mathlib.Core.Path.{_≡_}
-use mathlib.Core.Bool.{true}
+use mathlib.Core.Bool.{Bool, true, false}
 use mathlib.Core.List.{List, []}
+use lib.ListN.{length}
 use Rattle.laws.specs.Counting.{bit, count}
 use Rattle.meaning.specs.Rules.{Rules, holds}
+use Rattle.meaning.specs.Trees.{Tree, Forest, split, tile, leaf, more, tells, layout, Pattern, Over}
+
+-- each length that a split tells of its children, where lengths are told, is a number of at most five bytes
+unfoldable pub Small : Bool → Forest → Type 0
+Small false f = Unit {0}
+Small true leaf = Unit {0}
+Small true (more t leaf) = Unit {0}
+Small true (more t (more u f)) = (length (layout true t) < 2 ^ 35) × Small true (more u f)
+
+-- and so of every split of a tree
+unfoldable mutual
+  pub Fits : Bool → Tree → Type 0
+  Fits told (tile us) = Unit {0}
+  Fits told (split f) = Small told f × FitsEach told f
+
+  pub FitsEach : Bool → Forest → Type 0
+  FitsEach told leaf = Unit {0}
+  FitsEach told (more t f) = Fits told t × FitsEach told f
 
 module _ (r : Rules) where
-  open Rules r using (Box, Reading, Kept, children, within, begin, image, kept, root, goal, safe, form, n, K, N, follows)
+  open Rules r using (Box, Reading, Kept, children, within, begin, image, kept, root, goal, safe, form, n, D, K, N, follows)
 
   -- the form, n, each node and each mode are numbers of at most five bytes
   pub record Sizes : Type 0 where
@@ -16,6 +35,8 @@ module _ (r : Rules) where
     pub dimensions : n < 2 ^ 35
     pub nodes : K < 2 ^ 35
     pub modes : N ≤ 2 ^ 35
+    -- and so is each length that a tree of sound shape tells
+    pub lengths : (t : Tree) → Over r (λ b us. Pattern K N us) t D root → Fits (tells form) t
 
   -- how many of the boxes hold a reading
   abbrev pub holding : List Box → Reading → ℕ

@@ -1,6 +1,6 @@
 -- The walk and the layout: what is walked over without a refusal is the layout of a tree of sound shape that stands there, and such a layout is
 -- walked over. So of a tile's modes, and of the header. Every judge of a tile is served, and so is the passing of a subtree.
--- Over any rules; that what stands is read needs numbers that fit five bytes.
+-- Over any rules; that what stands is read needs numbers that fit five bytes. The lengths that a split tells are page SplitLengths.
 use Prim.Native.Nat.{ℕ, zero, suc, _+_, _^_, _≤_, _<_}
 use mathlib.Core.Path.{_≡_, refl, sym, ap, _∙_}
 use mathlib.Core.List.{List, [], _∷_, _++_, append-assoc}
@@ -22,22 +22,19 @@ use Rattle.meaning.specs.Refusals.{broken, wrongForm, badTable}
 use Rattle.meaning.specs.Numbers.{numberAt, bytesOf}
 use Rattle.meaning.specs.Files.{Read, read, refused, before}
 use Rattle.meaning.specs.Rules.{Rules}
-use Rattle.meaning.specs.Trees.{Tree, Forest, split, tile, leaf, more, modesBytes, layout, layouts, below, Pattern, tableOf, Over, Overs}
-use Rattle.meaning.specs.Verdicts.{onNumber, onTried, onModes, each, splitAt, modesAt, walk, header}
+use Rattle.meaning.specs.Trees.{Tree, Forest, split, tile, leaf, more, modesBytes, tells, layout, layouts, below, Pattern, tableOf, Over, Overs}
+use Rattle.meaning.specs.Verdicts.{Length, onNumber, onTried, onModes, lengthsBy, each, splitAt, modesAt, walk, header}
 use Rattle.promises.specs.files.Numbers.{reads, was}
-use Rattle.promises.specs.tables.Laws.{Sizes}
+use Rattle.promises.specs.tables.Laws.{Sizes, Fits, FitsEach}
 use Rattle.promises.specs.tables.Shapes.{Good}
-use Rattle.promises.specs.tables.Walking.{number-read, walk-went, NodeWas, was-split, was-tile, node-was, walk-split, walk-tile}
+use Rattle.promises.specs.tables.SplitLengths.{countOf, Held, firstChild, lengths-stand, held-bytes, held-small, split-stands}
+use Rattle.promises.specs.tables.Walking.{number-read, walk-went, read-went, NodeWas, was-split, was-tile, node-was, lengths-by, eachBy, walk-split, walk-tile}
 
 refused-read : {A : Type 0} {e : Refusal} {a : A} {m : ℕ} → refused e ≡ read a m → ⊥
 refused-read e = never cc
 
 refused-next : {e : Refusal} {m : ℕ} → Walk.Refused e ≡ Walk.Next m → ⊥
 refused-next e = never cc
-
--- a split's number
-pub split-read : (f : Forest) (s : List ℕ) (at m : ℕ) → Stands s at (bytesOf 0 ++ layouts f) m → numberAt s at ≡ Number.Value 0 (at + length (bytesOf 0))
-split-read f s at m p = reads 0 at (at + length (bytesOf 0)) s (omega arith) (stand-front (bytesOf 0) (layouts f) p)
 
 -- ---- a tile's modes
 
@@ -123,17 +120,30 @@ module _ (r : Rules) where
   pub record TreeStands (judge : Box → List ℕ → Tried) (d : ℕ) (s : List ℕ) (at : ℕ) (b : Box) (m : ℕ) : Type 0 where
     pub tree : Tree
     pub over : Over r (Good r judge) tree d b
-    pub stand : Stands s at (layout tree) m
+    pub fits : Fits (tells form) tree
+    pub stand : Stands s at (layout (tells form) tree) m
 
-  record ForestStands (judge : Box → List ℕ → Tried) (d : ℕ) (s : List ℕ) (at : ℕ) (bs : List Box) (m : ℕ) : Type 0 where
+  -- each tree as long as is told of it
+  record ForestStands (judge : Box → List ℕ → Tried) (d : ℕ) (s : List ℕ) (at : ℕ) (bs : List Box) (ls : List Length) (m : ℕ) : Type 0 where
     forest : Forest
     over : Overs r (Good r judge) forest d bs
-    stand : Stands s at (layouts forest) m
+    fits : FitsEach (tells form) forest
+    stand : Stands s at (layouts (tells form) forest) m
+    held : Held (tells form) ls forest
+    count : countOf forest ≡ length bs
+
+  -- a forest over boxes has as many trees
+  pub overs-count : (P : Box → List ℕ → Type 0) (f : Forest) (d : ℕ) (bs : List Box) → Overs r P f d bs → countOf f ≡ length bs
+  unfolding Over countOf
+  overs-count P leaf d [] o = refl
+  overs-count P leaf d (b ∷ bs) o = absurd o
+  overs-count P (more t f) d [] o = absurd o
+  overs-count P (more t f) d (b ∷ bs) o = ap suc (overs-count P f d bs (o .1))
 
   module _ (judge : Box → List ℕ → Tried) where
     tile-stands : (b : Box) (k d : ℕ) (s : List ℕ) (at from m : ℕ) → numberAt s at ≡ Number.Value k from → 1 ≤ k → k ≤ K
         → onModes (modesAt N k s from) at (judge b) ≡ Walk.Next m → TreeStands judge d s at b m
-    unfolding layout Over
+    unfolding layout Over Fits
     tile-stands b k d s at from m q l h e = go (modesAt N k s from) refl e
       where
         judged : (us : List ℕ) (y : ℕ) → ModesStand N k s from us y → (o : Tried) → judge b us ≡ o → onTried o at y ≡ Walk.Next m → TreeStands judge d s at b m
@@ -143,6 +153,7 @@ module _ (r : Rules) where
             record {
               tree = tile us;
               over = record { shape = record { some = omega arith; few = omega arith; modes = w .modes }; works = p };
+              fits = tt;
               stand = rw (c, f) (stand-join (was k at from s q .1) (w .stand));
             }
         judged us y w (Leaves i) p e = absurd (refused-next e)
@@ -153,30 +164,44 @@ module _ (r : Rules) where
         go (refused x) p e = absurd (refused-next e)
 
     each-stands : (d : ℕ) (s : List ℕ) → ((at : ℕ) (b : Box) (m : ℕ) → walk r judge d s at b ≡ Walk.Next m → TreeStands judge d s at b m)
-        → (bs : List Box) (at m : ℕ) → each (λ p c. walk r judge d s p c) bs at ≡ Walk.Next m → ForestStands judge d s at bs m
-    unfolding each layout Over
-    each-stands d s ih [] at m e = let q : m ≡ at = cc in rw q (record { forest = leaf; over = tt; stand = stand-nil s at })
-    each-stands d s ih (b ∷ bs) at m e =
-        let w = walk-went (walk r judge d s at b) Walk.Refused (λ y. each (λ p c. walk r judge d s p c) bs y) (λ _. refused-next) e in
+        → (bs : List Box) (ls : List Length) (at m : ℕ) → each (λ p c. walk r judge d s p c) bs ls at ≡ Walk.Next m → ForestStands judge d s at bs ls m
+    unfolding each layout Over countOf Held Fits
+    each-stands d s ih [] [] at m e = let q : m ≡ at = cc in rw q (record { forest = leaf; over = tt; fits = tt; stand = stand-nil s at; held = tt; count = refl })
+    each-stands d s ih [] (l ∷ ls) at m e = let q : m ≡ at = cc in rw q (record { forest = leaf; over = tt; fits = tt; stand = stand-nil s at; held = tt; count = refl })
+    each-stands d s ih (b ∷ bs) [] at m e =
+        let w = walk-went (walk r judge d s at b) Walk.Refused (λ y. each (λ p c. walk r judge d s p c) bs [] y) (λ _. refused-next) e in
         let t = ih at b (w .0) (w .1) in
-        let f = each-stands d s ih bs (w .0) m (w .2) in
-        record { forest = more (t .tree) (f .forest); over = (t .over, f .over); stand = stand-join (t .stand) (f .stand) }
+        let f = each-stands d s ih bs [] (w .0) m (w .2) in
+        record { forest = more (t .tree) (f .forest); over = (t .over, f .over); fits = (t .fits, f .fits); stand = stand-join (t .stand) (f .stand); held = tt; count = ap suc (f .count) }
+    each-stands d s ih (b ∷ bs) (l ∷ ls) at m e =
+        let on : ℕ → Walk = λ y. guard (eqb y (at + l .size)) (Walk.Refused (badTable (l .place))) λ _. each (λ p c. walk r judge d s p c) bs ls y in
+        let w = walk-went (walk r judge d s at b) Walk.Refused on (λ _. refused-next) e in
+        let g = guard-passed (eqb (w .0) (at + l .size)) (λ _. each (λ p c. walk r judge d s p c) bs ls (w .0)) refused-next (w .2) in
+        let t = ih at b (w .0) (w .1) in
+        let f = each-stands d s ih bs ls (w .0) m (g .1) in
+        let size : l .size ≡ length (layout (tells form) (t .tree)) = omega (arith, eqb-true (w .0) (at + l .size) (g .0), t .stand .end) in
+        record { forest = more (t .tree) (f .forest); over = (t .over, f .over); fits = (t .fits, f .fits); stand = stand-join (t .stand) (f .stand); held = (size, f .held); count = ap suc (f .count) }
 
-    split-stands : (d : ℕ) (s : List ℕ) (at from : ℕ) (b : Box) (m : ℕ) → numberAt s at ≡ Number.Value 0 from
-        → ((bs : List Box) → each (λ p c. walk r judge d s p c) bs from ≡ Walk.Next m → ForestStands judge d s from bs m)
-        → splitAt (children b) (Walk.Refused (badTable at)) (λ cs. each (λ p c. walk r judge d s p c) cs from) ≡ Walk.Next m → TreeStands judge (suc d) s at b m
-    unfolding layout Over
-    split-stands d s at from b m q ih = go (children b) refl
+    -- a split's lengths are those of its children
+    split-was : (d : ℕ) (s : List ℕ) (at from : ℕ) (b : Box) (m : ℕ) → numberAt s at ≡ Number.Value 0 from
+        → ((bs : List Box) (ls : List Length) (first : ℕ) → each (λ p c. walk r judge d s p c) bs ls first ≡ Walk.Next m → ForestStands judge d s first bs ls m)
+        → splitAt (children b) (Walk.Refused (badTable at)) (λ cs. eachBy r judge d s cs from) ≡ Walk.Next m → TreeStands judge (suc d) s at b m
+    unfolding layout Over Fits
+    split-was d s at from b m q ih = go (children b) refl
       where
-        go : (bs : List Box) → children b ≡ bs → splitAt bs (Walk.Refused (badTable at)) (λ cs. each (λ p c. walk r judge d s p c) cs from) ≡ Walk.Next m
+        go : (bs : List Box) → children b ≡ bs → splitAt bs (Walk.Refused (badTable at)) (λ cs. eachBy r judge d s cs from) ≡ Walk.Next m
             → TreeStands judge (suc d) s at b m
         go [] p e = absurd (refused-next e)
         go (c ∷ cs) p e =
-            let f = ih (c ∷ cs) e in
+            let w = read-went (lengthsBy (tells form) (c ∷ cs) s from) Walk.Refused (λ ls first. each (λ p c. walk r judge d s p c) (c ∷ cs) ls first) (λ _. refused-next) e in
+            let f = ih (c ∷ cs) (w .0) (w .1) (w .3) in
+            let l = lengths-stand _ s from (w .0) (w .1) (sym (lengths-by (tells form) (c ∷ cs) s from) ∙ w .2) in
+            let told = held-bytes (tells form) (f .forest) (w .0) (rw (f .count) (l .count)) (f .held) in
             record {
               tree = split (f .forest);
               over = ((λ z. never cc), rw p (f .over));
-              stand = stand-join (was 0 at from s q .1) (f .stand);
+              fits = (held-small (tells form) (f .forest) (w .0) (rw (f .count) (l .count)) (f .held) (l .small), f .fits);
+              stand = stand-join (was 0 at from s q .1) (stand-join (rw told at (l .stand)) (f .stand));
             }
 
     pub walk-stands : (d : ℕ) (s : List ℕ) (at : ℕ) (b : Box) (m : ℕ) → walk r judge d s at b ≡ Walk.Next m → TreeStands judge d s at b m
@@ -189,24 +214,25 @@ module _ (r : Rules) where
         go (was-tile k y q l h p) = tile-stands b k zero s at y m q l h p
     walk-stands (suc d) s at b m e =
         go (λ p c y f. walk-stands d s p c y f)
-        (node-was K s at Walk.Refused (λ y. splitAt (children b) (Walk.Refused (badTable at)) λ cs. each (λ p c. walk r judge d s p c) cs y)
+        (node-was K s at Walk.Refused (λ y. splitAt (children b) (Walk.Refused (badTable at)) λ cs. eachBy r judge d s cs y)
         (λ k y. onModes (modesAt N k s y) at (judge b)) (λ _. refused-next) e)
       where
         go : ((at : ℕ) (b : Box) (m : ℕ) → walk r judge d s at b ≡ Walk.Next m → TreeStands judge d s at b m)
-            → NodeWas K s at (λ y. splitAt (children b) (Walk.Refused (badTable at)) λ cs. each (λ p c. walk r judge d s p c) cs y)
+            → NodeWas K s at (λ y. splitAt (children b) (Walk.Refused (badTable at)) λ cs. eachBy r judge d s cs y)
             (λ k y. onModes (modesAt N k s y) at (judge b)) (Walk.Next m)
             → TreeStands judge (suc d) s at b m
-        go ih (was-split y q p) = split-stands d s at y b m q (λ bs f. each-stands d s ih bs y m f) p
+        go ih (was-split y q p) = split-was d s at y b m q (λ bs ls first f. each-stands d s ih bs ls first m f) p
         go ih (was-tile k y q l h p) = tile-stands b k (suc d) s at y m q l h p
 
   -- a table with any bytes behind it: its header, and its tree
   pub table-stands : (s rest : List ℕ) (t : Tree) → s ≡ tableOf r t ++ rest
-      → Stands s 0 (bytesOf form ++ bytesOf n) (headed form n) × Stands s (headed form n) (layout t) (length (tableOf r t))
+      → Stands s 0 (bytesOf form ++ bytesOf n) (headed form n) × Stands s (headed form n) (layout (tells form) t) (length (tableOf r t))
   table-stands s rest t e =
-      let q = append-assoc (bytesOf form) (bytesOf n) (layout t) in
-      let p : Stands s 0 ((bytesOf form ++ bytesOf n) ++ layout t) (length (tableOf r t)) =
+      let tree = layout (tells form) t in
+      let q = append-assoc (bytesOf form) (bytesOf n) tree in
+      let p : Stands s 0 ((bytesOf form ++ bytesOf n) ++ tree) (length (tableOf r t)) =
       rw (q, e) (record { end = omega arith; bytes = ap (λ (l : List ℕ). tableOf r t ++ l) (sym (drop-append-seam (tableOf r t) rest)) }) in
-      (rw zero-add at (stand-front (bytesOf form ++ bytesOf n) (layout t) p), rw zero-add at (stand-back (bytesOf form ++ bytesOf n) (layout t) p))
+      (rw zero-add at (stand-front (bytesOf form ++ bytesOf n) tree p), rw zero-add at (stand-back (bytesOf form ++ bytesOf n) tree p))
 
   module _ (sizes : Sizes r) where
     pub table-header : (s rest : List ℕ) (t : Tree) → s ≡ tableOf r t ++ rest → header form n s ≡ Walk.Next (headed form n)
@@ -222,23 +248,34 @@ module _ (r : Rules) where
 
     module _ (judge : Box → List ℕ → Tried) where
       mutual
-        unfolding layout Over each
+        unfolding layout Over each Held Fits
 
-        pub walk-reads : (t : Tree) (d : ℕ) (s : List ℕ) (at : ℕ) (b : Box) (m : ℕ) → Over r (Good r judge) t d b → Stands s at (layout t) m
-            → walk r judge d s at b ≡ Walk.Next m
-        walk-reads (tile us) d s at b m o p =
+        pub walk-reads : (t : Tree) (d : ℕ) (s : List ℕ) (at : ℕ) (b : Box) (m : ℕ) → Over r (Good r judge) t d b → Fits (tells form) t
+            → Stands s at (layout (tells form) t) m → walk r judge d s at b ≡ Walk.Next m
+        walk-reads (tile us) d s at b m o fit p =
             let q = tile-read us s at m (o .shape) p in
             walk-tile r judge d s at b (length us) (at + length (bytesOf (length us))) (q .0) (o .shape .some) (o .shape .few) ∙ rw (q .1) (rw (o .works) refl)
-        walk-reads (split f) zero s at b m o p = absurd o
-        walk-reads (split f) (suc d) s at b m o p =
-            walk-split r judge (suc d) s at b (at + length (bytesOf 0)) d (split-read f s at m p) refl (o .0)
-            ∙ each-reads f d s (at + length (bytesOf 0)) (children b) m (o .1) (stand-back (bytesOf 0) (layouts f) p)
+        walk-reads (split f) zero s at b m o fit p = absurd o
+        walk-reads (split f) (suc d) s at b m o fit p =
+            let w = split-stands (tells form) f (children b) s at m (overs-count (Good r judge) f d (children b) (o .1)) (fit .0) p in
+            walk-split r judge (suc d) s at b (at + length (bytesOf 0)) d (w .number) refl (o .0)
+            ∙ rw (w .are) (each-reads f d s (firstChild (tells form) f at) (children b) (w .lengths) m (o .1) (fit .1) (w .held) (w .stand))
 
-        each-reads : (f : Forest) (d : ℕ) (s : List ℕ) (at : ℕ) (bs : List Box) (m : ℕ) → Overs r (Good r judge) f d bs → Stands s at (layouts f) m
-            → each (λ p c. walk r judge d s p c) bs at ≡ Walk.Next m
-        each-reads leaf d s at [] m o p = let q : m ≡ at = omega (arith, p .end) in rw q refl
-        each-reads leaf d s at (b ∷ bs) m o p = absurd o
-        each-reads (more t f) d s at [] m o p = absurd o
-        each-reads (more t f) d s at (b ∷ bs) m o p =
-            rw (walk-reads t d s at b (at + length (layout t)) (o .0) (stand-front (layout t) (layouts f) p))
-            (each-reads f d s (at + length (layout t)) bs m (o .1) (stand-back (layout t) (layouts f) p))
+        each-reads : (f : Forest) (d : ℕ) (s : List ℕ) (at : ℕ) (bs : List Box) (ls : List Length) (m : ℕ) → Overs r (Good r judge) f d bs
+            → FitsEach (tells form) f → Held (tells form) ls f → Stands s at (layouts (tells form) f) m
+            → each (λ p c. walk r judge d s p c) bs ls at ≡ Walk.Next m
+        each-reads leaf d s at [] [] m o fit h p = let q : m ≡ at = omega (arith, p .end) in rw q refl
+        each-reads leaf d s at [] (l ∷ ls) m o fit h p = let q : m ≡ at = omega (arith, p .end) in rw q refl
+        each-reads leaf d s at (b ∷ bs) ls m o fit h p = absurd o
+        each-reads (more t f) d s at [] ls m o fit h p = absurd o
+        each-reads (more t f) d s at (b ∷ bs) [] m o fit h p =
+            let tree = layout (tells form) t in
+            let rest = layouts (tells form) f in
+            rw (walk-reads t d s at b (at + length tree) (o .0) (fit .0) (stand-front tree rest p))
+            (each-reads f d s (at + length tree) bs [] m (o .1) (fit .1) h (stand-back tree rest p))
+        each-reads (more t f) d s at (b ∷ bs) (l ∷ ls) m o fit h p =
+            let tree = layout (tells form) t in
+            let rest = layouts (tells form) f in
+            let size : l .size ≡ length tree = h .0 in
+            rw (walk-reads t d s at b (at + length tree) (o .0) (fit .0) (stand-front tree rest p), size, eq-eqb (at + length tree) (at + length tree) refl)
+            (each-reads f d s (at + length tree) bs ls m (o .1) (fit .1) (h .1) (stand-back tree rest p))

@@ -1,6 +1,6 @@
--- The bounds of page TableLengths are reached, and by the maker: of page Turning's plant the table of form 1 has just 30,039 bytes and that of form 3 just
--- 32,769. They split R down to its 4,096 readings, form 1 six times over and form 3 twelve times, each side in turn, and have six modes in each tile. Relies on
--- pages Made and Halving; the tables are not computed. Tables with modes of two bytes are left out.
+-- The bounds of page TableLengths are reached, and by the maker: of page Turning's plant the table of form 1 has just 30,039 bytes, that of form 2 just 34,389 and that
+-- of form 3 just 32,769. They split R down to its 4,096 readings, forms 1 and 2 six times over and form 3 twelve times, each side in turn, and have six modes in each
+-- tile. Relies on pages Made and Halving; the tables are not computed. Tables with modes of two bytes are left out.
 use Prim.Native.Nat.{ℕ, zero, suc, _+_, _*_, _/_, _≤_, _<_}
 use mathlib.Core.Path.{_≡_, refl, sym, ap, subst, _∙_}
 use mathlib.Core.Bool.{Bool, true, false, _||_, cond}
@@ -22,16 +22,18 @@ use Rattle.meaning.specs.Computing.{computing}
 use Rattle.meaning.specs.Defined as D
 use Rattle.meaning.specs.Defined.{treeOf, definedTree}
 use Rattle.meaning.specs.Files.{good}
+use Rattle.meaning.specs.Numbers.{bytesOf}
 use Rattle.meaning.specs.Plants.{rootOf}
-use Rattle.meaning.specs.Tables.{checked, made}
+use Rattle.meaning.specs.Tables.{oneSide, knownForm, checked, made}
 use Rattle.meaning.specs.Trees as Y
-use Rattle.meaning.specs.Trees.{Tree, split, tile, leaf, more, layout, tableOf}
+use Rattle.meaning.specs.Trees.{Tree, split, tile, leaf, more, tells, layout, tableOf}
+use Rattle.promises.specs.files.Bytes.{one-byte}
 use Rattle.promises.specs.tables.Halving.{larger-first, larger-second, larger-both}
 use Rattle.promises.specs.tables.Made.{made-accepted, made-exactly}
 use Rattle.promises.specs.files.Judged.{judged-sound}
 use Rattle.promises.specs.tables.PlantRules.{table-size}
-use Rattle.promises.specs.tables.TableLengths as L
-use Rattle.promises.specs.tables.TableLengths.{most}
+use Rattle.promises.specs.tables.TreeLengths as L
+use Rattle.promises.specs.tables.TreeLengths.{most}
 use Rattle.promises.specs.tables.Turning.{bytes, p, judged, r, six, none-first, six-first}
 
 -- ---- the tree: split d times over, then tiles of six modes
@@ -40,14 +42,41 @@ unfoldable full : ℕ → Tree
 full zero = tile six
 full (suc d) = split (more (full d) (more (full d) (more (full d) (more (full d) leaf))))
 
-full-length : (d : ℕ) → length (layout (full d)) ≡ most 4 7 d
-unfolding computing full L.most Y.layout
-full-length zero = refl
-full-length (suc d) =
-    let l = layout (full d) in
+six-length : (told : Bool) → length (layout told (tile six)) ≡ 7
+unfolding computing
+six-length false = refl
+six-length true = refl
+
+full-length : (told : Bool) (d : ℕ) → length (layout told (full d)) ≡ most told 4 7 d
+unfolding full L.most Y.layout
+full-length told zero = six-length told
+full-length false (suc d) =
+    let l = layout false (full d) in
     omega (
       arith,
-      full-length d,
+      full-length false d,
+      ap length (one-byte 0 (omega arith)),
+      length-append (bytesOf 0) (l ++ (l ++ (l ++ (l ++ [])))),
+      length-append l (l ++ (l ++ (l ++ []))),
+      length-append l (l ++ (l ++ [])),
+      length-append l (l ++ []),
+      length-append l [],
+    )
+full-length true (suc d) =
+    let l = layout true (full d) in
+    let e : length l ≡ most true 4 7 d = full-length true d in
+    let k = bytesOf (length l) in
+    let size : length k ≡ length (bytesOf (most true 4 7 d)) = rw e refl in
+    omega (
+      arith,
+      e,
+      size,
+      ap length (one-byte 0 (omega arith)),
+      length-append (bytesOf 0) ((k ++ (k ++ (k ++ []))) ++ (l ++ (l ++ (l ++ (l ++ []))))),
+      length-append (k ++ (k ++ (k ++ []))) (l ++ (l ++ (l ++ (l ++ [])))),
+      length-append k (k ++ (k ++ [])),
+      length-append k (k ++ []),
+      length-append k [],
       length-append l (l ++ (l ++ (l ++ []))),
       length-append l (l ++ (l ++ [])),
       length-append l (l ++ []),
@@ -88,23 +117,24 @@ children-full d a c =
 
 -- ---- the tree is the defined one
 
-tree-full : (d a c : ℕ) → 1000 ≤ a → a + beyond d ≤ 1063 → 1000 ≤ c → c + beyond d ≤ 1063 → treeOf (r 1) d (box d a c) ≡ some (full d)
+tree-full : (form : ℕ) → oneSide form ≡ false → (d a c : ℕ) → 1000 ≤ a → a + beyond d ≤ 1063 → 1000 ≤ c → c + beyond d ≤ 1063 → treeOf (r form) d (box d a c) ≡ some (full d)
 unfolding D.treeOf D.allOf full beyond
-tree-full zero a c la ha lc hc =
+tree-full form all zero a c la ha lc hc =
     let ha : a ≤ 1063 = omega arith in
     let hc : c ≤ 1063 = omega arith in
-    rw (add-zero a, add-zero c) (rw (six-first 1 a c la ha lc hc) refl)
-tree-full (suc d) a c la ha lc hc =
+    rw (add-zero a, add-zero c) (rw (six-first form a c la ha lc hc) refl)
+tree-full form all (suc d) a c la ha lc hc =
     let w = beyond d in
     let m = a + w + 1 in
     let k = c + w + 1 in
     rw (
-      none-first 1 a (a + (2 * w + 1)) c (c + (2 * w + 1)) (omega arith) (omega arith) lc ha,
+      none-first form a (a + (2 * w + 1)) c (c + (2 * w + 1)) (omega arith) (omega arith) lc ha,
+      all,
       children-full d a c,
-      tree-full d a c la (omega arith) lc (omega arith),
-      tree-full d m c (omega arith) (omega arith) lc (omega arith),
-      tree-full d a k la (omega arith) (omega arith) (omega arith),
-      tree-full d m k (omega arith) (omega arith) (omega arith) (omega arith),
+      tree-full form all d a c la (omega arith) lc (omega arith),
+      tree-full form all d m c (omega arith) (omega arith) lc (omega arith),
+      tree-full form all d a k la (omega arith) (omega arith) (omega arith),
+      tree-full form all d m k (omega arith) (omega arith) (omega arith) (omega arith),
     ) refl
 
 deep : p .d ≡ 6
@@ -115,23 +145,38 @@ root-is : rootOf p ≡ box 6 1000 1000
 unfolding computing beyond
 root-is = refl
 
-defined : definedTree (r 1) ≡ some (full 6)
+defined : (form : ℕ) → oneSide form ≡ false → definedTree (r form) ≡ some (full 6)
 unfolding beyond
-defined =
-    subst (λ (d : ℕ). treeOf (r 1) d (rootOf p) ≡ some (full 6)) (sym deep)
-    (subst (λ (b : List Side). treeOf (r 1) 6 b ≡ some (full 6)) (sym root-is) (tree-full 6 1000 1000 (omega arith) (omega arith) (omega arith) (omega arith)))
+defined form all =
+    subst (λ (d : ℕ). treeOf (r form) d (rootOf p) ≡ some (full 6)) (sym (depth-is form all))
+    (subst (λ (b : List Side). treeOf (r form) 6 b ≡ some (full 6)) (sym root-is) (tree-full form all 6 1000 1000 (omega arith) (omega arith) (omega arith) (omega arith)))
+  where
+    depth-is : (form : ℕ) → oneSide form ≡ false → r form .D ≡ 6
+    depth-is form all = rw all deep
 
--- ---- and its table
+-- ---- and its table, of a form that splits all long sides
 
-abbrev table : List ℕ
-table = tableOf (r 1) (full 6)
+abbrev table : ℕ → List ℕ
+table form = tableOf (r form) (full 6)
+
+full-made : (form : ℕ) → knownForm form ≡ true → oneSide form ≡ false
+    → (made bytes form ≡ good (table form)) × (checked bytes (table form) ≡ Verdict.Accepted) × (length (table form) ≡ 2 + most (tells form) 4 7 6)
+full-made form known all =
+    let m = made-exactly bytes p judged form known (table form) .1 (full 6, defined form all, refl) in (
+      m,
+      made-accepted bytes form (table form) m .0,
+      table-size form known p (judged-sound bytes p judged) (rootOf p) (rootOf p) (full 6) ∙ ap (λ (k : ℕ). 2 + k) (full-length (tells form) 6),
+    )
 
 -- some plant's table, made and accepted, has just 30,039 bytes
 pub reached : (plant table : List ℕ) × (made plant 1 ≡ good table) × (checked plant table ≡ Verdict.Accepted) × (length table ≡ 30_039)
 unfolding L.most
-reached =
-    let m = made-exactly bytes p judged 1 refl table .1 (full 6, defined, refl) in
-    (bytes, table, m, made-accepted bytes 1 table m .0, table-size 1 refl p (judged-sound bytes p judged) (full 6) ∙ ap (λ (k : ℕ). 2 + k) (full-length 6))
+reached = let w = full-made 1 refl refl in (bytes, table 1, w .0, w .1, w .2)
+
+-- and of form 2 just 34,389
+pub reached-told : (plant table : List ℕ) × (made plant 2 ≡ good table) × (checked plant table ≡ Verdict.Accepted) × (length table ≡ 34_389)
+unfolding L.most computing
+reached-told = let w = full-made 2 refl refl in (bytes, table 2, w .0, w .1, w .2)
 
 -- ---- form 3: each split halves one side, the first of a square, else the second
 
@@ -139,11 +184,11 @@ unfoldable halvings : ℕ → Tree
 halvings zero = tile six
 halvings (suc d) = split (more (halvings d) (more (halvings d) leaf))
 
-halvings-length : (d : ℕ) → length (layout (halvings d)) ≡ most 2 7 d
+halvings-length : (d : ℕ) → length (layout false (halvings d)) ≡ most false 2 7 d
 unfolding computing halvings L.most Y.layout
 halvings-length zero = refl
 halvings-length (suc d) =
-    let l = layout (halvings d) in
+    let l = layout false (halvings d) in
     omega (arith, halvings-length d, length-append l (l ++ []), length-append l [])
 
 -- of two sides, by which of them reaches further
@@ -262,4 +307,4 @@ pub reached-halved : (plant table : List ℕ) × (made plant 3 ≡ good table) �
 unfolding L.most
 reached-halved =
     let m = made-exactly bytes p judged 3 refl halvedTable .1 (halvings 12, defined-halved, refl) in
-    (bytes, halvedTable, m, made-accepted bytes 3 halvedTable m .0, table-size 3 refl p (judged-sound bytes p judged) (halvings 12) ∙ ap (λ (k : ℕ). 2 + k) (halvings-length 12))
+    (bytes, halvedTable, m, made-accepted bytes 3 halvedTable m .0, table-size 3 refl p (judged-sound bytes p judged) (rootOf p) (rootOf p) (halvings 12) ∙ ap (λ (k : ℕ). 2 + k) (halvings-length 12))

@@ -26,7 +26,7 @@ use Rattle.meaning.specs.Plants.{Plant, plantJudged}
 use Rattle.meaning.specs.Rules.{Rules}
 use Rattle.meaning.specs.Tables as T
 use Rattle.meaning.specs.Tables.{knownForm, formOf, rulesOf, onPlant, checked, tableBytes, definedTable, made, makerLeft}
-use Rattle.meaning.specs.Trees.{Tree, tableOf}
+use Rattle.meaning.specs.Trees.{Tree, tells, tableOf}
 use Rattle.meaning.specs.Verdicts.{verdict}
 use Rattle.promises.specs.files.Buffers.{wrote, left-fits, left-short}
 use Rattle.promises.specs.tables.Checked.{accepted-form}
@@ -219,8 +219,8 @@ module _ (plant : List ℕ) (form : ℕ) (buf : List ℕ) where
   unfolding T.makerLeft
   maker-length = length-answered buf (made plant form)
 
-  -- a buffer of 57,345 bytes is long enough for any
-  pub maker-fits : 57_345 ≤ length buf → makerLeft plant form buf .answer ≡ Written.Refused short → ⊥
+  -- a buffer of 58,965 bytes is long enough for any
+  pub maker-fits : 58_965 ≤ length buf → makerLeft plant form buf .answer ≡ Written.Refused short → ⊥
   maker-fits l a = let w = maker-ten .0 a in omega (arith, w .2, L.at-most plant (w .0) (made-accepted plant form (w .0) (w .1) .0))
 
   -- and of form 1 one of so many is
@@ -229,3 +229,10 @@ module _ (plant : List ℕ) (form : ℕ) (buf : List ℕ) where
       let w = maker-ten .0 a in
       let m = made-accepted plant form (w .0) (w .1) in
       omega (arith, w .2, L.at-most-one plant (w .0) (m .0) (m .1 ∙ one))
+
+  -- and one of 57,345 for any of a form that tells no lengths
+  pub maker-fits-untold : tells form ≡ false → 57_345 ≤ length buf → makerLeft plant form buf .answer ≡ Written.Refused short → ⊥
+  maker-fits-untold untold l a =
+      let w = maker-ten .0 a in
+      let m = made-accepted plant form (w .0) (w .1) in
+      omega (arith, w .2, L.at-most-untold plant (w .0) (m .0) (ap tells (m .1) ∙ untold))

@@ -1,13 +1,14 @@
--- Document 01's rules of a plant that was judged good, of each known form: its numbers meet what page Laws asks of numbers, and a table's header takes two bytes; and the
+-- Document 01's rules of a plant that was judged good, of each known form: its numbers meet what page Laws asks of numbers, lengths too, and a table's header takes two bytes; and the
 -- answers about tables over bytes are those of its rules. How a plant was judged is told by its reader's verdict; a bad one is told first. That they split well and that their patterns keep their word is page PlantMotion.
--- Relies on the ranges of page Sound.
-use Prim.Native.Nat.{ℕ, _+_}
+-- Relies on the ranges of page Sound, and for lengths on page TreeLengths.
+use Prim.Native.Nat.{ℕ, _+_, _≤_}
 use mathlib.Core.Path.{_≡_, refl, ap}
 use mathlib.Core.Bool.{true, false}
 use mathlib.Core.List.{List, _++_}
 use native.Mathlib.Omega.{arith}
 use lib.ListN.{length, length-append}
 use lib.IntN.{ℤ}
+use Rattle.laws.specs.Tabs.{length-tab}
 use Rattle.laws.specs.Tests.{never}
 use Rattle.meaning.specs.declared.Answer.{Answer}
 use Rattle.meaning.specs.declared.Outline.{Outline}
@@ -15,31 +16,55 @@ use Rattle.meaning.specs.declared.PlantRead.{PlantRead}
 use Rattle.meaning.specs.declared.Refusal.{Refusal}
 use Rattle.meaning.specs.declared.State.{State}
 use Rattle.meaning.specs.declared.Verdict.{Verdict}
-use Rattle.meaning.specs.Boxes.{Side}
+use Rattle.meaning.specs.Boxes.{Side, sideAt}
 use Rattle.meaning.specs.Control.{call}
-use Rattle.meaning.specs.Defined.{definedTree}
 use Rattle.meaning.specs.Files.{Judged, good, bad}
 use Rattle.meaning.specs.Numbers.{bytesOf}
 use Rattle.meaning.specs.Refusals.{wrongForm}
-use Rattle.meaning.specs.Plants.{Plant, rootOf, plantJudged, outlineOf, readOf}
+use Rattle.meaning.specs.Plants.{Plant, rootOf, safeOf, stepOf, plantJudged, outlineOf, readOf}
 use Rattle.meaning.specs.Tables as T
-use Rattle.meaning.specs.Tables.{knownForm, formOf, tableRules, rulesOf, checked, definedTable, made, controlled}
-use Rattle.meaning.specs.Trees.{Tree, layout, tableOf}
+use Rattle.meaning.specs.Tables.{knownForm, depthBy, formOf, tableRules, rulesOf, checked, definedTable, made, controlled}
+use Rattle.meaning.specs.Trees.{Tree, tells, layout, tableOf}
 use Rattle.meaning.specs.Verdicts.{verdict}
 use Rattle.promises.specs.files.Bytes.{one-byte}
 use Rattle.promises.specs.files.Judged.{judged-sound}
 use Rattle.promises.specs.tables.Laws.{Sizes}
 use Rattle.promises.specs.tables.Layouts.{headed}
+use Rattle.promises.specs.tables.Shapes.{Shaped}
+use Rattle.promises.specs.tables.SplitLengths.{short-fits}
 use Rattle.promises.specs.tables.TableForms.{form-small, form-byte}
+use Rattle.promises.specs.tables.TreeLengths.{most, childrenMost, tileBytes, tile-most, layout-length, splits-most, cap-by}
 use Rattle.promises.specs.files.Sound.{Sound}
 
+pub root-sides : (p : Plant) → length (rootOf p) ≡ p .n
+root-sides p = length-tab (sideAt (p .rlo) (p .rhi)) (p .n) 0
+
+-- how long a tree of sound shape over a box of n sides may be
+pub over-length : (form : ℕ) (p : Plant) → Sound p → (root goal : List Side) → length root ≡ p .n → (t : Tree) → Shaped (tableRules form p root goal) t
+    → length (layout (tells form) t) ≤ most (tells form) (childrenMost form (p .n)) (tileBytes (p .modes)) (depthBy form (p .n) (p .d))
+over-length form p s root goal sides t o =
+    layout-length form (p .n) (p .modes) (p .k) (p .d) root goal (safeOf p) (stepOf p) (s .ranges .n-high) (s .ranges .m-high) (s .ranges .k-high) sides t o
+
 module _ (form : ℕ) (known : knownForm form ≡ true) (p : Plant) (s : Sound p) where
-  -- the form is 1 or 3, n at most 4, K at most 6, N at most 256: numbers of five bytes hold them, whatever is tiled and wherever patterns end
-  pub sizes-over : (root goal : List Side) → Sizes (tableRules form p root goal)
-  sizes-over root goal = record { forms = omega (arith, form-small form known); dimensions = omega (arith, s .ranges .n-high); nodes = omega (arith, s .ranges .k-high); modes = omega (arith, s .ranges .m-high) }
+  -- the form is at most 3, n at most 4, K at most 6, N at most 256, and no tree is longer than 58,963 bytes: numbers of five bytes hold them, wherever patterns end
+  pub sizes-over : (root goal : List Side) → length root ≡ p .n → Sizes (tableRules form p root goal)
+  sizes-over root goal sides = record {
+    forms = omega (arith, form-small form known);
+    dimensions = omega (arith, s .ranges .n-high);
+    nodes = omega (arith, s .ranges .k-high);
+    modes = omega (arith, s .ranges .m-high);
+    lengths = λ t o.
+        short-fits (tells form) t (omega (
+          arith,
+          over-length form p s root goal sides t o,
+          cap-by form (p .modes) (p .n) (p .d) (s .ranges .n-low) (s .ranges .n-high) (s .ranges .d-high) (s .ranges .nd-high),
+          tile-most (p .modes),
+          splits-most form,
+        ));
+  }
 
   pub sizes : Sizes (rulesOf form p)
-  sizes = sizes-over (rootOf p) (rootOf p)
+  sizes = sizes-over (rootOf p) (rootOf p) (root-sides p)
 
   -- and form and n take a byte each
   pub header-size : headed form (p .n) ≡ 2
@@ -51,13 +76,14 @@ module _ (form : ℕ) (known : knownForm form ≡ true) (p : Plant) (s : Sound p
         ap length (one-byte (p .n) (omega (arith, s .ranges .n-high))),
       )
 
-  pub table-size : (t : Tree) → length (tableOf (rulesOf form p) t) ≡ 2 + length (layout t)
-  table-size t =
+  pub table-size : (root goal : List Side) (t : Tree) → length (tableOf (tableRules form p root goal) t) ≡ 2 + length (layout (tells form) t)
+  table-size root goal t =
+      let tree = layout (tells form) t in
       omega (
         arith,
         header-size,
-        length-append (bytesOf form) (bytesOf (p .n) ++ layout t),
-        length-append (bytesOf (p .n)) (layout t),
+        length-append (bytesOf form) (bytesOf (p .n) ++ tree),
+        length-append (bytesOf (p .n)) tree,
         length-append (bytesOf form) (bytesOf (p .n)),
       )
 

@@ -44,3 +44,9 @@ module _ (r : Rules) where
 
   pub over-map : (P Q : Box → List ℕ → Type 0) → ((b : Box) (us : List ℕ) → P b us → Q b us) → (t : Tree) (d : ℕ) (b : Box) → Over r P t d b → Over r Q t d b
   over-map P Q h t d b o = over-short (longest t) P Q (λ b us _ p. h b us p) t d b (omega arith) o
+
+  pub overs-map : (P Q : Box → List ℕ → Type 0) → ((b : Box) (us : List ℕ) → P b us → Q b us) → (f : Forest) (d : ℕ) (bs : List Box) → Overs r P f d bs → Overs r Q f d bs
+  overs-map P Q h f d bs o = overs-short (longestOf f) P Q (λ b us _ p. h b us p) f d bs (omega arith) o
+
+  pub working-shaped : (t : Tree) → Working t → Shaped t
+  working-shaped t o = over-map (Good (rule r)) (λ b us. Pattern K N us) (λ b us g. g .shape) t D root o

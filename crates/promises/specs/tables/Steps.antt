@@ -4,6 +4,7 @@ use Prim.Native.Nat.{ℕ, zero, suc}
 use mathlib.Core.Path.{_≡_, refl, ap, _∙_, fun-ext}
 use mathlib.Core.List.{List}
 use lib.Dec.{eqb}
+use lib.ListN.{length}
 use lib.IntN.{ℤ}
 use Rattle.laws.specs.Guards.{guard}
 use Rattle.meaning.specs.declared.Tried.{Tried}
@@ -13,12 +14,13 @@ use Rattle.meaning.specs.declared.Found.{Found}
 use Rattle.meaning.specs.declared.State.{State}
 use Rattle.meaning.specs.declared.Answer.{Answer}
 use Rattle.meaning.specs.Boxes.{Side}
-use Rattle.meaning.specs.Control.{tileFound, among, onFound, find, inside, stateCall, call}
+use Rattle.meaning.specs.Control.{tileFound, pastFile, unlessPast, passBy, among, onFound, find, inside, stateCall, call}
 use Rattle.meaning.specs.Images.{Step}
 use Rattle.meaning.specs.Refusals.{badTable, badState}
 use Rattle.meaning.specs.Rules.{Rules, holds}
 use Rattle.meaning.specs.Tables.{childrenBy, depthBy, rulesFrom}
-use Rattle.meaning.specs.Verdicts.{onWalk, onModes, each, splitAt, modesAt, nodeAt, walk, header}
+use Rattle.meaning.specs.Trees.{tells}
+use Rattle.meaning.specs.Verdicts.{onWalk, onRead, onModes, lengthsBy, each, splitAt, modesAt, nodeAt, walk, header}
 
 -- two plants that differ at most in what their modes do
 module _ (form n N K D : ℕ) (root goal safe : List Side) (step step′ : ℕ → Step) where
@@ -33,7 +35,8 @@ module _ (form n N K D : ℕ) (root goal safe : List Side) (step step′ : ℕ �
     where
       node : (ℕ → List Side → Walk) → Walk
       node one = nodeAt K s at Walk.Refused
-          (λ next. splitAt (childrenBy form b) (Walk.Refused (badTable at)) λ cs. each one cs next)
+          (λ next. splitAt (childrenBy form b) (Walk.Refused (badTable at)) λ cs.
+          onRead (lengthsBy (tells form) cs s next) Walk.Refused λ ls first. each one cs ls first)
           (λ k next. onModes (modesAt N k s next) at (judge b))
 
   -- the tile that holds a reading
@@ -49,7 +52,10 @@ module _ (form n N K D : ℕ) (root goal safe : List Side) (step step′ : ℕ �
 
       node : (ℕ → List Side → Found) → (ℕ → List Side → Walk) → Found
       node enter over = nodeAt K s at Found.Refused
-          (λ next. splitAt (childrenBy form b) (Found.Refused (badTable at)) λ cs. among (λ c. holds (by step) c x) enter over at cs next)
+          (λ next. splitAt (childrenBy form b) (Found.Refused (badTable at)) λ cs.
+          onRead (lengthsBy (tells form) cs s next) Found.Refused λ ls first.
+          unlessPast (pastFile (length s) ls first) (λ place. Found.Refused (badTable place)) λ _.
+          among (λ c. holds (by step) c x) enter (passBy (tells form) over) at cs ls first)
           (λ k next. tileFound (modesAt N k s next) next k)
 
   state-same : (s : List ℕ) (at place left : ℕ) (x : List ℤ) → stateCall (by step) s at place left x ≡ stateCall (by step′) s at place left x

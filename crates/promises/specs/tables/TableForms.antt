@@ -1,9 +1,9 @@
--- The forms of tables (request 2026-06): those that are known are 1 and 3, so each takes one byte; the form that a table's header says is a known one; and
+-- The forms of tables (requests 2026-01 and 2026-06): those that are known are 1, 2 and 3, so each takes one byte; the form that a table's header says is a known one; and
 -- a header of a known form says that form, and any other is 2. Relies on meaning's page Tables and the laws of numbers. What each form means for a table is its rules alone.
-use Prim.Native.Nat.{ℕ, _^_, _<_}
+use Prim.Native.Nat.{ℕ, _<_}
 use mathlib.Core.Path.{_≡_, refl, sym, ap, _∙_}
 use mathlib.Core.Bool.{Bool, true, false, _||_, cond}
-use mathlib.Core.List.{List, [], _++_, append-nil}
+use mathlib.Core.List.{List, [], append-nil}
 use mathlib.Core.Logic.{_↔_, _⊎_, inl, inr}
 use native.Mathlib.Omega.{arith}
 use borrow.Author.Tests.{eqb-true, eq-eqb}
@@ -18,7 +18,7 @@ use Rattle.meaning.specs.Refusals.{broken, wrongForm, badTable}
 use Rattle.meaning.specs.Numbers.{numberAt, bytesOf}
 use Rattle.meaning.specs.Rules.{Rules}
 use Rattle.meaning.specs.Tables.{oneSide, knownForm, formTold, formOf}
-use Rattle.meaning.specs.Trees.{Tree, tableOf}
+use Rattle.meaning.specs.Trees.{Tree, tells, tableOf}
 use Rattle.meaning.specs.Verdicts as W
 use Rattle.meaning.specs.Verdicts.{onNumber, header}
 use Rattle.promises.specs.files.Bytes.{one-byte}
@@ -29,20 +29,22 @@ use Rattle.promises.specs.tables.Walking.{number-read}
 -- ---- the known forms
 
 module _ (form : ℕ) where
-  pub one-or-three : knownForm form ≡ true → (form ≡ 1) ⊎ (form ≡ 3)
-  one-or-three = go (eqb form 1) refl
+  pub one-of-three : knownForm form ≡ true → (form ≡ 1) ⊎ ((form ≡ 2) ⊎ (form ≡ 3))
+  one-of-three = go (eqb form 1) refl (tells form) refl
     where
-      go : (c : Bool) → eqb form 1 ≡ c → (c || oneSide form) ≡ true → (form ≡ 1) ⊎ (form ≡ 3)
-      go true q e = inl (eqb-true form 1 q)
-      go false q e = inr (eqb-true form 3 e)
+      go : (c : Bool) → eqb form 1 ≡ c → (d : Bool) → tells form ≡ d → (c || d || oneSide form) ≡ true → (form ≡ 1) ⊎ ((form ≡ 2) ⊎ (form ≡ 3))
+      go true p d q e = inl (eqb-true form 1 p)
+      go false p true q e = inr (inl (eqb-true form 2 q))
+      go false p false q e = inr (inr (eqb-true form 3 e))
 
   -- so a known form is a number of one byte
   pub form-small : knownForm form ≡ true → form < 128
-  form-small e = go (one-or-three e)
+  form-small e = go (one-of-three e)
     where
-      go : (form ≡ 1) ⊎ (form ≡ 3) → form < 128
+      go : (form ≡ 1) ⊎ ((form ≡ 2) ⊎ (form ≡ 3)) → form < 128
       go (inl q) = omega (arith, q)
-      go (inr q) = omega (arith, q)
+      go (inr (inl q)) = omega (arith, q)
+      go (inr (inr q)) = omega (arith, q)
 
   pub form-byte : knownForm form ≡ true → length (bytesOf form) ≡ 1
   form-byte e = ap length (one-byte form (form-small e))
@@ -82,7 +84,7 @@ pub table-form : (r : Rules) → Sizes r → knownForm (r .form) ≡ true → (s
 table-form r sizes known s t is =
     header-form (r .form) (r .n) known s (headed (r .form) (r .n)) (table-header r sizes s [] t (is ∙ sym (append-nil (tableOf r t))))
 
--- ---- 2 means neither form
+-- ---- 2 means no known form
 
 refusal-is : {e f : Refusal} → Walk.Refused e ≡ Walk.Refused f → e ≡ f
 refusal-is q = cc
@@ -116,7 +118,7 @@ two-exactly n s = go (numberAt s 0)
     by-form form next true q = (λ e. absurd (behind next (rw (eq-eqb form form refl) at e)), λ e. never cc)
     by-form form next false q = (λ e. refl, λ e. rw (not-one (eqb form 1) q) refl)
       where
-        not-one : (b : Bool) → (b || oneSide form) ≡ false → b ≡ false
+        not-one : (b : Bool) → (b || tells form || oneSide form) ≡ false → b ≡ false
         not-one true e = never cc
         not-one false e = refl
 

@@ -58,7 +58,7 @@ front-length hs (r ∷ rs) = length-append (map (λ h. h ∷ r) hs) (inFront hs 
     heads [] r = refl
     heads (h ∷ hs) r = ap suc (heads hs r)
 
-pieces-length : (b : List Side) → length (pieces b) ≡ countOf b
+pub pieces-length : (b : List Side) → length (pieces b) ≡ countOf b
 unfolding pieces countOf
 pieces-length [] = refl
 pieces-length (s ∷ ss) = go (long s) (pieces-length ss)
@@ -110,11 +110,11 @@ module _ (b : List Side) where
       go true h = refl
       go false h = absurd (e h)
 
-  children-none : countOf b ≡ 1 → children b ≡ []
+  pub children-none : countOf b ≡ 1 → children b ≡ []
   unfolding children
   children-none e = rw (none-long e) refl
 
-  children-some : (countOf b ≡ 1 → ⊥) → children b ≡ pieces b
+  pub children-some : (countOf b ≡ 1 → ⊥) → children b ≡ pieces b
   unfolding children
   children-some e = rw (some-long e) refl
 

@@ -42,6 +42,15 @@ module _ (can : Bool) (c : can ≡ true) (n : ℕ) (lo hi x : List ℤ) (i : ℕ
   pub admit-both : n ≤ i → Verdict.Accepted ≡ admission can (B.fits (B.sidesOf n lo hi) (readingOf n x))
   admit-both h = let e = held n lo hi x (omega (arith, q, h)) in simp (c, e)
 
+-- where it may, the box holds the reading
+pub admitted : (can : Bool) (fit : List Bool) → admission can fit ≡ Verdict.Accepted → all fit ≡ true
+admitted can fit e = go can (all fit) (firstFalse fit) e
+  where
+    go : (can held : Bool) (i : ℕ) → guard can (Verdict.Refused badState) (λ _. guard held (Verdict.Refused (outside i)) λ _. Verdict.Accepted) ≡ Verdict.Accepted → held ≡ true
+    go true true i e = refl
+    go true false i e = never cc
+    go false held i e = never cc
+
 -- what is behind it, where it was refused and where not
 stopped : (can all : Bool) (i : ℕ) (rest : Unit {0} → Answer) (e : Refusal)
     → guard can (Verdict.Refused badState) (λ _. guard all (Verdict.Refused (outside i)) λ _. Verdict.Accepted) ≡ Verdict.Refused e

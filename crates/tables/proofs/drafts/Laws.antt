@@ -2,16 +2,16 @@
 -- by its parts. Assumes nothing.
 use Prim.Native.Nat.{ℕ, zero, suc, _+_, _*_, _-_, _^_, _≤_, _<_}
 use mathlib.Core.Path.{_≡_, refl, sym, ap, _∙_}
+use mathlib.Core.Bool.{Bool, true, false, cond}
 use mathlib.Core.List.{List, [], _∷_, _++_}
 use mathlib.Core.Option.{Option, none, some}
 use native.Mathlib.Omega.{arith}
 use borrow.Author.Tests.{le-leb}
 use native.Mathlib.Numerals.{add-one}
 use lib.IntN.{ℤ}
-use lib.ListN.{length, getD, drop, take, drop-of-length-le}
+use lib.ListN.{length, getD, drop, take, length-append, drop-of-length-le}
 use lib.Seq.{drop-cons}
 use Rattle.laws.specs.Lists.{tab}
-use Rattle.laws.specs.Tests.{never}
 use Rattle.laws.specs.Tabs.{length-tab, tab-step, tab-done}
 use Rattle.laws.specs.Writing.{Put, put-append, put-length, put-none}
 use Rattle.meaning.specs.Refusals.{noTable}
@@ -19,12 +19,15 @@ use Rattle.meaning.specs.Numbers.{bytesOf}
 use Rattle.meaning.specs.Files.{good, bad}
 use Rattle.meaning.specs.Boxes.{Side, sideAt}
 use Rattle.meaning.specs.Rules.{Rules}
-use Rattle.meaning.specs.Trees.{Tree, Forest, split, tile, more, modesBytes, layout, layouts, tableOf}
+use Rattle.meaning.specs.Trees.{Tree, Forest, split, tile, more, modesBytes, tells, layout, layouts, Pattern, tableOf}
 use Rattle.meaning.specs.Defined.{mapSome, andAlso, allOf, splitOf, firstPattern, treeOf, definedTree}
-use Rattle.meaning.specs.Tables.{childrenBy, depthBy, tableBytes, definedTable}
+use Rattle.meaning.specs.Tables.{oneSide, childrenBy, depthBy, definedTable}
+use Rattle.promises.specs.files.Bytes.{one-byte}
 use Rattle.promises.specs.tables.Exists.{defined-works}
-use Rattle.promises.specs.tables.TableForms.{form-small}
-use Rattle.promises.specs.tables.TableLengths.{most, childrenMost, tileBytes, splitsMost, splits-most, tile-most, table-length, cap-by, cap-few-by}
+use Rattle.promises.specs.tables.SameTree.{rooted-alike}
+use Rattle.promises.specs.tables.Shapes.{Shaped, working-shaped}
+use Rattle.promises.specs.tables.TableForms.{form-byte}
+use Rattle.promises.specs.tables.TreeLengths.{most, childrenMost, tileBytes, tile-most, told-sides, layout-length, cap, cap-halving, cap-few, cap-halving-few}
 use Rattle.files.specs.DraftLaws.{InDraft, in-buffer}
 use Rattle.tables.specs.declared.frames.Frame.{Frame}
 use Rattle.tables.specs.declared.drafts.Grown.{Grown}
@@ -32,7 +35,8 @@ use Rattle.tables.specs.Boxes.{boxOf}
 use Rattle.tables.specs.Frames.{stepIn, rulesIn, FrameSound}
 use Rattle.tables.specs.Search.{patternBy}
 use Rattle.tables.specs.Tiles.{modeAt, patternOf}
-use Rattle.tables.specs.Drafts.{Wrote, bytesMost, treeBytes, treesBytes, definedBytes}
+use Rattle.tables.specs.Drafts.{Wrote, bytesMost, treeBytes, treesBytes, draftOf, draftBytes}
+use Rattle.tables.specs.Turns.{tableBy}
 
 -- ---- a tile: its modes from the j-th on are left
 
@@ -41,7 +45,7 @@ module _ (k : ℕ) (us : List ℕ) where
   modesFrom j = modesBytes (tab (modeAt us) (k - j) j)
 
   pub tile-whole : {buf : List ℕ} {at next : ℕ} {mid : List ℕ} {last : ℕ} {out : List ℕ} → Put buf at (bytesOf k) next mid → Put mid next (modesBytes (patternOf k us)) last out
-      → Put buf at (layout (tile (patternOf k us))) last out
+      → Put buf at (layout false (tile (patternOf k us))) last out
   unfolding layout
   tile-whole t v = rw (length-tab (modeAt us) k 0) (put-append t v)
 
@@ -72,11 +76,11 @@ wrote-length none buf at Grown.Nothing out w = w
 -- ---- a box by its first pattern
 
 module _ (r : Rules) (d : ℕ) (b : Rules.Box r) where
-  box-tile : (us : List ℕ) → firstPattern r b ≡ some us → treeBytes r d b ≡ some (layout (tile us))
+  box-tile : (us : List ℕ) → firstPattern r b ≡ some us → treeBytes r d b ≡ some (layout false (tile us))
   unfolding treeOf
   box-tile us e = go d
     where
-      go : (d : ℕ) → treeBytes r d b ≡ some (layout (tile us))
+      go : (d : ℕ) → treeBytes r d b ≡ some (layout false (tile us))
       go zero = rw e refl
       go (suc d) = rw e refl
 
@@ -93,7 +97,7 @@ module _ (r : Rules) (d : ℕ) (b : Rules.Box r) where
       go (suc d) = rw (e, h) refl
 
 -- number 0, then the children
-split-bytes : (o : Option Forest) → mapSome layout (mapSome split o) ≡ mapSome (λ ys. bytesOf 0 ++ ys) (mapSome layouts o)
+split-bytes : (o : Option Forest) → mapSome (layout false) (mapSome split o) ≡ mapSome (λ ys. bytesOf 0 ++ ys) (mapSome (layouts false) o)
 unfolding layout
 split-bytes (some f) = refl
 split-bytes none = refl
@@ -103,12 +107,12 @@ box-split : (r : Rules) (d : ℕ) (b : Rules.Box r) → firstPattern r b ≡ non
 unfolding treeOf
 box-split r d b e h = rw e (go (Rules.children r b) h)
   where
-    go : (bs : List (Rules.Box r)) → (bs ≡ [] → ⊥) → mapSome layout (splitOf (λ c. treeOf r d c) bs) ≡ mapSome (λ ys. bytesOf 0 ++ ys) (treesBytes r d bs)
+    go : (bs : List (Rules.Box r)) → (bs ≡ [] → ⊥) → mapSome (layout false) (splitOf (λ c. treeOf r d c) bs) ≡ mapSome (λ ys. bytesOf 0 ++ ys) (treesBytes r d bs)
     go [] z = absurd (z refl)
     go (b ∷ bs) z = split-bytes (allOf (λ c. treeOf r d c) (b ∷ bs))
 
 -- a tree and those behind it
-more-bytes : (t : Tree) (o : Option Forest) → mapSome layouts (mapSome (more t) o) ≡ mapSome (λ ys. layout t ++ ys) (mapSome layouts o)
+more-bytes : (t : Tree) (o : Option Forest) → mapSome (layouts false) (mapSome (more t) o) ≡ mapSome (λ ys. layout false t ++ ys) (mapSome (layouts false) o)
 unfolding layouts
 more-bytes t (some f) = refl
 more-bytes t none = refl
@@ -134,21 +138,21 @@ module _ (r : Rules) (d : ℕ) (bs : List (Rules.Box r)) (c : ℕ) (buf₀ : Lis
 
   -- the next box, as the code has it, and what was written for it
   module _ (b₀ : Rules.Box r) (h : c < length bs) (kid : Rules.Box r) (k : kid ≡ getD bs c b₀) (a : Grown) (out : List ℕ) (w : Wrote (treeBytes r d kid) buf place a out) where
-    next-box : (o : Option Tree) → treeOf r d kid ≡ o → treesBytes r d (drop c bs) ≡ mapSome layouts (andAlso o λ _. allOf (λ c. treeOf r d c) (drop (c + 1) bs))
+    next-box : (o : Option Tree) → treeOf r d kid ≡ o → treesBytes r d (drop c bs) ≡ mapSome (layouts false) (andAlso o λ _. allOf (λ c. treeOf r d c) (drop (c + 1) bs))
     unfolding allOf
     next-box o e = rw (add-one, drop-cons bs c b₀ h, ← k, e) refl
 
     pub grow-stopped : a ≡ Grown.Nothing → Wrote whole buf₀ at Grown.Nothing out
     grow-stopped z = go (treeOf r d kid) refl (rw z at w)
       where
-        go : (o : Option Tree) → treeOf r d kid ≡ o → Wrote (mapSome layout o) buf place Grown.Nothing out → Wrote whole buf₀ at Grown.Nothing out
+        go : (o : Option Tree) → treeOf r d kid ≡ o → Wrote (mapSome (layout false) o) buf place Grown.Nothing out → Wrote whole buf₀ at Grown.Nothing out
         go (some t) e v = absurd v
         go none e v = g .goes Grown.Nothing out (rw (next-box none e) v)
 
     pub grow-more : (next : ℕ) → a ≡ Grown.Next next → Growing buf₀ at whole (treesBytes r d (drop (c + 1) bs)) next out
     grow-more next z = go (treeOf r d kid) refl (rw z at w)
       where
-        go : (o : Option Tree) → treeOf r d kid ≡ o → Wrote (mapSome layout o) buf place (Grown.Next next) out → Growing buf₀ at whole (treesBytes r d (drop (c + 1) bs)) next out
+        go : (o : Option Tree) → treeOf r d kid ≡ o → Wrote (mapSome (layout false) o) buf place (Grown.Next next) out → Growing buf₀ at whole (treesBytes r d (drop (c + 1) bs)) next out
         go none e v = absurd v
         go (some t) e v = record {
           long = put-length v ∙ g .long;
@@ -164,7 +168,7 @@ empty [] e = refl
 empty (x ∷ xs) e = absurd (omega arith)
 
 module _ (f : Frame) (bands coef : List ℤ) (d : ℕ) (b : List Side) (size : ℕ) (us : List ℕ) (q : patternBy size us ≡ firstPattern (rulesIn f bands coef) b) (buf : List ℕ) (at : ℕ) where
-  pub node-tile : (size ≡ 0 → ⊥) → (next : ℕ) (out : List ℕ) → Put buf at (layout (tile (patternOf size us))) next out → Wrote (treeBytes (rulesIn f bands coef) d b) buf at (Grown.Next next) out
+  pub node-tile : (size ≡ 0 → ⊥) → (next : ℕ) (out : List ℕ) → Put buf at (layout false (tile (patternOf size us))) next out → Wrote (treeBytes (rulesIn f bands coef) d b) buf at (Grown.Next next) out
   node-tile z next out t = rw (box-tile (rulesIn f bands coef) d b (patternOf size us) (sym q ∙ there size z)) t
     where
       there : (k : ℕ) → (k ≡ 0 → ⊥) → patternBy k us ≡ some (patternOf k us)
@@ -191,100 +195,123 @@ module _ (f : Frame) (bands coef : List ℤ) (d : ℕ) (b : List Side) (size : �
 
 -- ---- the whole table: form, n, then the tree of the box that is tiled
 
-header-bytes : (r : Rules) (o : Option Tree) → mapSome (tableOf r) o ≡ mapSome (λ ys. bytesOf (Rules.form r) ++ ys) (mapSome (λ ys. bytesOf (Rules.n r) ++ ys) (mapSome layout o))
+header-bytes : (r : Rules) (o : Option Tree) → mapSome (draftOf r) o ≡ mapSome (λ ys. bytesOf (Rules.form r) ++ ys) (mapSome (λ ys. bytesOf (Rules.n r) ++ ys) (mapSome (layout false) o))
 header-bytes r (some t) = refl
 header-bytes r none = refl
+
+-- a draft of it: its front, where the draft has room for it
+pub record Drafted (r : Rules) (size : ℕ) (out : List ℕ) : Type 0 where
+  pub tree : Tree
+  pub is : definedTree r ≡ some tree
+  pub held : InDraft (draftOf r tree) size out
 
 module _ (r : Rules) where
   open Rules r using (form, n, D, root)
 
   pub table-wrote : {buf : List ℕ} {past-form : ℕ} {mid : List ℕ} {past-rooms : ℕ} {behind : List ℕ} → Put buf 0 (bytesOf form) past-form mid → Put mid past-form (bytesOf n) past-rooms behind
-      → (a : Grown) (out : List ℕ) → Wrote (treeBytes r D root) behind past-rooms a out → Wrote (definedBytes r) buf 0 a out
+      → (a : Grown) (out : List ℕ) → Wrote (treeBytes r D root) behind past-rooms a out → Wrote (draftBytes r) buf 0 a out
   table-wrote t v a out w =
       let o = treeBytes r D root in
       rw (header-bytes r (definedTree r)) (wrote-behind t (mapSome (λ ys. bytesOf n ++ ys) o) a out (wrote-behind v o a out w))
 
-  -- ---- a draft of it: nothing where there is none, else its front is the table, where the draft has room for it
-
-  module _ (draft : List ℕ) (a : Grown) (out : List ℕ) (w : Wrote (definedBytes r) draft 0 a out) where
-    pub draft-none : a ≡ Grown.Nothing → definedBytes r ≡ none
-    draft-none z = go (definedBytes r) (rw z at w)
+  module _ (draft : List ℕ) (a : Grown) (out : List ℕ) (w : Wrote (draftBytes r) draft 0 a out) where
+    -- nothing where there is none
+    pub draft-none : a ≡ Grown.Nothing → definedTree r ≡ none
+    draft-none z = go (definedTree r) (rw z at w)
       where
-        go : (o : Option (List ℕ)) → Wrote o draft 0 Grown.Nothing out → o ≡ none
+        go : (o : Option Tree) → Wrote (mapSome (draftOf r) o) draft 0 Grown.Nothing out → o ≡ none
         go (some t) v = absurd v
         go none v = refl
 
-    module _ (size : ℕ) (z : a ≡ Grown.Next size) (room : (t : Tree) → definedTree r ≡ some t → length (tableOf r t) ≤ length draft) where
-      -- what was drafted is the table of a tree
-      record Drafted : Type 0 where
-        t : Tree
-        is : definedTree r ≡ some t
-        held : InDraft (tableOf r t) size out
+    drafted-by : (size : ℕ) → a ≡ Grown.Next size → ((t : Tree) → definedTree r ≡ some t → length (draftOf r t) ≤ length draft) → Drafted r size out
+    drafted-by size z room = go (definedTree r) refl (rw z at w)
+      where
+        go : (o : Option Tree) → definedTree r ≡ o → Wrote (mapSome (draftOf r) o) draft 0 (Grown.Next size) out → Drafted r size out
+        go none e v = absurd v
+        go (some t) e v = record { tree = t; is = e; held = in-buffer draft (draftOf r t) size out (room t e) v }
 
-      drafted : Drafted
-      drafted = go (definedTree r) refl (rw z at w)
-        where
-          go : (o : Option Tree) → definedTree r ≡ o → Wrote (mapSome (tableOf r) o) draft 0 (Grown.Next size) out → Drafted
-          go none e v = absurd v
-          go (some t) e v = record { t = t; is = e; held = in-buffer draft (tableOf r t) size out (room t e) v }
+  -- what is said of box i's table by its tree
+  pub table-none : (i : ℕ) → definedTree r ≡ none → definedTable i r ≡ bad (noTable i)
+  table-none i e = rw e refl
 
-      fits-by : size ≤ length out
-      fits-by = drafted .held .fits
+  pub table-some : (i : ℕ) (t : Tree) → definedTree r ≡ some t → definedTable i r ≡ good (tableOf r t)
+  table-some i t e = rw e refl
 
-      front-by : definedBytes r ≡ some (take size out)
-      front-by =
-          let d = drafted in
-          let e : definedTree r ≡ some (d .t) = d .is in
-          let q : take size out ≡ tableOf r (d .t) = d .held .front in
-          rw (e, q) refl
+  -- the table of a tree by what its form tells; where it tells no lengths it is the draft
+  pub table-by : (told : Bool) → tells form ≡ told → (t : Tree) → tableOf r t ≡ tableBy form n told t
+  table-by told q t = ap (λ (u : Bool). tableBy form n u t) q
 
-  -- what is said of box i's table by its bytes
-  pub table-none : (i : ℕ) → definedBytes r ≡ none → definedTable i r ≡ bad (noTable i)
-  table-none i e = go (definedTree r) e
+  pub untold-is : tells form ≡ false → {size : ℕ} {out : List ℕ} (d : Drafted r size out) → tableOf r (d .tree) ≡ take size out
+  untold-is q d = table-by false q (d .tree) ∙ sym (d .held .front)
+
+-- ---- the bytes of a frame's draft, at most
+
+module _ (f : Frame) (bands coef : List ℤ) (g : FrameSound f) (t : Tree) (e : definedTree (rulesIn f bands coef) ≡ some t) where
+  sides : length (boxOf (f .n) (f .root)) ≡ f .n
+  sides = length-tab (sideAt (f .root .lo) (f .root .hi)) (f .n) 0
+
+  pub shaped : Shaped (rulesIn f bands coef) t
+  shaped = working-shaped (rulesIn f bands coef) t (defined-works (rulesIn f bands coef) t e)
+
+  -- of a tree as its form lays it out
+  own-length : length (layout (tells (f .form)) t) ≤ most (tells (f .form)) (childrenMost (f .form) (f .n)) (tileBytes (f .modes)) (depthBy (f .form) (f .n) (f .d))
+  own-length =
+      layout-length (f .form) (f .n) (f .modes) (f .k) (f .d) (boxOf (f .n) (f .root)) (boxOf (f .n) (f .goal)) (boxOf (f .n) (f .safe)) (stepIn f bands coef)
+      (g .rooms) (omega (arith, g .modes)) (g .longest) sides t shaped
+
+  -- and with no lengths told: one of form 2 is one of form 1
+  untold-length : length (layout false t) ≤ most false (childrenMost (f .form) (f .n)) (tileBytes (f .modes)) (depthBy (f .form) (f .n) (f .d))
+  untold-length = go (tells (f .form)) refl
     where
-      go : (o : Option Tree) → mapSome (tableOf r) o ≡ none → tableBytes i r o ≡ bad (noTable i)
-      go none e = refl
-      go (some t) e = never cc
+      go : (told : Bool) → tells (f .form) ≡ told → length (layout false t) ≤ most false (childrenMost (f .form) (f .n)) (tileBytes (f .modes)) (depthBy (f .form) (f .n) (f .d))
+      go false q = rw q at own-length
+      go true q =
+          let k : oneSide (f .form) ≡ false = told-sides (f .form) q in
+          rw k (layout-length 1 (f .n) (f .modes) (f .k) (f .d) (boxOf (f .n) (f .root)) (boxOf (f .n) (f .goal)) (boxOf (f .n) (f .safe)) (stepIn f bands coef)
+          (g .rooms) (omega (arith, g .modes)) (g .longest) sides t
+          (rooted-alike (f .form) 1 (f .n) (f .modes) (f .k) (f .d) (boxOf (f .n) (f .root)) (boxOf (f .n) (f .goal)) (boxOf (f .n) (f .safe)) (stepIn f bands coef) k
+          (λ b us. Pattern (f .k) (f .modes) us) t shaped))
 
-  pub table-some : (i : ℕ) (bytes : List ℕ) → definedBytes r ≡ some bytes → definedTable i r ≡ good bytes
-  table-some i bytes e = go (definedTree r) e
-    where
-      go : (o : Option Tree) → mapSome (tableOf r) o ≡ some bytes → tableBytes i r o ≡ good bytes
-      go none e = never cc
-      go (some t) e = let q : tableOf r t ≡ bytes = cc in ap good q
+  draft-length : length (draftOf (rulesIn f bands coef) t) ≤ bytesMost f
+  draft-length =
+      let tree = layout false t in
+      omega (
+        arith,
+        untold-length,
+        form-byte (f .form) (g .known),
+        ap length (one-byte (f .n) (omega (arith, g .rooms))),
+        length-append (bytesOf (f .form)) (bytesOf (f .n) ++ tree),
+        length-append (bytesOf (f .n)) tree,
+      )
 
--- the bytes of a frame's defined table, at most
-defined-length : (f : Frame) (bands coef : List ℤ) → FrameSound f → (t : Tree) → definedTree (rulesIn f bands coef) ≡ some t → length (tableOf (rulesIn f bands coef) t) ≤ bytesMost f
-defined-length f bands coef g t e =
-    table-length (f .form) (f .n) (f .modes) (f .k) (f .d) (boxOf (f .n) (f .root)) (boxOf (f .n) (f .goal)) (boxOf (f .n) (f .safe)) (stepIn f bands coef)
-    (form-small (f .form) (g .known)) (g .rooms) (omega (arith, g .modes)) (g .longest) (length-tab (sideAt (f .root .lo) (f .root .hi)) (f .n) 0) t (defined-works (rulesIn f bands coef) t e)
-
--- so a draft of one of three lengths has room for it: for any, for at most 128 modes, and for such in at most sixteen tiles
+-- so an array of one of three lengths has room for it: for any, for at most 128 modes, and for such in at most sixteen tiles
 module _ (f : Frame) (g : FrameSound f) where
-  capped : most (childrenMost (f .form) (f .n)) (tileBytes (f .modes)) (depthBy (f .form) (f .n) (f .d)) ≤ 4096 * tileBytes (f .modes) + splitsMost (f .form)
-  capped = cap-by (f .form) (tileBytes (f .modes)) (f .n) (f .d) (g .some) (g .rooms) (g .depth) (g .tiles)
+  capped : most false (childrenMost (f .form) (f .n)) (tileBytes (f .modes)) (depthBy (f .form) (f .n) (f .d)) ≤ 4096 * tileBytes (f .modes) + 4095
+  capped = go (oneSide (f .form))
+    where
+      go : (t : Bool) → most false (cond t 2 (2 ^ f .n)) (tileBytes (f .modes)) (cond t (f .n * f .d) (f .d)) ≤ 4096 * tileBytes (f .modes) + 4095
+      go true = cap-halving (tileBytes (f .modes)) (f .n * f .d) (g .tiles)
+      go false = omega (arith, cap (tileBytes (f .modes)) (f .n) (f .d) (g .some) (g .rooms) (g .depth) (g .tiles))
 
   pub room-most : bytesMost f ≤ 57_345
-  room-most = omega (arith, capped, tile-most (f .modes), splits-most (f .form))
+  room-most = omega (arith, capped, tile-most (f .modes))
 
   module _ (brief : f .modes ≤ 128) where
     one-each : tileBytes (f .modes) ≡ 7
     one-each = simp (le-leb (f .modes) 128 brief)
 
     pub room-long : bytesMost f ≤ 32_769
-    room-long = omega (arith, capped, one-each, splits-most (f .form))
+    room-long = omega (arith, capped, one-each)
 
     pub room-few : f .n * f .d ≤ 4 → bytesMost f ≤ 129
-    room-few l = omega (arith, cap-few-by (f .form) (tileBytes (f .modes)) (f .n) (f .d) (g .some) (g .rooms) l, one-each)
+    room-few l = omega (arith, go (oneSide (f .form)), one-each)
+      where
+        go : (t : Bool) → most false (cond t 2 (2 ^ f .n)) (tileBytes (f .modes)) (cond t (f .n * f .d) (f .d)) ≤ 16 * tileBytes (f .modes) + 15
+        go true = cap-halving-few (tileBytes (f .modes)) (f .n * f .d) l
+        go false = cap-few (tileBytes (f .modes)) (f .n) (f .d) (g .some) (g .rooms) l
 
 -- a draft that has room for a frame's table
-module _ (f : Frame) (bands coef : List ℤ) (g : FrameSound f) (draft : List ℕ) (l : bytesMost f ≤ length draft)
-    (a : Grown) (out : List ℕ) (w : Wrote (definedBytes (rulesIn f bands coef)) draft 0 a out) (size : ℕ) (z : a ≡ Grown.Next size) where
-  room : (t : Tree) → definedTree (rulesIn f bands coef) ≡ some t → length (tableOf (rulesIn f bands coef) t) ≤ length draft
-  room t e = omega (arith, defined-length f bands coef g t e, l)
-
-  pub fits : size ≤ length out
-  fits = fits-by (rulesIn f bands coef) draft a out w size z room
-
-  pub front : definedBytes (rulesIn f bands coef) ≡ some (take size out)
-  front = front-by (rulesIn f bands coef) draft a out w size z room
+pub drafted : (f : Frame) (bands coef : List ℤ) → FrameSound f → (draft : List ℕ) → bytesMost f ≤ length draft → (a : Grown) (out : List ℕ)
+    → Wrote (draftBytes (rulesIn f bands coef)) draft 0 a out → (size : ℕ) → a ≡ Grown.Next size → Drafted (rulesIn f bands coef) size out
+drafted f bands coef g draft l a out w size z =
+    drafted-by (rulesIn f bands coef) draft a out w size z (λ t e. omega (arith, draft-length f bands coef g t e, l))

@@ -8,7 +8,6 @@ use mathlib.Core.Option.{Option, none, some}
 use native.Mathlib.Omega.{arith}
 use lib.IntN.{ℤ}
 use lib.ListN.{length}
-use borrow.Author.Tests.{le-leb}
 use Rattle.laws.specs.Guards.{guard}
 use Rattle.laws.specs.Tests.{never}
 use Rattle.laws.specs.Writing.{Put, put-append, put-length, put-none}
@@ -18,7 +17,7 @@ use Rattle.meaning.specs.declared.Walk.{Walk}
 use Rattle.meaning.specs.declared.Written.{Written}
 use Rattle.meaning.specs.Refusals.{wrongForm, noTable, short}
 use Rattle.meaning.specs.Buffers.{Left, refusedWith, left}
-use Rattle.meaning.specs.Defined.{mapSome}
+use Rattle.meaning.specs.Defined.{mapSome, definedTree}
 use Rattle.meaning.specs.Files.{Judged, good, bad, valuesOf}
 use Rattle.meaning.specs.Images.{Step}
 use Rattle.meaning.specs.Numbers.{bytesOf}
@@ -26,28 +25,29 @@ use Rattle.meaning.specs.Rules.{Rules}
 use Rattle.meaning.specs.Plants.{Plant, plantJudged}
 use Rattle.meaning.specs.Starts.{chainForm, above, boxAt, boxBelow, onChain, partsOf, tableWith, tableBefore, tablesFrom, startBytes, startMade, startLeft}
 use Rattle.meaning.specs.Tables.{knownForm, rulesFrom, definedTable}
-use Rattle.promises.specs.files.Buffers.{left-short}
+use Rattle.meaning.specs.Trees.{Tree, tableOf}
 use Rattle.promises.specs.files.Files.{file-writes}
 use Rattle.tables.specs.declared.chains.ChainRead.{ChainRead}
 use Rattle.tables.specs.declared.drafts.Grown.{Grown}
 use Rattle.tables.specs.declared.frames.Frame.{Frame}
 use Rattle.tables.specs.Boxes.{boxOf}
 use Rattle.tables.specs.Chains.{chainRead}
-use Rattle.tables.specs.Drafts.{Wrote, definedBytes}
+use Rattle.tables.specs.Drafts.{Wrote}
 use Rattle.tables.specs.Frames.{ownFrame, formed, stepIn}
 use Rattle.tables.specs.StartMakes.{withLength, partBytes, WroteParts, framesRules, framesTables, behindChain, valuesRules, chainLeft}
 use Rattle.tables.proofs.chains.Laws.{boxes-same, Chained, chain-refused, chain-edged, chain-goes}
 use Rattle.tables.proofs.drafts.Laws.{table-none, table-some}
+use Rattle.tables.proofs.turns.Laws.{put-fits, put-short}
 
 -- ---- a table behind its length
 
 module _ (r : Rules) (buf : List ℕ) (at : ℕ) where
-  pub part-none : definedBytes r ≡ none → Wrote (partBytes r) buf at Grown.Nothing buf
+  pub part-none : definedTree r ≡ none → Wrote (partBytes r) buf at Grown.Nothing buf
   part-none e = rw e refl
 
-  pub part-wrote : (t : List ℕ) → definedBytes r ≡ some t → {size past : ℕ} {mid : List ℕ} {next : ℕ} {out : List ℕ} → length t ≡ size
-      → Put buf at (bytesOf size) past mid → Put mid past t next out → Wrote (partBytes r) buf at (Grown.Next next) out
-  part-wrote t e l p q = rw (e, l) (put-append p q)
+  pub part-wrote : (t : Tree) → definedTree r ≡ some t → (bytes : List ℕ) → tableOf r t ≡ bytes → {size past : ℕ} {mid : List ℕ} {next : ℕ} {out : List ℕ} → size ≡ length bytes
+      → Put buf at (bytesOf size) past mid → Put mid past bytes next out → Wrote (partBytes r) buf at (Grown.Next next) out
+  part-wrote t e bytes q l p w = rw (e, q) (put-append (rw l at p) w)
 
 -- and those behind it
 parts-behind : (t : List ℕ) {buf : List ℕ} {at next : ℕ} {mid : List ℕ} → Put buf at (withLength t) next mid
@@ -87,30 +87,25 @@ module _ (r : ℕ → Rules) (m i : ℕ) (buf₀ : List ℕ) (at : ℕ) (whole :
         rw (k, q, e) refl
 
     pub parts-stopped : a ≡ Grown.Nothing → (e : Refusal) → e ≡ noTable i → WroteParts whole buf₀ at (Walk.Refused e) out
-    parts-stopped z e q = go (definedBytes (r i)) refl (rw z at w)
+    parts-stopped z e q = go (definedTree (r i)) refl (rw z at w)
       where
-        go : (o : Option (List ℕ)) → definedBytes (r i) ≡ o → Wrote (mapSome withLength o) buf place Grown.Nothing out → WroteParts whole buf₀ at (Walk.Refused e) out
+        go : (o : Option Tree) → definedTree (r i) ≡ o → Wrote (mapSome (λ t. withLength (tableOf (r i) t)) o) buf place Grown.Nothing out → WroteParts whole buf₀ at (Walk.Refused e) out
         go (some t) d v = absurd v
         go none d v = g .goes (Walk.Refused e) out (rw (next-box (bad (noTable i)) (table-none (r i) i d)) (q, v))
 
     pub parts-more : (next : ℕ) → a ≡ Grown.Next next → Going buf₀ at whole (tablesFrom r (m + 1 - (i + 1)) (i + 1)) next out
-    parts-more next z = go (definedBytes (r i)) refl (rw z at w)
+    parts-more next z = go (definedTree (r i)) refl (rw z at w)
       where
-        go : (o : Option (List ℕ)) → definedBytes (r i) ≡ o → Wrote (mapSome withLength o) buf place (Grown.Next next) out → Going buf₀ at whole (tablesFrom r (m + 1 - (i + 1)) (i + 1)) next out
+        go : (o : Option Tree) → definedTree (r i) ≡ o → Wrote (mapSome (λ t. withLength (tableOf (r i) t)) o) buf place (Grown.Next next) out
+            → Going buf₀ at whole (tablesFrom r (m + 1 - (i + 1)) (i + 1)) next out
         go none d v = absurd v
         go (some t) d v = record {
           long = put-length v ∙ g .long;
           within = omega (arith, v .place, put-length v);
-          goes = λ x o u. g .goes x o (rw (next-box (good t) (table-some (r i) i t d)) (parts-behind t v (tablesFrom r (m + 1 - (i + 1)) (i + 1)) x o u));
+          goes = λ x o u. g .goes x o (rw (next-box (good (tableOf (r i) t)) (table-some (r i) i t d)) (parts-behind (tableOf (r i) t) v (tablesFrom r (m + 1 - (i + 1)) (i + 1)) x o u));
         }
 
 -- ---- the whole file: the chain's bytes, then the tables
-
-put-left : (bytes buf : List ℕ) (size : ℕ) (out : List ℕ) → Put buf 0 bytes size out → size ≤ length out → record { answer = Written.Length size; buffer = out } ≡ left (good bytes) buf
-put-left bytes buf size out t h =
-    let l : length out ≡ length buf = put-length t in
-    let n : size ≡ length bytes = omega (arith, t .place) in
-    rw (le-leb (length bytes) (length buf) (omega arith), n, t .bytes) refl
 
 module _ (chain buf : List ℕ) (j : Judged (List (List ℕ))) {past : ℕ} {mid : List ℕ} (p : Put buf 0 chain past mid) (a : Walk) (out : List ℕ) (w : WroteParts j mid past a out) where
   pub start-refused : (e : Refusal) → a ≡ Walk.Refused e → refusedWith e out ≡ left (behindChain chain j) buf
@@ -138,15 +133,10 @@ module _ (chain buf : List ℕ) (j : Judged (List (List ℕ))) {past : ℕ} {mid
         go (bad f) e v = absurd v
 
     pub start-short : length out < size → refusedWith short out ≡ left (behindChain chain j) buf
-    start-short h =
-        let s = started in
-        let e : j ≡ good (s .ts) = s .is in
-        let l : length out ≡ length buf = put-length (s .put) in
-        let k : length buf < length (chain ++ partsOf (s .ts)) = omega (arith, s .put .place) in
-        rw e (rw l refl ∙ sym (left-short (chain ++ partsOf (s .ts)) buf k))
+    start-short h = let s = started in let e : j ≡ good (s .ts) = s .is in rw e (put-short (chain ++ partsOf (s .ts)) buf size out (s .put) h)
 
     pub start-fits : size ≤ length out → record { answer = Written.Length size; buffer = out } ≡ left (behindChain chain j) buf
-    start-fits h = let s = started in let e : j ≡ good (s .ts) = s .is in rw e (put-left (chain ++ partsOf (s .ts)) buf size out (s .put) h)
+    start-fits h = let s = started in let e : j ≡ good (s .ts) = s .is in rw e (put-fits (chain ++ partsOf (s .ts)) buf size out (s .put) h)
 
 -- ---- the whole by what was read of the chain
 

@@ -9,6 +9,7 @@ use Rattle.list.proofs.listings.tree.Kinds as tree-kinds
 use Rattle.list.proofs.listings.+tree.Lts-tree as tree-lts
 use Rattle.list.proofs.boxes.child.Reads as child-reads
 use Rattle.list.proofs.boxes.count.Reads as count-reads
+use Rattle.list.proofs.listings.past_lengths.Reads as past-lengths-reads
 use Rattle.list.proofs.listings.tile.Reads as tile-reads
 use Rattle.files.proofs.numbers.number.Reads as number-reads
 use Rattle.list.proofs.listings.+tree.{statement}
@@ -24,7 +25,7 @@ abbrev tree-below : ℕ → In 1 tree-kinds.ps
 tree-below t = and 1 tree-kinds.ps (falls 1 tree-kinds.ps _<_ μ-tree t) tree.Pre
 
 abbrev claims : ℕ → tree-lts.Claims
-claims t = (number-reads.Asked, number-reads.Learnt, tile-reads.Asked, tile-reads.Learnt, count-reads.Asked, count-reads.Learnt, child-reads.Asked, child-reads.Learnt, tree-below t, tree.Post)
+claims t = (number-reads.Asked, number-reads.Learnt, tile-reads.Asked, tile-reads.Learnt, count-reads.Asked, count-reads.Learnt, past-lengths-reads.Asked, past-lengths-reads.Learnt, child-reads.Asked, child-reads.Learnt, tree-below t, tree.Post)
 
 abbrev tree-Inv-loop : tree-lts.InvT-loop
 tree-Inv-loop shown form n table d b k next count past₀ c₀ past c = c ≤ count
@@ -56,6 +57,9 @@ tree-returns-3 t c = tt
 tree-count-requires : (t : ℕ) → tree-lts.Need-count-requires (claims t) (tree-at t) tree.Post tree-Inv-loop tree-μ-loop
 tree-count-requires t c κs = tt
 
+tree-past-lengths-requires : (t : ℕ) → tree-lts.Need-past-lengths-requires (claims t) (tree-at t) tree.Post tree-Inv-loop tree-μ-loop
+tree-past-lengths-requires t c κs = tt
+
 tree-loop-holds : (t : ℕ) → tree-lts.Need-loop-holds (claims t) (tree-at t) tree.Post tree-Inv-loop tree-μ-loop
 tree-loop-holds t c = omega arith
 
@@ -66,7 +70,7 @@ tree-sub-tree : (t : ℕ) → tree-lts.Need-sub-tree (claims t) (tree-at t) tree
 tree-sub-tree t c = omega arith
 
 tree-tree-requires : (t : ℕ) → tree-lts.Need-tree-requires (claims t) (tree-at t) tree.Post tree-Inv-loop tree-μ-loop
-tree-tree-requires t c κs = (omega (arith, c .before .before .before .before .before .before .before .before .before .before .before .pre .0), tt)
+tree-tree-requires t c κs = (omega (arith, c .before .before .before .before .before .before .before .before .before .before .before .before .pre .0), tt)
 
 tree-add-c : (t : ℕ) → tree-lts.Need-add-c (claims t) (tree-at t) tree.Post tree-Inv-loop tree-μ-loop
 tree-add-c t c = omega arith
@@ -94,6 +98,7 @@ pub +tree-spec : {M : Type 1} → statement M
     (tree-returns-2 t)
     (tree-returns-3 t)
     (tree-count-requires t)
+    (tree-past-lengths-requires t)
     (tree-loop-holds t)
     (tree-child-requires t)
     (tree-sub-tree t)

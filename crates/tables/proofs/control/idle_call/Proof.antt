@@ -3,14 +3,18 @@ use Prim.Native.Nat.{ℕ}
 use mathlib.Core.Path.{_≡_, sym, ap, _∙_}
 use mathlib.Core.List.{List, []}
 use denote.Ref.{now}
+use lib.Dec.{eqb}
 use borrow.Author.Needs.{needs}
 use Rattle.meaning.specs.declared.Found.{Found}
 use Rattle.meaning.specs.Control.{onFound, find, idleCall}
+use Rattle.meaning.specs.Boxes.{fits}
 use Rattle.meaning.specs.Rules.{Rules}
+use Rattle.meaning.specs.Tables.{readingOf}
+use Rattle.tables.specs.declared.frames.Counts.{Counts}
 use Rattle.tables.specs.Boxes.{boxOf}
 use Rattle.tables.specs.Frames.{frameFrom, rulesIn}
 use Rattle.tables.proofs.frames.Laws.{lent-sound, lent-same}
-use Rattle.tables.proofs.control.Laws.{idle-refused, idle-finds}
+use Rattle.tables.proofs.control.Laws.{admitted, idle-refused, idle-finds}
 use Rattle.tables.proofs.control.idle_call.Statement.{statement}
 use Rattle.tables.proofs.control.idle_call.Tie as tie
 
@@ -66,7 +70,10 @@ find-requires c κs =
     let s = c .before .before .before .before .before .before .before .before in
     let k = c .before .counts-of in
     let e = c .before .before .edges-of in
-    lent-sound (s .args .f) (k .result) (e .result) (k .ensures) (e .ensures) (s .pre)
+    let v = c .before .before .before .before .before .before .admit in
+    let l = lent-sound (s .args .f) (k .result) (e .result) (k .ensures) (e .ensures) (s .pre) in
+    let n : k .result .n ≡ s .args .f .n = ap (λ (i : Counts). i .n) (k .ensures) in
+    (l .0, l .1, rw n (admitted (eqb (s .args .place) 0) (fits (boxOf (s .args .f .n) (s .args .f .root)) (readingOf (s .args .f .n) (s .args .x))) (sym (v .ensures) ∙ c .before .before .before .before .enum-told .given .1)))
 
 enum-known-e-2 : tie.Need-enum-known-e-2
 enum-known-e-2 c = search needs

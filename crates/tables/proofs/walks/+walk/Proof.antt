@@ -3,7 +3,7 @@
 use Prim.Native.Nat.{ℕ, _+_, _-_, _≤_, _<_}
 use mathlib.Core.Path.{_≡_, sym, ap, _∙_}
 use mathlib.Core.Bool.{Bool}
-use mathlib.Core.List.{List}
+use mathlib.Core.List.{List, []}
 use native.Mathlib.Omega.{arith}
 use denote.Ref.{now}
 use lib.IntN.{ℤ}
@@ -22,7 +22,8 @@ use Rattle.tables.specs.Boxes.{boxOf}
 use Rattle.tables.specs.declared.frames.Frame.{Frame}
 use Rattle.tables.specs.Frames.{frameFrom}
 use Rattle.tables.proofs.boxes.Halving.{small-children}
-use Rattle.tables.proofs.walks.Laws.{tree, tree-broken, tree-over, tree-tile, tree-deep, tree-stuck, tree-split, children-done, children-more, children-stopped}
+use Rattle.tables.proofs.walks.Laws.{tree, tree-broken, tree-over, tree-tile, tree-deep, tree-stuck}
+use Rattle.tables.proofs.walks.Untold.{untold-split, children-done, children-more, children-stopped}
 use borrow.Fn.Kinds.{In}
 use borrow.Fn.PlainCycle.{Measures, is, falls, and}
 use Rattle.tables.proofs.walks.walk.Reads as walk
@@ -51,7 +52,7 @@ claims t = (number-reads.Asked, number-reads.Learnt, broken-reads.Asked, broken-
 
 abbrev walk-Inv-loop : walk-lts.InvT-loop
 walk-Inv-loop f edges bands coef judged table d at b k next n count place₀ c₀ place c =
-    (c ≤ count) × (each (tree (frameFrom f edges) bands coef judged (d - 1) table) (drop c (childrenBy (f .form) (boxOf (f .n) b))) place ≡ tree (frameFrom f edges) bands coef judged d table at (boxOf (f .n) b))
+    (c ≤ count) × (each (tree (frameFrom f edges) bands coef judged (d - 1) table) (drop c (childrenBy (f .form) (boxOf (f .n) b))) [] place ≡ tree (frameFrom f edges) bands coef judged d table at (boxOf (f .n) b))
 
 abbrev walk-μ-loop : walk-lts.MeasureT-loop
 walk-μ-loop f edges bands coef judged table d at b k next n count place₀ c₀ place c = count - c
@@ -131,7 +132,7 @@ module _ (t : ℕ) (w : Child t) where
   stopped e h = children-stopped (frame t parent) (bands t parent) (coef t parent) (flag t parent) (parent .args .d - 1) (table t parent) (box t parent) done at-kid in-count (boxOf (parent .args .f .n) (w .before .child .result)) (w .before .child .ensures) (w .walk .result)
       (w .walk .ensures) e h ∙ w .before .before .before .loop .inv .1
 
-  more : (m : ℕ) → w .walk .result ≡ Walk.Next m → each (tree (frame t parent) (bands t parent) (coef t parent) (flag t parent) (parent .args .d - 1) (table t parent)) (drop (done + 1) (childrenBy (parent .args .f .form) (box t parent))) m ≡ whole t parent
+  more : (m : ℕ) → w .walk .result ≡ Walk.Next m → each (tree (frame t parent) (bands t parent) (coef t parent) (flag t parent) (parent .args .d - 1) (table t parent)) (drop (done + 1) (childrenBy (parent .args .f .form) (box t parent))) [] m ≡ whole t parent
   more m h = children-more (frame t parent) (bands t parent) (coef t parent) (flag t parent) (parent .args .d - 1) (table t parent) (box t parent) done at-kid in-count (boxOf (parent .args .f .n) (w .before .child .result)) (w .before .child .ensures) (w .walk .result)
       (w .walk .ensures) m h ∙ w .before .before .before .loop .inv .1
 
@@ -160,7 +161,7 @@ walk-returns-2 : (t : ℕ) → walk-lts.Need-returns-2 (claims t) (walk-at t) wa
 walk-returns-2 t c = ap Walk.Refused (c .bad-table .ensures) ∙ over t (c .before .before .before .before) (c .before .if1 .taken)
 
 walk-tile-requires : (t : ℕ) → walk-lts.Need-tile-requires (claims t) (walk-at t) walk.Post walk-Inv-loop walk-μ-loop
-walk-tile-requires t c κs = (c .before .before .before .before .before .before .before .before .pre .1, c .before .if1 .left)
+walk-tile-requires t c κs = let p = c .before .before .before .before .before .before .before .before .pre .1 in ((p .0, p .1, p .2), c .before .if1 .left)
 
 walk-returns-3 : (t : ℕ) → walk-lts.Need-returns-3 (claims t) (walk-at t) walk.Post walk-Inv-loop walk-μ-loop
 walk-returns-3 t c =
@@ -189,7 +190,7 @@ walk-loop-holds t c =
     let n = c .before .before .before .before .before .before .before in
     let s = from t n in
     let some : length (childrenBy (s .args .f .form) (box t s)) ≡ 0 → ⊥ = λ z. c .if4 .left (c .before .count .ensures ∙ z) in
-    (omega arith, tree-split (frame t s) (bands t s) (coef t s) (flag t s) (s .args .d) (table t s) (s .args .at) (box t s) (size t n) (next t n) (value t n) (c .before .before .before .if2 .left) (c .before .before .if3 .left) some)
+    (omega arith, untold-split (frame t s) (bands t s) (coef t s) (flag t s) (s .pre .1 .3) (s .args .d) (table t s) (s .args .at) (box t s) (size t n) (next t n) (value t n) (c .before .before .before .if2 .left) (c .before .before .if3 .left) some)
 
 walk-child-requires : (t : ℕ) → walk-lts.Need-child-requires (claims t) (walk-at t) walk.Post walk-Inv-loop walk-μ-loop
 walk-child-requires t c κs =
@@ -208,7 +209,7 @@ walk-walk-requires t c κs =
     let h = c .before .loop-test .taken in
     let z = c .before .before .before .before .before .if3 .left in
     let less = s .pre .0 in
-    (omega arith, (s .pre .1 .0, rw (c .child .ensures) (small-children (s .args .f .form) edgeLimit (box t s) (c .before .before .loop .c) (rw (← k) h) (s .pre .1 .1)), s .pre .1 .2))
+    (omega arith, (s .pre .1 .0, rw (c .child .ensures) (small-children (s .args .f .form) edgeLimit (box t s) (c .before .before .loop .c) (rw (← k) h) (s .pre .1 .1)), s .pre .1 .2, s .pre .1 .3))
 
 walk-enum-known-past : (t : ℕ) → walk-lts.Need-enum-known-past (claims t) (walk-at t) walk.Post walk-Inv-loop walk-μ-loop
 walk-enum-known-past t c = search needs

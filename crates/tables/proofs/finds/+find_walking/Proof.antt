@@ -1,4 +1,4 @@
--- `finds::find`: a node, and a loop over the children of a split up to the one that holds the reading. Assumes nothing.
+-- `finds::find_walking`, which calls itself with less depth: a node, and a loop over the children of a split up to the one that holds the reading. Assumes nothing.
 use Prim.Native.Nat.{ℕ, _-_, _≤_, _<_}
 use mathlib.Core.Path.{_≡_, sym, ap, _∙_}
 use mathlib.Core.Bool.{true, false}
@@ -22,12 +22,13 @@ use Rattle.tables.specs.declared.frames.Frame.{Frame}
 use Rattle.tables.specs.Boxes.{boxOf, Small}
 use Rattle.tables.specs.Frames.{frameFrom, rulesIn}
 use Rattle.tables.proofs.boxes.Halving.{small-children}
-use Rattle.tables.proofs.finds.Laws.{held, not-held, lookFrom, node-broken, node-over, node-tile, node-deep, node-split, look-none, look-here, look-more, look-refused}
+use Rattle.tables.proofs.finds.Laws.{held, not-held, node-broken, node-over, node-tile, node-deep}
+use Rattle.tables.proofs.finds.Untold.{lookFrom, look-split, look-none, look-here, look-more, look-refused}
 use borrow.Fn.Kinds.{In}
 use borrow.Fn.PlainCycle.{Measures, is, falls, and}
-use Rattle.tables.proofs.finds.find.Reads as reads
-use Rattle.tables.proofs.finds.find.Kinds as find-kinds
-use Rattle.tables.proofs.finds.+find.Lts-find as find-lts
+use Rattle.tables.proofs.finds.find_walking.Reads as reads
+use Rattle.tables.proofs.finds.find_walking.Kinds as find-kinds
+use Rattle.tables.proofs.finds.+find_walking.Lts-find_walking as find-lts
 use Rattle.files.proofs.numbers.number.Reads as number-reads
 use Rattle.files.proofs.refusals.broken.Reads as broken-reads
 use Rattle.tables.proofs.boxes.child.Reads as child-reads
@@ -36,8 +37,8 @@ use Rattle.tables.proofs.boxes.missed.Reads as missed-reads
 use Rattle.tables.proofs.finds.tile.Reads as tile-reads
 use Rattle.tables.proofs.refusals.bad_table.Reads as bad-table-reads
 use Rattle.tables.proofs.walks.walk.Reads as walk-reads
-use Rattle.tables.proofs.finds.+find.{statement}
-use Rattle.tables.proofs.finds.+find.Tie.{close}
+use Rattle.tables.proofs.finds.+find_walking.{statement}
+use Rattle.tables.proofs.finds.+find_walking.Tie.{close}
 
 abbrev μ-find : Measures 2 find-kinds.ps ℕ
 μ-find κs a = a .1 .1 .1 .0
@@ -171,7 +172,7 @@ find-loop-holds : (t : ℕ) → find-lts.Need-loop-holds (claims t) (find-at t) 
 find-loop-holds t c =
     let z = c .before .before .before .before .before in
     let s = start z in
-    (omega arith, node-split (frame s) (s .args .x) (s .args .d) (bytes s) (s .args .at) (box s (s .args .b)) (size z) (behind z) (number z) (c .before .before .if2 .left) (c .before .if3 .left))
+    (omega arith, look-split (frame s) (s .args .x) (s .pre .1 .2) (s .args .d) (bytes s) (s .args .at) (box s (s .args .b)) (size z) (behind z) (number z) (c .before .before .if2 .left) (c .before .if3 .left))
 
 find-child-requires : (t : ℕ) → find-lts.Need-child-requires (claims t) (find-at t) reads.Post find-Inv-loop find-μ-loop
 find-child-requires t c κs =
@@ -181,20 +182,20 @@ find-child-requires t c κs =
 find-missed-requires : (t : ℕ) → find-lts.Need-missed-requires (claims t) (find-at t) reads.Post find-Inv-loop find-μ-loop
 find-missed-requires t c κs = c .before .before .before .before .before .before .before .before .before .before .before .before .before .pre .1 .0 .rooms
 
-find-sub-find : (t : ℕ) → find-lts.Need-sub-find (claims t) (find-at t) reads.Post find-Inv-loop find-μ-loop
+find-sub-find : (t : ℕ) → find-lts.Need-sub-find-walking (claims t) (find-at t) reads.Post find-Inv-loop find-μ-loop
 find-sub-find t c = omega arith
 
-find-find-requires : (t : ℕ) → find-lts.Need-find-requires (claims t) (find-at t) reads.Post find-Inv-loop find-μ-loop
+find-find-requires : (t : ℕ) → find-lts.Need-find-walking-requires (claims t) (find-at t) reads.Post find-Inv-loop find-μ-loop
 find-find-requires t c κs =
     let y = c .before in
-    (omega (arith, outset y .pre .0, y .before .before .before .before .before .if3 .left), (outset y .pre .1 .0, small y))
+    (omega (arith, outset y .pre .0, y .before .before .before .before .before .if3 .left), (outset y .pre .1 .0, small y, outset y .pre .1 .2))
 
 find-returns-5 : (t : ℕ) → find-lts.Need-returns-5 (claims t) (find-at t) reads.Post find-Inv-loop find-μ-loop
 find-returns-5 t c =
     let y = c .before .before in
     let s = outset y in
     let l = y .before .before .before .loop in
-    c .find .ensures ∙ look-here (frame s) (s .args .x) (s .args .d - 1) (bytes s) (s .args .at) (box s (s .args .b)) (l .c) (l .place) (below y) (box s (kid y)) (y .before .child .ensures) (holds-it y (c .before .if4 .taken)) ∙ l .inv .1
+    c .find-walking .ensures ∙ look-here (frame s) (s .args .x) (s .pre .1 .2) (s .args .d - 1) (bytes s) (s .args .at) (box s (s .args .b)) (l .c) (l .place) (below y) (box s (kid y)) (y .before .child .ensures) (holds-it y (c .before .if4 .taken)) ∙ l .inv .1
 
 find-slice-aggregate-walk : (t : ℕ) → find-lts.Need-slice-aggregate-walk (claims t) (find-at t) reads.Post find-Inv-loop find-μ-loop
 find-slice-aggregate-walk t c = search needs
@@ -206,7 +207,7 @@ find-sub-walk : (t : ℕ) → find-lts.Need-sub-walk (claims t) (find-at t) read
 find-sub-walk t c = omega arith
 
 find-walk-requires : (t : ℕ) → find-lts.Need-walk-requires (claims t) (find-at t) reads.Post find-Inv-loop find-μ-loop
-find-walk-requires t c κs = let y = c .before .before .before in (outset y .pre .1 .0, small y, λ e. never e)
+find-walk-requires t c κs = let y = c .before .before .before in (outset y .pre .1 .0, small y, (λ e. never e), outset y .pre .1 .2)
 
 find-enum-known-e : (t : ℕ) → find-lts.Need-enum-known-e (claims t) (find-at t) reads.Post find-Inv-loop find-μ-loop
 find-enum-known-e t c = search needs
@@ -218,7 +219,7 @@ find-returns-6 t c =
     let l = y .before .before .before .loop in
     let r = c .before .before .before .walk in
     let e = c .before .e .given in
-    look-refused (frame s) (s .args .x) (s .args .d - 1) (bytes s) (s .args .at) (box s (s .args .b)) (l .c) (l .place) (below y) (box s (kid y)) (y .before .child .ensures) (misses-it y (c .before .before .before .before .before .before .if4 .left)) zero zero (r .result) (r .ensures) (e .0 .0) (e .1) ∙ l .inv .1
+    look-refused (frame s) (s .args .x) (s .pre .1 .2) (s .args .d - 1) (bytes s) (s .args .at) (box s (s .args .b)) (l .c) (l .place) (below y) (box s (kid y)) (y .before .child .ensures) (misses-it y (c .before .before .before .before .before .before .if4 .left)) zero zero (r .result) (r .ensures) (e .0 .0) (e .1) ∙ l .inv .1
 
 find-enum-known-m : (t : ℕ) → find-lts.Need-enum-known-m (claims t) (find-at t) reads.Post find-Inv-loop find-μ-loop
 find-enum-known-m t c = search needs
@@ -236,7 +237,7 @@ find-loop-again t c =
     let l = y .before .before .before .loop in
     let r = c .before .before .before .walk in
     let m = c .before .m .given in
-    (omega (arith, y .before .before .loop-test .taken), look-more (frame s) (s .args .x) (s .args .d - 1) (bytes s) (s .args .at) (box s (s .args .b)) (l .c) (l .place) (below y) (box s (kid y)) (y .before .child .ensures) (misses-it y (c .before .before .before .before .before .before .if4 .left)) zero zero (r .result) (r .ensures) (m .0 .0) (m .1) ∙ l .inv .1)
+    (omega (arith, y .before .before .loop-test .taken), look-more (frame s) (s .args .x) (s .pre .1 .2) (s .args .d - 1) (bytes s) (s .args .at) (box s (s .args .b)) (l .c) (l .place) (below y) (box s (kid y)) (y .before .child .ensures) (misses-it y (c .before .before .before .before .before .before .if4 .left)) zero zero (r .result) (r .ensures) (m .0 .0) (m .1) ∙ l .inv .1)
 
 find-bad-table-requires-3 : (t : ℕ) → find-lts.Need-bad-table-requires-3 (claims t) (find-at t) reads.Post find-Inv-loop find-μ-loop
 find-bad-table-requires-3 t c κs = search needs
@@ -245,10 +246,10 @@ find-returns-7 : (t : ℕ) → find-lts.Need-returns-7 (claims t) (find-at t) re
 find-returns-7 t c =
     let s = c .before .before .before .before .before .before .before .before .before .before .before .before .before in
     let l = c .before .before .loop in
-    ap Found.Refused (c .bad-table3 .ensures) ∙ look-none (frame s) (s .args .x) (s .args .d - 1) (bytes s) (s .args .at) (box s (s .args .b)) (l .c) (l .place) (omega (arith, c .before .loop-test .left, c .before .before .before .count .ensures)) ∙ l .inv .1
+    ap Found.Refused (c .bad-table3 .ensures) ∙ look-none (frame s) (s .args .x) (s .pre .1 .2) (s .args .d - 1) (bytes s) (s .args .at) (box s (s .args .b)) (l .c) (l .place) (omega (arith, c .before .loop-test .left, c .before .before .before .count .ensures)) ∙ l .inv .1
 
-pub +find-spec : {M : Type 1} → statement M
-+find-spec = close μ-find λ t. find-lts.spec (claims t)
+pub +find-walking-spec : {M : Type 1} → statement M
++find-walking-spec = close μ-find λ t. find-lts.spec (claims t)
     (find-at t)
     reads.Post
     find-Inv-loop
