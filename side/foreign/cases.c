@@ -6,7 +6,8 @@
 #include <stdlib.h>
 #include <string.h>
 
-enum { LARGEST = 1 << 19, BEHIND = 16, MARK = 0xAA };
+/* More than the largest start file, 530,810 bytes, and what stands behind it. */
+enum { LARGEST = 532000, BEHIND = 16, MARK = 0xAA };
 
 static const char *const names[FUNCTIONS] = {"plant", "sheet", "make", "check", "control", "start_make", "start_check", "start_control"};
 static uint8_t files[2][LARGEST], buffer[LARGEST], wanted[LARGEST];
