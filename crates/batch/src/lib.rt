@@ -1,6 +1,9 @@
 // Plants and sheets read into values and written from values, for the side-by-side tests alone to call. Values are lent in arrays of their own types, so
 // that every value can be handed in. Relies on files and sheets for everything else, and on face for how an answer is shown. Leaves out what face exports;
 // no program links this.
+
+#![tactic(auto)]
+
 mod rooms;
 
 ghost use Rattle.std.specs.Prelude.{◌≡◌};

@@ -1,6 +1,9 @@
 // The checker as a program: check_table PLANT TABLE says "accepted", or the refusal of a table's file for a plant's file; check_table start PLANT START says it of
 // a start file. A word tells them apart, since both kinds of file may begin with 01.
 // Relies on crate tables for the verdict and on crate desk for files. The kit has a library of the name check, so the program has another.
+
+#![tactic(auto)]
+
 use desk::{papers, tellings};
 use meaning::Verdict;
 use tables::{checks, start_checks};

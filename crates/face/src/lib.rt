@@ -1,5 +1,8 @@
 // The C face (include/hoachulim.h): each function hands its bytes to a library and sets out the answer as numbers. Relies on the libraries for
 // everything else. Leaves out nothing that they answer, keeps no state, and asks nothing of its caller.
+
+#![tactic(auto)]
+
 mod answers;
 pub mod shown;
 

@@ -1,3 +1,6 @@
 // Numbers as text: texts and decimal numbers put into a lent buffer. Relies on crate files for putting a byte; knows nothing else of document 01.
 // The programs' lines are made of it (crate desk). What text is stands in specs/.
+
+#![tactic(auto)]
+
 pub mod texts;

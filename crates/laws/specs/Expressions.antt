@@ -108,7 +108,7 @@ sum_fits o e f t =
 
 -- the machine computes the value
 pub exact : (e : Ex) → T (ok e) → mach e ≡ val e
-exact (var z k h) t = to_z-of_z (omega (zarith, ltb→lt k (2 ^ 63) t))
+exact (var z k h) t = to_z-of_z {w = w64} (omega (zarith, ltb→lt k (2 ^ 63) t))
 exact (held m z k e h) t = e
 exact (lit z) t = refl
 exact (bin o e f) t =

@@ -1,6 +1,9 @@
 // The listing program (document 01): a plant's file on standard input, the listing of its table or the refusal on standard output. A word of digits is the form of
 // the table (request 2026-06), 1 where there is none. And list start PLANT START: the listing of a start file, box by box.
 // Relies on pages listings and starts. 27,705 bytes of input decide every plant file: no more are read.
+
+#![tactic(auto)]
+
 mod boxes;
 mod listings;
 mod starts;

@@ -2,6 +2,8 @@
 // Counts and places are usize, readings, edges, bands and coefficients i64. An enum cannot hold an array, so where a value
 // with arrays may be refused, a struct holds the verdict beside it.
 
+#![tactic(auto)]
+
 // A refusal: its number in document 01's table, the place, the step.
 #[derive(Drop)]
 pub struct Refusal {

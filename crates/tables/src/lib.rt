@@ -2,6 +2,9 @@
 // 02, request 2026-01); and the first three of start files, which hold a table for each box of a chain (request 2026-03): start_makes, start_checks,
 // start_control. The other modules are private to the crate: their functions ask something of a plant that was judged (`requires`), which only callers
 // inside the crate can be asked to prove; what another crate may call has no `requires`.
+
+#![tactic(auto)]
+
 mod arrays;
 mod boxes;
 mod chains;

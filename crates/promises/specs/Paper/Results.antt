@@ -3,7 +3,7 @@
 -- first that does. Relies on pages Nearest and Firsts, and on pages Faults and Told for that nothing else is told by 14, and nothing by 0.
 use Rattle.std.specs.Prelude.{ℕ, ◌≤◌, ◌<◌, ◌≡◌, refl, Bool, true, false, List, [], ◌∷◌, map, ◌↔◌, T, length, get_or, ℤ, pos, nat_abs, ◌*ℤ◌, Float}
 use Rattle.std.proofs.Common.{sym, ap, arith}
-use Rattle.std.proofs.Math.Logic.{Iff·trans}
+use Rattle.std.proofs.Math.Logic.Iff
 use Rattle.std.specs.Float.Ieee as F
 use Rattle.std.specs.Float.{binary64}
 use Rattle.laws.specs.Guards.{guard}
@@ -34,11 +34,11 @@ use Rattle.promises.specs.Paper.Told.{sheet-some}
 module _ (which limit k : ℕ) (x : Float) (held : T (F.fits binary64 x)) where
   pub near-shown : (v : ℤ) → (whole_shown which (whole_of limit k x) ≡ shows 0 0 0 (v ∷ []))
       ↔ ((finite x ≡ true) × Nearest units (pos k *ℤ units_of x) v × (nat_abs v ≤ limit))
-  near-shown v = Iff·trans (whole-exactly which (whole_of limit k x) (Whole.Near v)) (near-exactly limit k x v held)
+  near-shown v = Iff.trans (whole-exactly which (whole_of limit k x) (Whole.Near v)) (near-exactly limit k x v held)
 
   pub out-shown : (whole_shown which (whole_of limit k x) ≡ shows 14 which 0 [])
       ↔ ((v : ℤ) → finite x ≡ true → Nearest units (pos k *ℤ units_of x) v → nat_abs v ≤ limit → ⊥)
-  out-shown = Iff·trans (whole-exactly which (whole_of limit k x) Whole.Out) (
+  out-shown = Iff.trans (whole-exactly which (whole_of limit k x) Whole.Out) (
     λ e v a b c. let q = (near-exactly limit k x v held).1 (a, b, c) in never cc,
     λ h. go (whole_of limit k x) (λ v q. let w = (near-exactly limit k x v held).0 q in h v w.0 w.1 w.2),
   )
@@ -64,7 +64,7 @@ pub record BadResult (sheet : List ℕ) (k : ℕ) : Type 0 where
   pub first : FirstOut (made_numbers (sheet_of values)) k
 
 first_out : (l : List Whole) (k : ℕ) → ((all (map is_near l) ≡ false) × (first_false (map is_near l) ≡ k)) ↔ FirstOut l k
-first_out l k = Iff·trans (first-exactly is_near Whole.Out l k) (
+first_out l k = Iff.trans (first-exactly is_near Whole.Out l k) (
   λ f. record {
     inside = f.inside;
     out = out (get_or l k Whole.Out) f.fails;
@@ -85,7 +85,7 @@ first_out l k = Iff·trans (first-exactly is_near Whole.Out l k) (
 pub fourteen-shown : (sheet : List ℕ) (k : ℕ) → (verdict_shown (sheet_read sheet).verdict ≡ shows 14 k 0 []) ↔ BadResult sheet k
 unfolding S.sheet_judged P.wide_modes
 fourteen-shown sheet k =
-    Iff·trans (verdict-exactly (sheet_read sheet).verdict (Verdict.Refused (bad_result k)) (sheet-some sheet) (refused-some (bad_result k) (λ q. omega arith))) (
+    Iff.trans (verdict-exactly (sheet_read sheet).verdict (Verdict.Refused (bad_result k)) (sheet-some sheet) (refused-some (bad_result k) (λ q. omega arith))) (
       λ e. there (values_of sheet_form sheet) refl e,
       λ b. back b,
     )

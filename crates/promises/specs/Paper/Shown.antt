@@ -7,7 +7,7 @@ use Rattle.std.proofs.Math.Path.{refl, ap}
 use Rattle.std.proofs.Common.{sym, ◌∙◌}
 use Rattle.std.proofs.Math.Bool.{true, false, cond}
 use mathlib.Core.List.{List, [], ◌∷◌, ◌++◌}
-use Rattle.std.proofs.Math.Logic.{Iff·trans}
+use Rattle.std.proofs.Math.Logic.Iff
 use Rattle.laws.specs.Guards.{guard}
 use Rattle.laws.specs.Lists.{all, first_false}
 use Rattle.laws.specs.Standing.{Stands}
@@ -51,7 +51,7 @@ use Rattle.promises.specs.Paper.Told.{checker-some, controller-some}
 
 module _ (s : List ℕ) (at : ℕ) where
   pub number-shown : (v next : ℕ) → (number_shown at (number_at s at) ≡ shows 0 0 0 (pos v ∷ pos next ∷ [])) ↔ ((v < 2 ^ 35) × Stands s at (bytes_of v) next)
-  number-shown v next = Iff·trans (number-exactly at (number_at s at) (Number.Value v next)) (λ e. was v at next s e, λ w. reads v at next s w.0 w.1)
+  number-shown v next = Iff.trans (number-exactly at (number_at s at) (Number.Value v next)) (λ e. was v at next s e, λ w. reads v at next s w.0 w.1)
 
   none-stands : (number_at s at ≡ Number.Broken) ↔ ((v next : ℕ) → v < 2 ^ 35 → Stands s at (bytes_of v) next → ⊥)
   none-stands = (λ e v next l w. let q = reads v at next s l w in never cc, λ h. go (number_at s at) refl h)
@@ -61,7 +61,7 @@ module _ (s : List ℕ) (at : ℕ) where
       go (Number.Value v next) q h = let w = was v at next s q in absurd (h v next w.0 w.1)
 
   pub number-broken-shown : (number_shown at (number_at s at) ≡ shows 1 at 0 []) ↔ ((v next : ℕ) → v < 2 ^ 35 → Stands s at (bytes_of v) next → ⊥)
-  number-broken-shown = Iff·trans (number-exactly at (number_at s at) Number.Broken) none-stands
+  number-broken-shown = Iff.trans (number-exactly at (number_at s at) Number.Broken) none-stands
 
   -- signed: the same of what is stored
   as-value : (n : Number) (v : ℤ) (next : ℕ) → (as_signed n ≡ Signed.Value v next) ↔ (n ≡ Number.Value (stored v) next)
@@ -84,12 +84,12 @@ module _ (s : List ℕ) (at : ℕ) where
   pub signed-shown : (v : ℤ) (next : ℕ)
       → (signed_shown at (signed_at s at) ≡ shows 0 0 0 (v ∷ pos next ∷ [])) ↔ ((stored v < 2 ^ 35) × Stands s at (bytes_of (stored v)) next)
   signed-shown v next =
-      Iff·trans (signed-exactly at (signed_at s at) (Signed.Value v next))
-      (Iff·trans (as-value (number_at s at) v next) (λ e. was (stored v) at next s e, λ w. reads (stored v) at next s w.0 w.1))
+      Iff.trans (signed-exactly at (signed_at s at) (Signed.Value v next))
+      (Iff.trans (as-value (number_at s at) v next) (λ e. was (stored v) at next s e, λ w. reads (stored v) at next s w.0 w.1))
 
   pub signed-broken-shown : (signed_shown at (signed_at s at) ≡ shows 1 at 0 []) ↔ ((v : ℤ) (next : ℕ) → stored v < 2 ^ 35 → Stands s at (bytes_of (stored v)) next → ⊥)
   signed-broken-shown =
-      Iff·trans (signed-exactly at (signed_at s at) Signed.Broken) (Iff·trans (as-broken (number_at s at)) (Iff·trans none-stands (
+      Iff.trans (signed-exactly at (signed_at s at) Signed.Broken) (Iff.trans (as-broken (number_at s at)) (Iff.trans none-stands (
         λ h v next l w. h (stored v) next l w,
         λ h u next l w. let k = stored-restored u in h (restored u) next (rw k l) (rw k w),
       )))
@@ -98,21 +98,21 @@ module _ (s : List ℕ) (at : ℕ) where
 
 module _ (r : Rules) (at : ℕ) (b : r.Box) (us : List ℕ) where
   pub works-shown : (tried_shown at (rule r b us) ≡ shows 0 0 0 []) ↔ Lands r (r.begin b) us
-  works-shown = Iff·trans (tried-exactly at (rule r b us) Tried.Works) (works-exactly r b us)
+  works-shown = Iff.trans (tried-exactly at (rule r b us) Tried.Works) (works-exactly r b us)
 
   pub leaves-shown : (i : ℕ) → (tried_shown at (rule r b us) ≡ shows 7 at i [])
       ↔ ((all (staying r (r.begin b) us) ≡ false) × (i ≡ suc (first_false (staying r (r.begin b) us))))
-  leaves-shown i = Iff·trans (tried-exactly at (rule r b us) (Tried.Leaves i)) (leaves-exactly r b us i)
+  leaves-shown i = Iff.trans (tried-exactly at (rule r b us) (Tried.Leaves i)) (leaves-exactly r b us i)
 
   pub misses-shown : (i : ℕ) → (tried_shown at (rule r b us) ≡ shows 8 at i [])
       ↔ ((all (staying r (r.begin b) us) ≡ true) × (landing r (r.begin b) us ≡ false) × (i ≡ length us))
-  misses-shown i = Iff·trans (tried-exactly at (rule r b us) (Tried.Misses i)) (misses-exactly r b us i)
+  misses-shown i = Iff.trans (tried-exactly at (rule r b us) (Tried.Misses i)) (misses-exactly r b us i)
 
 -- ---- S6: 0 exactly where the table is that of a tree whose tiles all keep the tile rule
 
 module _ (plant table : List ℕ) where
   pub accepted-shown : (verdict_shown (checked plant table) ≡ shows 0 0 0 []) ↔ Tiled plant table
-  accepted-shown = Iff·trans (verdict-exactly (checked plant table) Verdict.Accepted (checker-some plant table) accepted-some) (checked-exactly plant table)
+  accepted-shown = Iff.trans (verdict-exactly (checked plant table) Verdict.Accepted (checker-some plant table) accepted-some) (checked-exactly plant table)
 
   -- and else its refusal, with no values
   pub refused-shown : (e : Refusal) → Some e → (verdict_shown (checked plant table) ≡ refusing e []) ↔ (checked plant table ≡ Verdict.Refused e)
@@ -123,14 +123,14 @@ module _ (plant table : List ℕ) where
 module _ (plant : List ℕ) (form : ℕ) (buf : List ℕ) where
   pub nine-shown : (written_shown (maker_left plant form buf).answer ≡ shows 9 0 0 [])
       ↔ ((p : Plant) × (plant_judged plant ≡ good p) × (known_form form ≡ true) × ((table : List ℕ) → form_of table ≡ form → checked plant table ≡ Verdict.Accepted → ⊥))
-  nine-shown = Iff·trans (written-exactly (maker_left plant form buf).answer (Written.Refused (no_table 0))) (maker-nine plant form buf)
+  nine-shown = Iff.trans (written-exactly (maker_left plant form buf).answer (Written.Refused (no_table 0))) (maker-nine plant form buf)
 
   pub ten-shown : (written_shown (maker_left plant form buf).answer ≡ shows 10 0 0 []) ↔ ((bytes : List ℕ) × (made plant form ≡ good bytes) × (length buf < length bytes))
-  ten-shown = Iff·trans (written-exactly (maker_left plant form buf).answer (Written.Refused short)) (maker-ten plant form buf)
+  ten-shown = Iff.trans (written-exactly (maker_left plant form buf).answer (Written.Refused short)) (maker-ten plant form buf)
 
   pub length-shown : (m : ℕ) → (written_shown (maker_left plant form buf).answer ≡ shows 0 0 0 (pos m ∷ []))
       ↔ ((bytes : List ℕ) × (made plant form ≡ good bytes) × (length bytes ≤ length buf) × (m ≡ length bytes))
-  length-shown m = Iff·trans (written-exactly (maker_left plant form buf).answer (Written.Length m)) (maker-length plant form buf m)
+  length-shown m = Iff.trans (written-exactly (maker_left plant form buf).answer (Written.Length m)) (maker-length plant form buf m)
 
 -- ---- S8: of an accepted table and a reading in R, the tile found and the call's answer
 
@@ -172,12 +172,12 @@ module _ (plant table : List ℕ) (st : State) (x : List ℤ) where
 -- the header and a tree: 0 with the place behind it exactly where it stands
 pub header-shown : (form n : ℕ) → form < 2 ^ 35 → n < 2 ^ 35 → (s : List ℕ) (m : ℕ)
     → (walk_shown (header form n s) ≡ shows 0 0 0 (pos m ∷ [])) ↔ Stands s 0 (bytes_of form ++ bytes_of n) m
-header-shown form n fit small s m = Iff·trans (walk-exactly (header form n s) (Walk.Next m)) (λ e. header-stands form n s m e, λ w. header_read form n fit small s m w)
+header-shown form n fit small s m = Iff.trans (walk-exactly (header form n s) (Walk.Next m)) (λ e. header-stands form n s m e, λ w. header_read form n fit small s m w)
 
 pub walk-shown : (r : Rules) → Sizes r → (s : List ℕ) (judge : r.Box → List ℕ → Tried) (d at : ℕ) (b : r.Box) (m : ℕ)
     → (walk_shown (walk r judge d s at b) ≡ shows 0 0 0 (pos m ∷ [])) ↔ TreeStands r judge d s at b m
 walk-shown r z s judge d at b m =
-    Iff·trans (walk-exactly (walk r judge d s at b) (Walk.Next m)) (λ e. walk-stands r judge d s at b m e, λ w. walk-reads r z judge w.tree d s at b m w.over w.fits w.stand)
+    Iff.trans (walk-exactly (walk r judge d s at b) (Walk.Next m)) (λ e. walk-stands r judge d s at b m e, λ w. walk-reads r z judge w.tree d s at b m w.over w.fits w.stand)
 
 module _ (plant : List ℕ) (p : Plant) (good-plant : plant_judged plant ≡ good p) (table : List ℕ) where
   -- the checker shows what the header shows that is refused; then what the walk shows; then 6 where bytes are left over

@@ -62,7 +62,7 @@ refuses-all check none demand = none P table₁ (demand P table₁ ((checked-exa
 
 -- it keeps the file's rules, so the run alone is at fault
 laid₄ : Laid P table₄
-unfolding computing Y.Over Y.below
+unfolding computing Y.Over Y.AllBelow
 laid₄ = record {
   p = plant_p;
   judged = judged;
@@ -128,7 +128,7 @@ one_table make table fixed demand =
 -- ---- one fixed mode, or the first again: demand 2, line 9
 
 tiled₅ : Tiled P' table₅
-unfolding computing Y.Over Y.below
+unfolding computing Y.Over Y.AllBelow
 tiled₅ = record {
   p = plant_p';
   judged = judged';

@@ -16,12 +16,12 @@ module _ {State Reading : Type 0} {idle : State} {gives : State → Reading → 
   unfoldable pub state_at : {k : ℕ} {st v : State} {x z : Reading} → Samples idle gives starts follows k st x v z → ℕ → State
   state_at {st = st} run zero = st
   state_at {st = st} none (suc j) = st
-  state_at (next g f rest) (suc j) = state_at rest j
+  state_at (next {m = m} g f rest) (suc j) = state_at {k = m} rest j
 
   unfoldable pub reading_at : {k : ℕ} {st v : State} {x z : Reading} → Samples idle gives starts follows k st x v z → ℕ → Reading
   reading_at {x = x} run zero = x
   reading_at {x = x} none (suc j) = x
-  reading_at (next g f rest) (suc j) = reading_at rest j
+  reading_at (next {m = m} g f rest) (suc j) = reading_at {k = m} rest j
 
   -- a run cut at a sample: the samples up to it, and the run from there on, which meets what the whole one meets
   pub record Cut {k : ℕ} {st v : State} {x z : Reading} (run : Samples idle gives starts follows k st x v z) (m : ℕ) : Type 0 where
@@ -36,8 +36,8 @@ module _ {State Reading : Type 0} {idle : State} {gives : State → Reading → 
   unfolding state_at reading_at
   cut {k = k} run zero l = record { left = k; count = omega arith; before = none; behind = run; states = λ j. rw (zero-add j) refl; readings = λ j. rw (zero-add j) refl }
   cut none (suc m) l = absurd (omega arith)
-  cut (next g f rest) (suc m) l =
-      let c = cut rest m (omega arith) in
+  cut (next {m = more} g f rest) (suc m) l =
+      let c = cut {k = more} rest m (omega arith) in
       record {
         left = c.left;
         count = omega (arith, c.count);

@@ -95,7 +95,7 @@ module _ (r : Rules) where
   tile-some d b us g = go (first_pattern r b) refl
     where
       go : (o : Option (List ℕ)) → first_pattern r b ≡ o → Some (tree_of r d b)
-      go (some vs) p = elim d [ zero ↦ rw p (is (tile vs)) | suc e ↦ rw p (is (tile vs)) ]
+      go (some vs) p = elim d as (λ n. Some (tree_of r n b)) [ zero ↦ rw p (is (tile vs)) | suc e ↦ rw p (is (tile vs)) ]
       go none p = absurd ((none-exactly r b).0 p us g.shape g.works)
 
   split-some : (d : ℕ) (b : Box) → (children b ≡ [] → ⊥) → Some (all_of (λ c. tree_of r d c) (children b)) → Some (tree_of r (suc d) b)

@@ -3,7 +3,7 @@
 use Prim.Native.Nat.{ℕ, zero, suc, ◌+◌, ◌≤◌, ◌<◌}
 use Rattle.std.specs.Prelude.{◌≡◌, ◌↔◌, Bool, length}
 use Rattle.std.proofs.Math.Path.{refl, sym, ap}
-use Rattle.std.proofs.Common.{◌∙◌}
+use Rattle.std.proofs.Common.{◌∙◌, get_or, drop}
 use Rattle.std.proofs.Math.Bool.{true, false}
 use mathlib.Core.List.{List, [], ◌∷◌}
 use Rattle.std.proofs.Math.Option.{Option, none, some}
@@ -23,12 +23,15 @@ pub data NotAfter : List ℕ → List ℕ → Type 0 where
   sooner : {u v : ℕ} {us vs : List ℕ} → u < v → NotAfter (u ∷ us) (v ∷ vs)
   then : {u : ℕ} {us vs : List ℕ} → NotAfter us vs → NotAfter (u ∷ us) (u ∷ vs)
 
+meet : {us vs ws : List ℕ} → NotAfter us vs → NotAfter vs ws → us ≡ ws → us ≡ vs
+meet end q e = refl
+meet (sooner {u = u} l) (sooner h) e = let same : u ≡ _ = ap (λ (x : List ℕ). get_or x 0 0) e in absurd (omega arith)
+meet (sooner l) (then q) e = let same = ap (λ (x : List ℕ). get_or x 0 0) e in absurd (omega arith)
+meet (then p) (sooner h) e = let same = ap (λ (x : List ℕ). get_or x 0 0) e in absurd (omega arith)
+meet (then {u = u} p) (then q) e = ap (λ (x : List ℕ). u ∷ x) (meet p q (ap (λ (x : List ℕ). drop 1 x) e))
+
 same : {us vs : List ℕ} → NotAfter us vs → NotAfter vs us → us ≡ vs
-same end q = refl
-same (sooner l) (sooner h) = absurd (omega arith)
-same (sooner l) (then q) = absurd (omega arith)
-same (then p) (sooner h) = absurd (omega arith)
-same (then {u = u} p) (then q) = ap (λ (x : List ℕ). u ∷ x) (same p q)
+same p q = meet p q refl
 
 -- ---- modes tried in order
 

@@ -55,7 +55,7 @@ module _ (r : Rules) where
       → full_find d s at b x ≡ tile_found (modes_at N k s m) m k
   unfolding full_find
   full-tile x d s at b zero m e z l = absurd (omega arith)
-  full-tile x d s at b (suc k) m e z l = elim d [ zero ↦ simp (e, le-leb (suc k) K l) | suc c ↦ simp (e, le-leb (suc k) K l) ]
+  full-tile x d s at b (suc k) m e z l = elim d as (λ n. full_find n s at b x ≡ tile_found (modes_at N (suc k) s m) m (suc k)) [ zero ↦ simp (e, le-leb (suc k) K l) | suc c ↦ simp (e, le-leb (suc k) K l) ]
 
   full-split : (x : Reading) (d : ℕ) (s : List ℕ) (at : ℕ) (b : Box) (m : ℕ) → number_at s at ≡ Number.Value 0 m → (children b ≡ [] → ⊥)
       → full_find (suc d) s at b x ≡ on_read (lengths_by (tells form) (children b) s m) Found.Refused λ ls first. full_among x d s at (children b) ls first

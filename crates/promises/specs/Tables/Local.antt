@@ -78,7 +78,7 @@ module _ (r : Rules) where
       → spans d s at b x ≡ tile_spans at (modes_at N k s m)
   unfolding spans
   spans-tile x d s at b zero m e z l = absurd (omega arith)
-  spans-tile x d s at b (suc k) m e z l = elim d [ zero ↦ simp (e, le-leb (suc k) K l) | suc c ↦ simp (e, le-leb (suc k) K l) ]
+  spans-tile x d s at b (suc k) m e z l = elim d as (λ n. spans n s at b x ≡ tile_spans at (modes_at N (suc k) s m)) [ zero ↦ simp (e, le-leb (suc k) K l) | suc c ↦ simp (e, le-leb (suc k) K l) ]
 
   abbrev pub spans_among : Reading → ℕ → List ℕ → List Box → List Length → ℕ → List Span
   spans_among x d s bs ls at = among_spans (tells form) (λ c. holds r c x) (λ p c. spans d s p c x) (pass_over r d s) bs ls at

@@ -52,7 +52,7 @@ first-answered N s place (suc m) f = let e : suc m - 1 ≡ m = omega arith in rw
 
 -- modes that were read
 modes-first : (N : ℕ) → N ≤ 2 ^ 35 → (k : ℕ) (s : List ℕ) (from : ℕ) (us : List ℕ) (m : ℕ) → modes_at N k s from ≡ read us m → 1 ≤ k → First N s from k
-unfolding Y.below
+unfolding Y.AllBelow
 modes-first N small k s from us m e l = go us (modes-stand N k s from us m e)
   where
     go : (us : List ℕ) → ModesStand N k s from us m → First N s from k

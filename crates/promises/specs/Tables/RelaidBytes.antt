@@ -50,7 +50,7 @@ module _ (r : Rules) where
     tree-tile : (k m : ℕ) → number_at s at ≡ Number.Value k m → 1 ≤ k → k ≤ K → tree_at r d s at b ≡ read_as tile (modes_at N k s m)
     unfolding L.tree_at
     tree-tile zero m e z l = absurd (omega arith)
-    tree-tile (suc k) m e z l = elim d [ zero ↦ simp (e, le-leb (suc k) K l) | suc c ↦ simp (e, le-leb (suc k) K l) ]
+    tree-tile (suc k) m e z l = elim d as (λ n. tree_at r n s at b ≡ read_as tile (modes_at N (suc k) s m)) [ zero ↦ simp (e, le-leb (suc k) K l) | suc c ↦ simp (e, le-leb (suc k) K l) ]
 
   module _ (sizes : Sizes r) where
     abbrev Shape : Box → List ℕ → Type 0

@@ -170,7 +170,7 @@ module _ (r : Rules) where
   module _ (judge : Box → List ℕ → Tried) (d : ℕ) (s : List ℕ) (at : ℕ) (b : Box) where
     pub walk-broken : number_at s at ≡ Number.Broken → walk r judge d s at b ≡ Walk.Refused (broken at)
     unfolding walk
-    walk-broken e = elim d [ zero ↦ simp e | suc m ↦ simp e ]
+    walk-broken e = elim d as (λ n. walk r judge n s at b ≡ Walk.Refused (broken at)) [ zero ↦ simp e | suc m ↦ simp e ]
 
     pub walk-deep : (m : ℕ) → number_at s at ≡ Number.Value 0 m → d ≡ 0 → walk r judge d s at b ≡ Walk.Refused (bad_table at)
     unfolding walk
@@ -178,7 +178,7 @@ module _ (r : Rules) where
 
     pub walk-stuck : (m : ℕ) → number_at s at ≡ Number.Value 0 m → children b ≡ [] → walk r judge d s at b ≡ Walk.Refused (bad_table at)
     unfolding walk
-    walk-stuck m e z = elim d [ zero ↦ simp e | suc k ↦ simp (e, z) ]
+    walk-stuck m e z = elim d as (λ n. walk r judge n s at b ≡ Walk.Refused (bad_table at)) [ zero ↦ simp e | suc k ↦ simp (e, z) ]
 
     pub walk_split : (m c : ℕ) → number_at s at ≡ Number.Value 0 m → d ≡ suc c → (children b ≡ [] → ⊥)
         → walk r judge d s at b ≡ each_by judge c s (children b) m
@@ -188,12 +188,12 @@ module _ (r : Rules) where
     pub walk-over : (k m : ℕ) → number_at s at ≡ Number.Value k m → K < k → walk r judge d s at b ≡ Walk.Refused (bad_table at)
     unfolding walk
     walk-over zero m e l = absurd (omega arith)
-    walk-over (suc k) m e l = elim d [ zero ↦ simp (e, lt-leb (suc k) K l) | suc c ↦ simp (e, lt-leb (suc k) K l) ]
+    walk-over (suc k) m e l = elim d as (λ n. walk r judge n s at b ≡ Walk.Refused (bad_table at)) [ zero ↦ simp (e, lt-leb (suc k) K l) | suc c ↦ simp (e, lt-leb (suc k) K l) ]
 
     pub walk-tile : (k m : ℕ) → number_at s at ≡ Number.Value k m → 1 ≤ k → k ≤ K → walk r judge d s at b ≡ on_modes (modes_at N k s m) at (judge b)
     unfolding walk
     walk-tile zero m e z l = absurd (omega arith)
-    walk-tile (suc k) m e z l = elim d [ zero ↦ simp (e, le-leb (suc k) K l) | suc c ↦ simp (e, le-leb (suc k) K l) ]
+    walk-tile (suc k) m e z l = elim d as (λ n. walk r judge n s at b ≡ on_modes (modes_at N (suc k) s m) at (judge b)) [ zero ↦ simp (e, le-leb (suc k) K l) | suc c ↦ simp (e, le-leb (suc k) K l) ]
 
   -- how a child is passed
   abbrev pub pass_over : ℕ → List ℕ → List Length → ℕ → Box → Walk
@@ -213,7 +213,7 @@ module _ (r : Rules) where
   module _ (x : Reading) (d : ℕ) (s : List ℕ) (at : ℕ) (b : Box) where
     pub find-broken : number_at s at ≡ Number.Broken → find r d s at b x ≡ Found.Refused (broken at)
     unfolding find
-    find-broken e = elim d [ zero ↦ simp e | suc m ↦ simp e ]
+    find-broken e = elim d as (λ n. find r n s at b x ≡ Found.Refused (broken at)) [ zero ↦ simp e | suc m ↦ simp e ]
 
     pub find-deep : (m : ℕ) → number_at s at ≡ Number.Value 0 m → d ≡ 0 → find r d s at b x ≡ Found.Refused (bad_table at)
     unfolding find
@@ -221,7 +221,7 @@ module _ (r : Rules) where
 
     pub find-stuck : (m : ℕ) → number_at s at ≡ Number.Value 0 m → children b ≡ [] → find r d s at b x ≡ Found.Refused (bad_table at)
     unfolding find
-    find-stuck m e z = elim d [ zero ↦ simp e | suc k ↦ simp (e, z) ]
+    find-stuck m e z = elim d as (λ n. find r n s at b x ≡ Found.Refused (bad_table at)) [ zero ↦ simp e | suc k ↦ simp (e, z) ]
 
     pub find-split : (m c : ℕ) → number_at s at ≡ Number.Value 0 m → d ≡ suc c → (children b ≡ [] → ⊥) → find r d s at b x ≡ look_by x c s at (children b) m
     unfolding find
@@ -230,12 +230,12 @@ module _ (r : Rules) where
     pub find-over : (k m : ℕ) → number_at s at ≡ Number.Value k m → K < k → find r d s at b x ≡ Found.Refused (bad_table at)
     unfolding find
     find-over zero m e l = absurd (omega arith)
-    find-over (suc k) m e l = elim d [ zero ↦ simp (e, lt-leb (suc k) K l) | suc c ↦ simp (e, lt-leb (suc k) K l) ]
+    find-over (suc k) m e l = elim d as (λ n. find r n s at b x ≡ Found.Refused (bad_table at)) [ zero ↦ simp (e, lt-leb (suc k) K l) | suc c ↦ simp (e, lt-leb (suc k) K l) ]
 
     pub find-tile : (k m : ℕ) → number_at s at ≡ Number.Value k m → 1 ≤ k → k ≤ K → find r d s at b x ≡ tile_found (modes_at N k s m) m k
     unfolding find
     find-tile zero m e z l = absurd (omega arith)
-    find-tile (suc k) m e z l = elim d [ zero ↦ simp (e, le-leb (suc k) K l) | suc c ↦ simp (e, le-leb (suc k) K l) ]
+    find-tile (suc k) m e z l = elim d as (λ n. find r n s at b x ≡ tile_found (modes_at N (suc k) s m) m (suc k)) [ zero ↦ simp (e, le-leb (suc k) K l) | suc c ↦ simp (e, le-leb (suc k) K l) ]
 
   -- where no lengths are told there is nothing but the children, and each is passed by a walk
   module _ (untold : tells form ≡ false) where
