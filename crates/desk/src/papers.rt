@@ -17,7 +17,7 @@ pub const TABLE: usize = 58_970;
 pub const START: usize = 535_000;
 
 // A file that was read, how many of its bytes, and whether that is all of it; or not read, which was told.
-#[derive(Drop)]
+#[derive(Clone, Copy)]
 pub struct Paper {
     pub is_read: bool,
     pub length: usize,
@@ -96,7 +96,7 @@ pub fn says_start() -> bool {
 }
 
 // A word read as a number: what it says, or that it is none.
-#[derive(Drop)]
+#[derive(Clone, Copy)]
 pub enum Word {
     Number(usize),
     Other,

@@ -10,7 +10,7 @@ use crate::{bounds, headers, refusals};
 use meaning::{Refusal, Verdict, Walk};
 
 // The header's numbers, m being a plant's N or a sheet's r, and the arrays, of which the first n entries count.
-#[derive(Drop)]
+#[derive(Clone, Copy)]
 pub struct Beginning {
     pub form: usize,
     pub n: usize,
@@ -27,7 +27,7 @@ pub struct Beginning {
 }
 
 // The place behind a beginning, what is to be said of R, S and w, and the beginning; a refused one is all zeros.
-#[derive(Drop)]
+#[derive(Clone, Copy)]
 pub struct BeginningRead {
     pub answer: Walk,
     pub related: Verdict,

@@ -13,7 +13,7 @@ use crate::{numbers, spans};
 use meaning::Walk;
 
 // The edges of R and S, zeros beyond n, and the place behind them.
-#[derive(Drop)]
+#[derive(Clone, Copy)]
 pub struct EdgeArrays {
     pub answer: Walk,
     pub rlo: [i64; 4],
@@ -74,7 +74,7 @@ pub fn read_edges(s: &[u8], at: usize, n: usize) -> EdgeArrays
 }
 
 // The bands, zeros beyond n, and the place behind them.
-#[derive(Drop)]
+#[derive(Clone, Copy)]
 pub struct BandArrays {
     pub answer: Walk,
     pub wlo: [i64; 4],

@@ -7,7 +7,7 @@ ghost use Rattle.files.specs.Headers.{HeaderTold, head_bytes};
 use crate::{fields, numbers, refusals};
 use meaning::{Number, Refusal};
 
-#[derive(Drop)]
+#[derive(Clone, Copy)]
 pub struct Header {
     pub form: usize,
     pub n: usize,
@@ -18,7 +18,7 @@ pub struct Header {
 }
 
 // The header and the place behind it.
-#[derive(Drop)]
+#[derive(Clone, Copy)]
 pub enum HeaderRead {
     Header(Header, usize),
     Refused(Refusal),

@@ -15,14 +15,14 @@ use crate::{arrays, bounds, refusals, rows};
 use meaning::{Verdict, Walk};
 
 // The place behind the modes, and what is to be said of R, S and the bands of all modes.
-#[derive(Drop)]
+#[derive(Clone, Copy)]
 pub struct ModesRead {
     pub answer: Walk,
     pub related: Verdict,
 }
 
 // One mode of form 2: the place behind it, and the first dimension whose band is too narrow, n where none is.
-#[derive(Drop)]
+#[derive(Clone, Copy)]
 pub struct ModeRead {
     pub answer: Walk,
     pub thin: usize,

@@ -6,7 +6,7 @@ use crate::fields;
 use meaning::{Refusal, Signed};
 
 // A lo with its hi and the place behind them.
-#[derive(Drop)]
+#[derive(Clone, Copy)]
 pub enum Span {
     Ends(i64, i64, usize),
     Refused(Refusal),

@@ -5,14 +5,14 @@
 ghost use Rattle.std.specs.Prelude.{◌≤◌, pos, ◌<ℤ◌, unsigned_abs};
 
 // The first n sides count, n being at most 4.
-#[derive(Drop)]
+#[derive(Clone, Copy)]
 pub struct Bx {
     pub lo: [i64; 4],
     pub hi: [i64; 4],
 }
 
 // One side of a child, and the bits of the child's number that are left for the other sides.
-#[derive(Drop)]
+#[derive(Clone, Copy)]
 struct Piece {
     lo: i64,
     hi: i64,

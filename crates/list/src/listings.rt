@@ -10,7 +10,7 @@ use meaning::{Number, Outline, Written};
 use tables::makes;
 
 // How far a walk has come: the place in the table, the tiles passed, their longest pattern.
-#[derive(Drop)]
+#[derive(Clone, Copy)]
 struct Tally {
     place: usize,
     tiles: usize,
@@ -46,7 +46,7 @@ fn put_sides(line: &mut [u8], from: usize, n: usize, b: Bx) -> usize {
 }
 
 // The place behind k modes, and the line with each of them behind a blank.
-#[derive(Drop)]
+#[derive(Clone, Copy)]
 struct Modes {
     place: usize,
     at: usize,

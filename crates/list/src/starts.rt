@@ -8,7 +8,7 @@ use meaning::{Number, Outline, Signed, Verdict};
 use tables::start_checks;
 
 // A box of the chain, and the place behind its edges.
-#[derive(Drop)]
+#[derive(Clone, Copy)]
 struct Edges {
     b: Bx,
     next: usize,

@@ -5,7 +5,7 @@
 #![tactic(auto)]
 
 // A refusal: its number in document 01's table, the place, the step.
-#[derive(Drop)]
+#[derive(Clone, Copy)]
 pub struct Refusal {
     pub number: u8,
     pub place: usize,
@@ -13,28 +13,28 @@ pub struct Refusal {
 }
 
 // A number in groups of seven bits at a place: its value and the place behind it.
-#[derive(Drop)]
+#[derive(Clone, Copy)]
 pub enum Number {
     Value(usize, usize),
     Broken,
 }
 
 // The same, signed.
-#[derive(Drop)]
+#[derive(Clone, Copy)]
 pub enum Signed {
     Value(i64, usize),
     Broken,
 }
 
 // A file that was judged.
-#[derive(Drop)]
+#[derive(Clone, Copy)]
 pub enum Verdict {
     Accepted,
     Refused(Refusal),
 }
 
 // What a writer did: the bytes written, or the refusal.
-#[derive(Drop)]
+#[derive(Clone, Copy)]
 pub enum Written {
     Length(usize),
     Refused(Refusal),
@@ -50,7 +50,7 @@ pub const BANDS: usize = 2_048;
 // A plant but for its bands and its coefficients, which are lent beside it, each in a flat array. Of each array of edges the first n entries count. Bands
 // and coefficients stand mode by mode: the band of mode u in dimension i begins at 2·(u·n + i) with w lo, and w hi ends it; row i of mode u begins at
 // (u·n + i)·(n + 1) with its n entries of A, and b_i ends it. A file of form 1 has one band for all modes, which stands there once for each.
-#[derive(Drop)]
+#[derive(Clone, Copy)]
 pub struct Outline {
     pub form: usize,
     pub n: usize,
@@ -65,14 +65,14 @@ pub struct Outline {
 }
 
 // A plant's reader answers both: a refused one's outline is all zeros.
-#[derive(Drop)]
+#[derive(Clone, Copy)]
 pub struct PlantRead {
     pub verdict: Verdict,
     pub outline: Outline,
 }
 
 // A pattern tried on a box: it works, an image leaves S at that step, or the last one, of that step, is not in R.
-#[derive(Drop)]
+#[derive(Clone, Copy)]
 pub enum Tried {
     Works,
     Leaves(usize),
@@ -80,49 +80,49 @@ pub enum Tried {
 }
 
 // A walk over a table's bytes: the place behind what was read.
-#[derive(Drop)]
+#[derive(Clone, Copy)]
 pub enum Walk {
     Next(usize),
     Refused(Refusal),
 }
 
 // The tile that holds a reading: the place of its first mode, and how many there are.
-#[derive(Drop)]
+#[derive(Clone, Copy)]
 pub enum Found {
     Tile(usize, usize),
     Refused(Refusal),
 }
 
 // The controller between two calls: the place of the next mode and how many are left; idle is 0 and 0.
-#[derive(Drop)]
+#[derive(Clone, Copy)]
 pub struct State {
     pub place: usize,
     pub left: usize,
 }
 
 // The controller's answer.
-#[derive(Drop)]
+#[derive(Clone, Copy)]
 pub enum Answer {
     Mode(usize, State),
     Refused(Refusal),
 }
 
 // The start controller between two calls: the index of the box whose table is run, and the state in that table; idle is 0, 0, 0.
-#[derive(Drop)]
+#[derive(Clone, Copy)]
 pub struct StartState {
     pub index: usize,
     pub state: State,
 }
 
 // Its answer.
-#[derive(Drop)]
+#[derive(Clone, Copy)]
 pub enum StartAnswer {
     Mode(usize, StartState),
     Refused(Refusal),
 }
 
 // What heats a room. Each kind carries only its own values.
-#[derive(Drop)]
+#[derive(Clone, Copy)]
 pub enum Emitter {
     None,
     Heater { coefficient: f64, water: f64 },
@@ -130,7 +130,7 @@ pub enum Emitter {
 }
 
 // A room: its loss, its exchanges with the other rooms in ascending order (the first n - 1 count), its emitter.
-#[derive(Drop)]
+#[derive(Clone, Copy)]
 pub struct Room {
     pub loss: f64,
     pub exchange: [f64; 3],
@@ -138,7 +138,7 @@ pub struct Room {
 }
 
 // A sheet: r counts a degree, the plant's figures, sample time and outside temperature, and n rooms.
-#[derive(Drop)]
+#[derive(Clone, Copy)]
 pub struct Sheet {
     pub n: usize,
     pub r: usize,
@@ -157,14 +157,14 @@ pub struct Sheet {
 }
 
 // A sheet's reader answers both: a refused one's sheet is all zeros.
-#[derive(Drop)]
+#[derive(Clone, Copy)]
 pub struct SheetRead {
     pub verdict: Verdict,
     pub sheet: Sheet,
 }
 
 // A float's product rounded to a whole number of the plant: the number, or that the plant cannot hold it.
-#[derive(Drop)]
+#[derive(Clone, Copy)]
 pub enum Whole {
     Near(i64),
     Out,

@@ -87,7 +87,7 @@ pub const ENDS: usize = 8;
 
 // The widened bands in plant order, w lo and w hi of each dimension: which of these numbers is the first that is out (their count where none is), and what
 // the plant holds of them, zeros behind them and where one is out. A plant of form 1 is written with one band for all modes.
-#[derive(Drop)]
+#[derive(Clone, Copy)]
 pub struct Bands {
     pub first: usize,
     pub ends: [i64; ENDS],

@@ -37,7 +37,7 @@ fn entry(h: Sheet, sums: [f64; 4], bits: [usize; 4], p: usize) -> Whole
 
 // The coefficients: which is the first that is out (their count where none is), and what the plant holds of them, zeros behind them and
 // where one is out.
-#[derive(Drop)]
+#[derive(Clone, Copy)]
 struct Entries {
     first: usize,
     coef: [i64; ENTRIES],
@@ -72,7 +72,7 @@ fn modes(h: Sheet) -> usize
 
 // Whether all numbers of the plant fit, which of the plant file's numbers is the first that does not, its form being 0 (their count where all
 // fit), and the plant, with its arrays.
-#[derive(Drop)]
+#[derive(Clone, Copy)]
 pub struct Made {
     pub fits: bool,
     pub place: usize,

@@ -12,7 +12,7 @@ use files::{numbers, refusals};
 use meaning::{Emitter, Number, Refusal, Room, Walk};
 
 // The exchanges, zeros beyond the first m, and the place behind them.
-#[derive(Drop)]
+#[derive(Clone, Copy)]
 pub struct Exchanges {
     pub answer: Walk,
     pub exchange: [f64; 3],
@@ -47,7 +47,7 @@ fn read_exchanges(s: &[u8], at: usize, m: usize) -> Exchanges
 }
 
 // An emitter and the place behind it.
-#[derive(Drop)]
+#[derive(Clone, Copy)]
 pub enum EmitterRead {
     Emitter(Emitter, usize),
     Refused(Refusal),
@@ -95,7 +95,7 @@ fn read_emitter(s: &[u8], at: usize) -> EmitterRead
 }
 
 // A room and the place behind it.
-#[derive(Drop)]
+#[derive(Clone, Copy)]
 pub struct RoomRead {
     pub answer: Walk,
     pub room: Room,
@@ -160,7 +160,7 @@ pub fn read_room(s: &[u8], at: usize, n: usize) -> RoomRead
 }
 
 // The rooms, none beyond n, and the place behind them.
-#[derive(Drop)]
+#[derive(Clone, Copy)]
 pub struct Rooms {
     pub answer: Walk,
     pub rooms: [Room; 4],

@@ -10,14 +10,14 @@ ghost use Rattle.meaning.specs.Tables.{reading_of, children_by};
 ghost use Rattle.tables.specs.Boxes.{box_of, Small, piece_of, rest_of, part_of, bit_of, longest_at};
 ghost use Rattle.tables.specs.Finds.{holds_in, HalfOf};
 
-#[derive(Drop)]
+#[derive(Clone, Copy)]
 pub struct Bx {
     pub lo: [i64; 4],
     pub hi: [i64; 4],
 }
 
 // One side of a child, and the bits of the child's number that are left for the other sides.
-#[derive(Drop)]
+#[derive(Clone, Copy)]
 struct Piece {
     lo: i64,
     hi: i64,
@@ -25,7 +25,7 @@ struct Piece {
 }
 
 // One side of the child that holds a reading, what it adds to the child's number, and how many children the sides up to it make.
-#[derive(Drop)]
+#[derive(Clone, Copy)]
 struct Part {
     lo: i64,
     hi: i64,
@@ -35,7 +35,7 @@ struct Part {
 
 // The child that holds a reading, of a box that holds it, where all long sides are halved at once: its box, its number, and how many children there are; 1 where no
 // side is long, and there are none.
-#[derive(Drop)]
+#[derive(Clone, Copy)]
 pub struct Holder {
     pub kid: Bx,
     pub number: usize,

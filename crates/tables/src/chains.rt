@@ -21,7 +21,7 @@ pub const EDGES: usize = 64;
 
 // m, the place behind the chain, and the edges as they stand in the file: lo and hi of dimension j of the i-th box above R, from 0, at 2·(i·n + j), zeros
 // behind. A refused one is all zeros.
-#[derive(Drop)]
+#[derive(Clone, Copy)]
 pub struct ChainRead {
     pub verdict: Verdict,
     pub m: usize,
@@ -30,7 +30,7 @@ pub struct ChainRead {
 }
 
 // m and the place behind it.
-#[derive(Drop)]
+#[derive(Clone, Copy)]
 enum Head {
     Boxes(usize, usize),
     Refused(Refusal),

@@ -30,7 +30,7 @@ pub const LONG: usize = 32_769;
 pub const FEW: usize = 129;
 
 // A tree that was written: the place behind it, one past the buffer's end where there was not room for all; or that there is no such tree.
-#[derive(Drop)]
+#[derive(Clone, Copy)]
 pub enum Grown {
     Next(usize),
     Nothing,

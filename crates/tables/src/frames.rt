@@ -8,7 +8,7 @@ use crate::boxes::Bx;
 use meaning::Outline;
 
 // The form of its table; the box that is tiled, the box that patterns end in, the box that nothing may leave; the rest as in a plant.
-#[derive(Drop)]
+#[derive(Clone, Copy)]
 pub struct Frame {
     pub form: usize,
     pub n: usize,
@@ -71,7 +71,7 @@ pub fn depth(form: usize, n: usize, d: usize) -> usize
 }
 
 // A frame taken apart, for the functions that call themselves: its numbers by value, and its boxes lent, so that no call copies a box.
-#[derive(Drop)]
+#[derive(Clone, Copy)]
 pub struct Counts {
     pub form: usize,
     pub n: usize,

@@ -14,7 +14,7 @@ use crate::boxes::Bx;
 use crate::division;
 
 // A least and a greatest number.
-#[derive(Drop)]
+#[derive(Clone, Copy)]
 pub struct Span {
     pub lo: i64,
     pub hi: i64,

@@ -11,7 +11,7 @@ use files::numbers;
 use meaning::{Number, Walk};
 
 // What k lengths come to, and the place behind them; or that one is broken.
-#[derive(Drop)]
+#[derive(Clone, Copy)]
 pub enum Sum {
     Of(usize, usize),
     Broken,

@@ -10,7 +10,7 @@ use files::numbers;
 use meaning::{Number, Walk};
 
 // The place behind the modes, and beside it the modes: an enum cannot hold an array. Refused, the array says nothing.
-#[derive(Drop)]
+#[derive(Clone, Copy)]
 pub struct ModesRead {
     pub answer: Walk,
     pub us: [usize; 6],

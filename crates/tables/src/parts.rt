@@ -7,7 +7,7 @@ use files::numbers;
 use meaning::{Number, Refusal};
 
 // The place of a table's first byte, and how many bytes it has.
-#[derive(Drop)]
+#[derive(Clone, Copy)]
 pub enum Part {
     At(usize, usize),
     Refused(Refusal),

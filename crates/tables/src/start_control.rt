@@ -19,7 +19,7 @@ use files::plants;
 use meaning::{Answer, Refusal, StartAnswer, StartState, State, Verdict};
 
 // The index of the table that is called, or why none is.
-#[derive(Drop)]
+#[derive(Clone, Copy)]
 enum Choice {
     Table(usize),
     Refused(Refusal),

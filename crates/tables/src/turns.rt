@@ -17,14 +17,14 @@ use files::{buffers, numbers};
 use meaning::{Number, Walk, Written};
 
 // The place behind a tree, and how many bytes it has where lengths are told.
-#[derive(Drop)]
+#[derive(Clone, Copy)]
 pub struct Size {
     pub behind: usize,
     pub size: usize,
 }
 
 // The place behind what was read, and the one behind what was written.
-#[derive(Drop)]
+#[derive(Clone, Copy)]
 pub struct Turned {
     pub behind: usize,
     pub to: usize,

@@ -1,0 +1,26 @@
+-- `beginnings::read_beginning`: a header, and what stands behind it. Assumes nothing.
+use mathlib.Core.Path.{subst}
+use Rattle.files.specs.Headers.{HeaderTold}
+use Rattle.files.specs.BeginningLaws.{settled}
+use Rattle.files.proofs.beginnings.Laws.{header-cut, header-told}
+use borrow.Author.Rules.{rules}
+use Rattle.files.proofs.beginnings.read_beginning.Goals as goal
+
+pub read_bounds-requires : goal.read_bounds-requires
+read_bounds-requires c =
+    let z = c.args in
+    let t = subst (HeaderTold z.forms z.most z.s.now) c.in-Header.is c.read_header.ensures in
+    record { fact_1 = t.n-high; fact_2 = t.q-high }
+
+pub returns-in-Refused : goal.returns-in-Refused
+returns-in-Refused c =
+    let z = c.args in
+    let t = subst (HeaderTold z.forms z.most z.s.now) c.in-Refused.is c.read_header.ensures in
+    rw c.refused.ensures (header-cut z.forms z.most z.s.now c.in-Refused.e t)
+
+pub returns-in-Header : goal.returns-in-Header
+returns-in-Header c =
+    let z = c.args in
+    let t = subst (HeaderTold z.forms z.most z.s.now) c.in-Header.is c.read_header.ensures in
+    let u = header-told z.forms z.most z.s.now c.in-Header.h c.in-Header.at c.read_bounds.result t c.read_bounds.ensures in
+    record { value = settled z.forms z.most z.s.now c.read_bounds.result u; told = u }

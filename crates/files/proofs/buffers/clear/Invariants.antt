@@ -1,0 +1,15 @@
+-- `buffers::clear`: i bytes are zeros, the others as they were. Assumes nothing.
+use Prim.Native.Nat.{ℕ, ◌-◌, ◌≤◌}
+use mathlib.Core.Path.{◌≡◌, refl, ap, ◌∙◌}
+use mathlib.Core.List.{List, ◌++◌, append-nil}
+use native.Mathlib.Omega.{arith}
+use native.Mathlib.Nat.{le_refl}
+use borrow.Author.Fill.{fill_none, fill_more}
+use lib.ListN.{set, length, drop, replicate, length-set, drop_of_length-le}
+use Rattle.files.proofs.buffers.clear.Given as goal
+
+abbrev pub invariant-loop-i : goal.invariant-loop-i
+invariant-loop-i l = (l.i ≤ length l.buf) × (length l.buf ≡ length l.initial.buf) × (l.buf ≡ replicate l.i 0 ++ drop l.i l.initial.buf)
+
+abbrev pub decreases-loop-i : goal.decreases-loop-i
+decreases-loop-i l = length l.buf - l.i

@@ -1,0 +1,26 @@
+-- `fields::ranged` judges what `signed` read. Assumes nothing.
+use mathlib.Core.Path.{ap, sym, ◌∙◌}
+use Rattle.files.specs.Fields.{in_span}
+use Rattle.files.proofs.fields.Laws.{low_signed, high-signed, between-signed}
+use borrow.Author.Rules.{rules}
+use Rattle.files.proofs.fields.ranged.Goals as goal
+
+pub returns-in_default : goal.returns-in_default
+returns-in_default c =
+    let a = c.args in
+    ap (in_span a.least a.most) (sym c.in_default.is ∙ c.signed.ensures)
+
+pub returns-then-v-least : goal.returns-then-v-least
+returns-then-v-least c =
+    low_signed c.args.least c.args.most c.in-Value.v c.in-Value.next c.ranges.least c.ranges.most (record { sfits = c.in-Value.known_told-1-own.given.0.1 }) c.if-v-least.true
+    ∙ ap (in_span c.args.least c.args.most) (sym c.in-Value.is ∙ c.signed.ensures)
+
+pub returns-then-most-v : goal.returns-then-most-v
+returns-then-most-v c =
+    high-signed c.args.least c.args.most c.in-Value.v c.in-Value.next c.ranges.least c.ranges.most (record { sfits = c.in-Value.known_told-1-own.given.0.1 }) c.if-v-least.false c.if-most-v.true
+    ∙ ap (in_span c.args.least c.args.most) (sym c.in-Value.is ∙ c.signed.ensures)
+
+pub returns : goal.returns
+returns c =
+    between-signed c.args.least c.args.most c.in-Value.v c.in-Value.next c.ranges.least c.ranges.most (record { sfits = c.in-Value.known_told-1-own.given.0.1 }) c.if-v-least.false c.if-most-v.false
+    ∙ ap (in_span c.args.least c.args.most) (sym c.in-Value.is ∙ c.signed.ensures)

@@ -1,0 +1,14 @@
+-- `modes::lay`: the ends of a band one behind the other. Assumes nothing.
+use Prim.Native.Nat.{◌-◌}
+use native.Mathlib.Omega.{arith}
+use mir.Facts.{to_z-of_z}
+use Rattle.laws.specs.Integers.{ok64}
+use Rattle.laws.specs.Lists
+use Rattle.files.proofs.modes.Laws.{ends-few, LaidTo, laid_none, laid_more, laid-all}
+use Rattle.files.proofs.modes.lay.Given as goal
+
+abbrev pub invariant-loop-i : goal.invariant-loop-i
+invariant-loop-i l = LaidTo l.n l.u l.wlo l.whi l.initial.bands l.i l.bands
+
+abbrev pub decreases-loop-i : goal.decreases-loop-i
+decreases-loop-i l = l.n - l.i

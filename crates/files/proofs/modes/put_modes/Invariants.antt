@@ -1,0 +1,17 @@
+-- `modes::put_modes`: what is left to write is the definition's rest. Assumes nothing.
+use Prim.Native.Nat.{◌-◌, ◌≤◌}
+use mathlib.Core.Path.{◌∙◌}
+use native.Mathlib.Omega.{arith}
+use Rattle.laws.specs.Lists.{tabs}
+use Rattle.laws.specs.Writing.{Under, under_none, under_more, under-done, put-append, put-length}
+use Rattle.files.specs.Signed.{signed_bytes}
+use Rattle.files.specs.Modes.{mode_numbers}
+use Rattle.files.proofs.modes.Laws.{size_few, all-few, ends-few, rows_few}
+use Rattle.files.proofs.modes.Writing.{rest-alike, rest-own, further-step, further-over}
+use Rattle.files.proofs.modes.put_modes.Given as goal
+
+abbrev pub invariant-loop-u : goal.invariant-loop-u
+invariant-loop-u l = (1 ≤ l.u) × Under l.initial.buf l.initial.p (signed_bytes (tabs (mode_numbers l.n l.bands l.coef) (l.modes - 1) 1)) (signed_bytes (tabs (mode_numbers l.n l.bands l.coef) (l.modes - l.u) l.u)) l.p l.buf
+
+abbrev pub decreases-loop-u : goal.decreases-loop-u
+decreases-loop-u l = l.modes - l.u

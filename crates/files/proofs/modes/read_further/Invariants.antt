@@ -1,0 +1,15 @@
+-- `modes::read_further`: mode by mode. Relies on page Reading.
+use Prim.Native.Nat.{◌-◌}
+use mathlib.Core.Path.{◌∙◌, subst}
+use native.Mathlib.Omega.{arith}
+use borrow.Author.Rules.{rules}
+use Rattle.files.specs.Modes.{ModeAs, FurtherTo}
+use Rattle.files.proofs.modes.Laws.{bands-kept, coef-kept}
+use Rattle.files.proofs.modes.Reading.{further-none, further-more, further-stop, further-all}
+use Rattle.files.proofs.modes.read_further.Given as goal
+
+abbrev pub invariant-loop-u : goal.invariant-loop-u
+invariant-loop-u l = FurtherTo l.s l.b l.at l.u l.initial.told l.told l.initial.bands l.initial.coef l.bands l.coef l.p
+
+abbrev pub decreases-loop-u : goal.decreases-loop-u
+decreases-loop-u l = l.b.m - l.u

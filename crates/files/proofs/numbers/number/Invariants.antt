@@ -1,0 +1,15 @@
+-- `numbers::number` reads what the definition says. The loop's invariant: after k bytes, what the definition says from here is what it says of the whole.
+-- Assumes nothing.
+use Prim.Native.Nat.{◌-◌, ◌*◌, ◌^◌, ◌<◌, ◌≤◌}
+use mathlib.Core.Path.{◌≡◌, refl, sym, ◌∙◌}
+use native.Mathlib.Omega.{arith}
+use lib.ListN.{get_or}
+use Rattle.meaning.specs.Numbers.{groups_at}
+use Rattle.files.proofs.numbers.Laws.{weight-le, weight-next, group-le, short, zero-first, zero-late, last, more, over}
+use Rattle.files.proofs.numbers.number.Given as goal
+
+abbrev pub invariant-loop-k : goal.invariant-loop-k
+invariant-loop-k l = (l.k ≤ 5) × (l.w ≡ 2 ^ (7 * l.k)) × (l.v < l.w) × (groups_at (5 - l.k) l.s l.i l.v l.w ≡ groups_at 5 l.s l.at 0 1)
+
+abbrev pub decreases-loop-k : goal.decreases-loop-k
+decreases-loop-k l = 5 - l.k

@@ -1,0 +1,27 @@
+-- `plants::read_plant`: a beginning, and what stands behind it. Assumes nothing.
+use mathlib.Core.Path.{subst}
+use Rattle.meaning.specs.Plants.{plant_forms, most_modes}
+use Rattle.files.specs.Beginnings.{BegunAs}
+use Rattle.files.proofs.plants.Laws.{beginning-refused, beginning-read, answered}
+use borrow.Author.Rules.{rules}
+use Rattle.files.proofs.plants.read_plant.Goals as goal
+
+pub read_body-requires : goal.read_body-requires
+read_body-requires c =
+    let z = c.args in
+    let r = c.read_beginning-read in
+    subst (BegunAs plant_forms most_modes z.s.now r.result) c.in-Next.is r.ensures.told
+
+pub returns-in-Refused : goal.returns-in-Refused
+returns-in-Refused c =
+    let s = c.args.s.now in
+    let r = c.read_beginning-read in
+    let t = subst (BegunAs plant_forms most_modes s r.result) c.in-Refused.is r.ensures.told in
+    answered s (beginning-refused s c.in-Refused.e t.1) c.refused.ensures
+
+pub returns-in-Next : goal.returns-in-Next
+returns-in-Next c =
+    let s = c.args.s.now in
+    let r = c.read_beginning-read in
+    let t = subst (BegunAs plant_forms most_modes s r.result) c.in-Next.is r.ensures.told in
+    answered s (beginning-read s r.result.beginning c.in-Next.at t.0) c.read_body.ensures

@@ -1,0 +1,34 @@
+-- `spans::read_span` reads lo and hi. Assumes nothing.
+use mathlib.Core.Path.{sym, ◌∙◌}
+use mir.Syntax.{w64}
+use mir.Val.{SFits}
+use mir.Facts.{to_z-of_z}
+use Rattle.files.proofs.spans.Laws.{lo-fails, hi-fails, spanned}
+use borrow.Author.Rules.{rules}
+use Rattle.files.proofs.spans.read_span.Goals as goal
+
+pub returns-in_default : goal.returns-in_default
+returns-in_default c =
+    let f = c.ranges.least in
+    let g = c.ranges.most in
+    let e = simp to_z-of_z at (sym c.ranged.ensures ∙ c.in_default.is) in
+    rw c.fault.ensures (lo-fails c.args.least c.args.most c.args.s.now c.args.at e)
+
+pub returns-in_default-ranged : goal.returns-in_default-ranged
+returns-in_default-ranged c =
+    let l : SFits w64 c.in-Value.lo = record { sfits = c.in-Value.known_told-1-own.given.0.1 } in
+    let f = c.ranges.least in
+    let g = c.ranges.most in
+    let e = simp to_z-of_z at (sym c.ranged.ensures ∙ c.in-Value.is) in
+    let h = simp to_z-of_z at (sym c.ranged-2.ensures ∙ c.in_default-ranged.is) in
+    rw c.fault-in_default-ranged.ensures (hi-fails c.args.least c.args.most c.args.s.now c.args.at c.in-Value.lo c.in-Value.mid e h)
+
+pub returns : goal.returns
+returns c =
+    let l : SFits w64 c.in-Value.lo = record { sfits = c.in-Value.known_told-1-own.given.0.1 } in
+    let f = c.ranges.least in
+    let g = c.ranges.most in
+    let e = simp to_z-of_z at (sym c.ranged.ensures ∙ c.in-Value.is) in
+    let m : SFits w64 c.in-Value-ranged.hi = record { sfits = c.in-Value-ranged.known_told-in-Value-ranged-2-1-own.given.0.1 } in
+    let h = simp to_z-of_z at (sym c.ranged-2.ensures ∙ c.in-Value-ranged.is) in
+    simp to_z-of_z (spanned c.args.least c.args.most c.args.s.now c.args.at c.in-Value.lo c.in-Value.mid e c.in-Value-ranged.hi c.in-Value-ranged.next h)
