@@ -4,6 +4,8 @@ use Rattle.files.specs.Headers.{HeaderTold}
 use Rattle.files.specs.BeginningLaws.{settled}
 use Rattle.files.proofs.beginnings.Laws.{header-cut, header-told}
 use borrow.Author.Rules.{rules}
+use mathlib.Core.Path.{sym}
+use Rattle.files.specs.Beginnings.{BegunAs}
 use Rattle.files.proofs.beginnings.read_beginning.Goals as goal
 
 pub read_bounds-requires : goal.read_bounds-requires
@@ -16,7 +18,8 @@ pub returns-in-Refused : goal.returns-in-Refused
 returns-in-Refused c =
     let z = c.args in
     let t = subst (HeaderTold z.forms z.most z.s.now) c.in-Refused.is c.read_header.ensures in
-    rw c.refused.ensures (header-cut z.forms z.most z.s.now c.in-Refused.e t)
+    let whole = header-cut z.forms z.most z.s.now c.in-Refused.e t in
+    record { value = rw c.refused.ensures whole.0; told = subst (λ r. BegunAs z.forms z.most z.s.now r r.answer) (sym c.refused.ensures) whole.1 }
 
 pub returns-in-Header : goal.returns-in-Header
 returns-in-Header c =

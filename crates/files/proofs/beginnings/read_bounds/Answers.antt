@@ -1,5 +1,6 @@
 -- `beginnings::read_bounds`: edges, then bands. Assumes nothing.
-use mathlib.Core.Path.{refl, subst}
+use mathlib.Core.Path.{refl, sym, subst}
+use Rattle.files.specs.Beginnings.{BoundsAs}
 use Rattle.files.specs.Bounds.{EdgesAs, BandsAs}
 use Rattle.files.proofs.beginnings.Laws.{edges-refused, bands-refused, bounds-read}
 use borrow.Author.Rules.{rules}
@@ -17,7 +18,7 @@ returns-in-Refused c =
     let z = c.args in
     let s = c.args.s.now in
     let e = c.read_edges-edges in
-    rw c.refused.ensures (refl, edges-refused s z.h z.at c.in-Refused.e (subst (EdgesAs s z.at z.h.n e.result) c.in-Refused.is e.ensures))
+    subst (λ r. BoundsAs s z.h z.at r r.answer) (sym c.refused.ensures) (refl, edges-refused s z.h z.at c.in-Refused.e (subst (EdgesAs s z.at z.h.n e.result) c.in-Refused.is e.ensures))
 
 pub returns-in-Refused-past_bands : goal.returns-in-Refused-past_bands
 returns-in-Refused-past_bands c =
@@ -26,7 +27,7 @@ returns-in-Refused-past_bands c =
     let e = c.read_edges-edges in
     let t = subst (EdgesAs s z.at z.h.n e.result) c.in-Next.is e.ensures in
     let w = c.read_bands-bands in
-    rw c.refused-in-Refused-past_bands.ensures (refl, bands-refused s z.h z.at e.result c.in-Next.mid t c.in-Refused-past_bands.e (subst (BandsAs s c.in-Next.mid z.h.n w.result) c.in-Refused-past_bands.is w.ensures))
+    subst (λ r. BoundsAs s z.h z.at r r.answer) (sym c.refused-in-Refused-past_bands.ensures) (refl, bands-refused s z.h z.at e.result c.in-Next.mid t c.in-Refused-past_bands.e (subst (BandsAs s c.in-Next.mid z.h.n w.result) c.in-Refused-past_bands.is w.ensures))
 
 pub returns-in-Next-past_bands : goal.returns-in-Next-past_bands
 returns-in-Next-past_bands c =

@@ -15,7 +15,7 @@ pub bounds-buf-i : goal.bounds-buf-i
 bounds-buf-i c = omega arith
 
 pub overflow_add-i : goal.overflow_add-i
-overflow_add-i c = omega (arith, c.before.before.well-formed.0.0)
+overflow_add-i c = omega (arith, c.well_formed.0.0)
 
 pub loop-i-smaller : goal.loop-i-smaller
 loop-i-smaller c = simp length-set (omega arith)

@@ -19,7 +19,7 @@ pub returns-then-size-room : goal.returns-then-size-room
 returns-then-size-room c =
     let a = c.args in
     let w = c.copy in
-    put-part a.buf.now a.at (omega arith) a.bytes.now w.new.1.0 (omega arith) w.ensures
+    put-part a.buf.now a.at (omega arith) a.bytes.now w.new.buf (omega arith) w.ensures
 
 pub slice_bounds-copy-end-2 : goal.slice_bounds-copy-end-2
 slice_bounds-copy-end-2 c =
@@ -35,4 +35,4 @@ pub returns : goal.returns
 returns c =
     let a = c.args in
     let w = c.copy-2 in
-    put_front a.buf.now a.at (omega arith) a.bytes.now w.new.1.0 (omega arith) w.ensures
+    put_front a.buf.now a.at (omega arith) a.bytes.now w.new.buf (omega arith) w.ensures

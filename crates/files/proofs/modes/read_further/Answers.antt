@@ -12,20 +12,20 @@ pub loop-u-init : goal.loop-u-init
 loop-u-init c = further-none c.args.s.now c.args.b c.args.at c.args.related c.args.bands.now c.args.coef.now c.requires.2
 
 pub read_mode-mode-requires : goal.read_mode-mode-requires
-read_mode-mode-requires c = let z = c.requires in (z.0, z.1, omega (arith, z.3))
+read_mode-mode-requires c = let z = c.requires in record { sizes = (z.0, z.1, omega (arith, z.3)) }
 
 pub shape_of-bands-in_default : goal.shape_of-bands-in_default
-shape_of-bands-in_default c = c.read_mode-mode.auto.1.1.1.1.1.0 ∙ bands-kept c.loop-u.invariant.stored
+shape_of-bands-in_default c = c.read_mode-mode.auto.bands ∙ bands-kept c.loop-u.invariant.stored
 
 pub shape_of-coef-in_default : goal.shape_of-coef-in_default
-shape_of-coef-in_default c = c.read_mode-mode.auto.1.1.1.1.1.1.0 ∙ coef-kept c.loop-u.invariant.stored
+shape_of-coef-in_default c = c.read_mode-mode.auto.coef ∙ coef-kept c.loop-u.invariant.stored
 
 pub returns-in_default : goal.returns-in_default
 returns-in_default c =
     let z = c.args in
     let w = c.loop-u in
     let r = c.read_mode-mode in
-    further-stop z.s.now z.b z.at w.invariant r.result.answer c.in_default.field-0 c.in_default.is r.new.1.1.1.1.1.0 r.new.1.1.1.1.1.1.0 r.result.thin z.related w.told (omega arith) r.ensures
+    further-stop z.s.now z.b z.at w.invariant r.result.answer c.in_default.field-0 c.in_default.is r.new.bands r.new.coef r.result.thin z.related w.told (omega arith) r.ensures
 
 pub after-told-requires : goal.after-told-requires
 after-told-requires c = tt

@@ -36,4 +36,4 @@ returns-in-Next c =
     let l = c.lay in
     let thin = c.first_narrow-thin in
     let w = c.read_rows in
-    mode-told z.s.now z.at z.n z.q z.u r.result c.in-Next.mid t z.bands.now l.new.1.1.1.1.0 z.coef.now w.new.1.1.1.1.1.0 thin.result w.result l.ensures w.ensures thin.ensures
+    mode-told z.s.now z.at z.n z.q z.u r.result c.in-Next.mid t z.bands.now l.new.bands z.coef.now w.new.coef thin.result w.result l.ensures w.ensures thin.ensures

@@ -21,4 +21,4 @@ returns c =
     let a = c.args in
     let l = c.lay_alike in
     let r = c.read_rows in
-    alike-told a.s.now a.b a.at c.requires.0.m-low (ne_eqb _ _ c.if-b-eq2.false) a.bands.now l.new.1.1.1.1.0 a.coef.now r.new.1.1.1.1.1.0 r.result l.ensures c.requires.1 r.ensures
+    alike-told a.s.now a.b a.at c.requires.0.m-low (ne_eqb _ _ c.if-b-eq2.false) a.bands.now l.new.bands a.coef.now r.new.coef r.result l.ensures c.requires.1 r.ensures

@@ -13,7 +13,7 @@ read_rows-first-requires c = (c.requires.0.n-high, omega (arith, size_few c.args
 pub returns-in_default : goal.returns-in_default
 returns-in_default c =
     let r = c.read_rows-first in
-    own-cut c.args.s.now c.args.b c.args.at c.requires.1 r.result c.in_default.field-0 c.in_default.is c.args.coef.now r.new.1.1.1.1.1.0 c.args.bands.now c.lay.new.1.1.1.1.0 c.args.related r.ensures
+    own-cut c.args.s.now c.args.b c.args.at c.requires.1 r.result c.in_default.field-0 c.in_default.is c.args.coef.now r.new.coef c.args.bands.now c.lay.new.bands c.args.related r.ensures
 
 pub returns : goal.returns
 returns c =
@@ -21,5 +21,5 @@ returns c =
     let l = c.lay in
     let r = c.read_rows-first in
     let f = c.read_further in
-    own-told a.s.now a.b a.at c.requires.1 a.bands.now a.coef.now l.new.1.1.1.1.0 r.new.1.1.1.1.1.0 f.new.1.1.1.1.0 f.new.1.1.1.1.1.0 f.result.related
+    own-told a.s.now a.b a.at c.requires.1 a.bands.now a.coef.now l.new.bands r.new.coef f.new.bands f.new.coef f.result.related
     c.requires.0.m-low c.requires.2 l.ensures (subst (RowsTold a.s.now a.at a.b.n a.b.n 0 _ _) c.in-Next.is r.ensures) f.result.answer f.ensures

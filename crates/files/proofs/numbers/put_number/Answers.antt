@@ -22,7 +22,7 @@ put_byte-requires c = tt
 pub shape_of-buf-then-x-lt128 : goal.shape_of-buf-then-x-lt128
 shape_of-buf-then-x-lt128 c =
     let l = c.loop-k in
-    c.put_byte.auto.0 ∙ l.invariant.2
+    c.put_byte.auto.buf ∙ l.invariant.2
 
 pub returns-then-x-lt128 : goal.returns-then-x-lt128
 returns-then-x-lt128 c =
@@ -65,7 +65,7 @@ put_byte-requires-2 c = tt
 pub shape_of-buf : goal.shape_of-buf
 shape_of-buf c =
     let l = c.loop-k in
-    c.put_byte-2.auto.0 ∙ l.invariant.2
+    c.put_byte-2.auto.buf ∙ l.invariant.2
 
 pub returns : goal.returns
 returns c =

@@ -17,7 +17,7 @@ returns c =
     let m = c.number-c in
     let n = c.number-d in
     same
-    (to_z-of_z (ok64 k.result k.type-inv) ∙ k.ensures)
-    (to_z-of_z (ok64 l.result l.type-inv) ∙ l.ensures)
-    (to_z-of_z (ok64 m.result m.type-inv) ∙ m.ensures)
-    (to_z-of_z (ok64 n.result n.type-inv) ∙ n.ensures)
+    (to_z-of_z (ok64 k.result k.type_inv) ∙ k.ensures)
+    (to_z-of_z (ok64 l.result l.type_inv) ∙ l.ensures)
+    (to_z-of_z (ok64 m.result m.type_inv) ∙ m.ensures)
+    (to_z-of_z (ok64 n.result n.type_inv) ∙ n.ensures)

@@ -10,31 +10,29 @@ use Rattle.files.specs.Plants.{plant_beginning, rest_of, plant_draft}
 use borrow.Author.Rules.{rules}
 use Rattle.files.proofs.plants.put_plant.Goals as goal
 
--- the beginning was written, its bands being the first of the plant's
-module _ (c : goal.After-put_beginning-past) where
-  abbrev start : goal.Start
-  start = c.before.before.before.before.before.before.before.before.before
-
-  abbrev plant : Plant
-  plant = plant_from start.args.p start.args.bands.now start.args.coef.now
-
-  begun : Put start.args.buf.now 0 (beginning_bytes (plant_beginning plant)) c.put_beginning-past.result c.put_beginning-past.new.0
-  begun = rw (c.ends-wlo.ensures, c.ends-whi.ensures) at c.put_beginning-past.ensures
-
 pub returns-then-n-gt4 : goal.returns-then-n-gt4
 unfolding plant_draft
 returns-then-n-gt4 c =
-    rw (wide-draft most_modes (plant_beginning (plant c.before.before.before)) (signed_bytes (rest_of (plant c.before.before.before))) c.if-n-gt4.true, append-nil) (begun c.before.before.before)
+    let plant : Plant = plant_from c.args.p c.args.bands.now c.args.coef.now in
+    let begun : Put c.args.buf.now 0 (beginning_bytes (plant_beginning plant)) c.put_beginning-past.result c.put_beginning-past.new.buf = rw (c.ends-wlo.ensures, c.ends-whi.ensures) at c.put_beginning-past.ensures in
+    rw (wide-draft most_modes (plant_beginning plant) (signed_bytes (rest_of plant)) c.if-n-gt4.true, append-nil) begun
 
 pub returns-then-modes-gt-MODES : goal.returns-then-modes-gt-MODES
 unfolding plant_draft
 returns-then-modes-gt-MODES c =
-    rw (many-draft most_modes (plant_beginning (plant c.before.before.before.before)) (signed_bytes (rest_of (plant c.before.before.before.before))) c.if-n-gt4.false c.if-modes-gt-MODES.true, append-nil) (begun c.before.before.before.before)
+    let plant : Plant = plant_from c.args.p c.args.bands.now c.args.coef.now in
+    let begun : Put c.args.buf.now 0 (beginning_bytes (plant_beginning plant)) c.put_beginning-past.result c.put_beginning-past.new.buf = rw (c.ends-wlo.ensures, c.ends-whi.ensures) at c.put_beginning-past.ensures in
+    rw (many-draft most_modes (plant_beginning plant) (signed_bytes (rest_of plant)) c.if-n-gt4.false c.if-modes-gt-MODES.true, append-nil) begun
 
 pub put_modes-requires : goal.put_modes-requires
-put_modes-requires c = let w = begun c.before.before.before.before.before in record { sizes = (c.if-n-gt4.false, c.if-modes-gt-MODES.false); place = omega (arith, w.place, put-length w) }
+put_modes-requires c =
+    let plant : Plant = plant_from c.args.p c.args.bands.now c.args.coef.now in
+    let begun : Put c.args.buf.now 0 (beginning_bytes (plant_beginning plant)) c.put_beginning-past.result c.put_beginning-past.new.buf = rw (c.ends-wlo.ensures, c.ends-whi.ensures) at c.put_beginning-past.ensures in
+    let w = begun in record { sizes = (c.if-n-gt4.false, c.if-modes-gt-MODES.false); place = omega (arith, w.place, put-length w) }
 
 pub returns : goal.returns
 unfolding plant_draft
 returns c =
-    rw (whole-draft most_modes (plant_beginning (plant c.before.before.before.before.before.before.before.before)) (signed_bytes (rest_of (plant c.before.before.before.before.before.before.before.before))) c.if-n-gt4.false c.if-modes-gt-MODES.false) (put-append (begun c.before.before.before.before.before.before.before.before) c.put_modes.ensures)
+    let plant : Plant = plant_from c.args.p c.args.bands.now c.args.coef.now in
+    let begun : Put c.args.buf.now 0 (beginning_bytes (plant_beginning plant)) c.put_beginning-past.result c.put_beginning-past.new.buf = rw (c.ends-wlo.ensures, c.ends-whi.ensures) at c.put_beginning-past.ensures in
+    rw (whole-draft most_modes (plant_beginning plant) (signed_bytes (rest_of plant)) c.if-n-gt4.false c.if-modes-gt-MODES.false) (put-append begun c.put_modes.ensures)

@@ -11,45 +11,43 @@ use Rattle.files.proofs.plants.Laws.{modes-refused, left_over, thin-told, all_to
 use borrow.Author.Rules.{rules}
 use Rattle.files.proofs.plants.read_body.Goals as goal
 
--- the modes were read, whether whole or not
-module _ (m : goal.After-read_modes-read) where
-  abbrev start : goal.Start
-  start = m.before.before.before.before
-
-  abbrev file : List ℕ
-  file = start.args.s.now
-
-  abbrev bands : List ℤ
-  bands = m.read_modes-read.last.1.1.1.1.0
-
-  abbrev coef : List ℤ
-  coef = m.read_modes-read.last.1.1.1.1.1.0
-
-  told : (w : Walk) → m.read_modes-read.result.answer ≡ w
-      → ModesAs file start.args.b start.args.at start.args.bands.now start.args.coef.now bands coef m.read_modes-read.result.related w
-  told w e = subst (ModesAs file start.args.b start.args.at start.args.bands.now start.args.coef.now bands coef m.read_modes-read.result.related) e m.read_modes-read.ensures
-
-  bands-kept : length bands ≡ length start.args.bands.now
-  bands-kept = m.read_modes-read.kept.1.1.1.1.0
-
-  coef-kept : length coef ≡ length start.args.coef.now
-  coef-kept = m.read_modes-read.kept.1.1.1.1.1.0
-
 pub returns-then-next-s : goal.returns-then-next-s
 returns-then-next-s c =
-    refused-so _ _ (bands-kept c.before.before.before.before.before.before.before.before.before.before.before.before) (coef-kept c.before.before.before.before.before.before.before.before.before.before.before.before) (left_over (file c.before.before.before.before.before.before.before.before.before.before.before.before) (start c.before.before.before.before.before.before.before.before.before.before.before.before).args.b (start c.before.before.before.before.before.before.before.before.before.before.before.before).args.at (told c.before.before.before.before.before.before.before.before.before.before.before.before (Walk.Next c.in-Next.next) c.in-Next.is) c.if-next-s.true ∙ ap bad (sym c.unfit.ensures)) c.refused-then-next-s.ensures
+    let file : List ℕ = c.args.s.now in
+    let bands : List ℤ = c.read_modes-read.new.bands in
+    let coef : List ℤ = c.read_modes-read.new.coef in
+    let told : (w : Walk) → c.read_modes-read.result.answer ≡ w → ModesAs file c.args.b c.args.at c.args.bands.now c.args.coef.now bands coef c.read_modes-read.result.related w = λ w. λ e. subst (ModesAs file c.args.b c.args.at c.args.bands.now c.args.coef.now bands coef c.read_modes-read.result.related) e c.read_modes-read.ensures in
+    let bands-kept : length bands ≡ length c.args.bands.now = c.read_modes-read.auto.bands in
+    let coef-kept : length coef ≡ length c.args.coef.now = c.read_modes-read.auto.coef in
+    refused-so _ _ bands-kept coef-kept (left_over file c.args.b c.args.at (told (Walk.Next c.in-Next.next) c.in-Next.is) c.if-next-s.true ∙ ap bad (sym c.unfit.ensures)) c.refused-then-next-s.ensures
 
 pub returns-in-Refused : goal.returns-in-Refused
 returns-in-Refused c =
-    refused-so _ _ (bands-kept c.before.before.before.before.before.before.before.before.before.before) (coef-kept c.before.before.before.before.before.before.before.before.before.before) (modes-refused (file c.before.before.before.before.before.before.before.before.before.before) (start c.before.before.before.before.before.before.before.before.before.before).args.b (start c.before.before.before.before.before.before.before.before.before.before).args.at c.in-Refused.e (told c.before.before.before.before.before.before.before.before.before.before (Walk.Refused c.in-Refused.e) c.in-Refused.is)) c.refused.ensures
+    let file : List ℕ = c.args.s.now in
+    let bands : List ℤ = c.read_modes-read.new.bands in
+    let coef : List ℤ = c.read_modes-read.new.coef in
+    let told : (w : Walk) → c.read_modes-read.result.answer ≡ w → ModesAs file c.args.b c.args.at c.args.bands.now c.args.coef.now bands coef c.read_modes-read.result.related w = λ w. λ e. subst (ModesAs file c.args.b c.args.at c.args.bands.now c.args.coef.now bands coef c.read_modes-read.result.related) e c.read_modes-read.ensures in
+    let bands-kept : length bands ≡ length c.args.bands.now = c.read_modes-read.auto.bands in
+    let coef-kept : length coef ≡ length c.args.coef.now = c.read_modes-read.auto.coef in
+    refused-so _ _ bands-kept coef-kept (modes-refused file c.args.b c.args.at c.in-Refused.e (told (Walk.Refused c.in-Refused.e) c.in-Refused.is)) c.refused.ensures
 
 pub returns-in-Refused-told : goal.returns-in-Refused-told
 returns-in-Refused-told c =
-    refused-so _ _ (bands-kept c.before.before.before.before.before.before.before.before.before.before.before.before.before.before) (coef-kept c.before.before.before.before.before.before.before.before.before.before.before.before.before.before)
-    (thin-told (file c.before.before.before.before.before.before.before.before.before.before.before.before.before.before) (start c.before.before.before.before.before.before.before.before.before.before.before.before.before.before).args.b (start c.before.before.before.before.before.before.before.before.before.before.before.before.before.before).args.at (told c.before.before.before.before.before.before.before.before.before.before.before.before.before.before (Walk.Next c.in-Next.next) c.in-Next.is) (start c.before.before.before.before.before.before.before.before.before.before.before.before.before.before).requires.0 c.if-next-s.false _ c.told.given.1)
+    let file : List ℕ = c.args.s.now in
+    let bands : List ℤ = c.read_modes-read.new.bands in
+    let coef : List ℤ = c.read_modes-read.new.coef in
+    let told : (w : Walk) → c.read_modes-read.result.answer ≡ w → ModesAs file c.args.b c.args.at c.args.bands.now c.args.coef.now bands coef c.read_modes-read.result.related w = λ w. λ e. subst (ModesAs file c.args.b c.args.at c.args.bands.now c.args.coef.now bands coef c.read_modes-read.result.related) e c.read_modes-read.ensures in
+    let bands-kept : length bands ≡ length c.args.bands.now = c.read_modes-read.auto.bands in
+    let coef-kept : length coef ≡ length c.args.coef.now = c.read_modes-read.auto.coef in
+    refused-so _ _ bands-kept coef-kept
+    (thin-told file c.args.b c.args.at (told (Walk.Next c.in-Next.next) c.in-Next.is) c.requires.fact_1 c.if-next-s.false _ c.in-Refused-told.is)
     c.refused-in-Refused-told.ensures
 
 pub returns-in-Accepted : goal.returns-in-Accepted
 returns-in-Accepted c =
+    let file : List ℕ = c.args.s.now in
+    let bands : List ℤ = c.read_modes-read.new.bands in
+    let coef : List ℤ = c.read_modes-read.new.coef in
+    let told : (w : Walk) → c.read_modes-read.result.answer ≡ w → ModesAs file c.args.b c.args.at c.args.bands.now c.args.coef.now bands coef c.read_modes-read.result.related w = λ w. λ e. subst (ModesAs file c.args.b c.args.at c.args.bands.now c.args.coef.now bands coef c.read_modes-read.result.related) e c.read_modes-read.ensures in
     rw c.outline.ensures
-    (all_told (file c.before.before.before.before.before.before.before.before.before) (start c.before.before.before.before.before.before.before.before.before).args.b (start c.before.before.before.before.before.before.before.before.before).args.at (told c.before.before.before.before.before.before.before.before.before (Walk.Next c.in-Next.next) c.in-Next.is) (start c.before.before.before.before.before.before.before.before.before).requires.0 c.if-next-s.false c.in-Accepted.is)
+    (all_told file c.args.b c.args.at (told (Walk.Next c.in-Next.next) c.in-Next.is) c.requires.fact_1 c.if-next-s.false c.in-Accepted.is)

@@ -9,25 +9,20 @@ use Rattle.files.specs.Plants.{plant_draft}
 use Rattle.files.proofs.plants.Drafts.{plant-left}
 use Rattle.files.proofs.plants.write_by.Goals as goal
 
--- the plant was drafted
-module _ (c : goal.After-put_plant-drafted) where
-  abbrev start : goal.Start
-  start = c.before.before.before.before
-
-  abbrev plant : Plant
-  plant = plant_from start.args.p start.args.bands.now start.args.coef.now
-
-  drafted : InDraft (plant_draft plant) c.put_plant-drafted.result c.put_plant-drafted.new.1.1.1.0
-  drafted = in_buffer start.args.draft.now (plant_draft plant) c.put_plant-drafted.result c.put_plant-drafted.new.1.1.1.0 start.pre c.put_plant-drafted.ensures
-
 pub put_plant-drafted-requires : goal.put_plant-drafted-requires
 put_plant-drafted-requires c = tt
 
 pub slice_bounds-file-end : goal.slice_bounds-file-end
-slice_bounds-file-end c = (drafted c.before.before).fits
+slice_bounds-file-end c =
+    let plant : Plant = plant_from c.args.p c.args.bands.now c.args.coef.now in
+    let drafted : InDraft (plant_draft plant) c.put_plant-drafted.result c.put_plant-drafted.new.buf = in_buffer c.args.draft.now (plant_draft plant) c.put_plant-drafted.result c.put_plant-drafted.new.buf c.requires c.put_plant-drafted.ensures in
+    drafted.fits
 
 pub slice_bounds-file-end-2 : goal.slice_bounds-file-end-2
-slice_bounds-file-end-2 c = sym (length-take-le c.before.before.before.put-plant.result c.before.before.before.put-plant.new.1.1.1.0 (drafted c.before.before.before).ranges)
+slice_bounds-file-end-2 c =
+    let plant : Plant = plant_from c.args.p c.args.bands.now c.args.coef.now in
+    let drafted : InDraft (plant_draft plant) c.put_plant-drafted.result c.put_plant-drafted.new.buf = in_buffer c.args.draft.now (plant_draft plant) c.put_plant-drafted.result c.put_plant-drafted.new.buf c.requires c.put_plant-drafted.ensures in
+    sym (length-take-le c.put_plant-drafted.result c.put_plant-drafted.new.buf drafted.fits)
 
 pub judge_plant-read-requires : goal.judge_plant-read-requires
 judge_plant-read-requires c = tt
@@ -36,15 +31,17 @@ pub leave-requires : goal.leave-requires
 leave-requires c = tt
 
 pub shape_of-draft : goal.shape_of-draft
-shape_of-draft c = c.before.before.before.before.before.before.before.before.put-plant.auto.1.1.1.0
+shape_of-draft c = c.put_plant-drafted.auto.buf
 
 pub shape_of-buf : goal.shape_of-buf
-shape_of-buf c = c.leave.auto.1.1.0
+shape_of-buf c = c.leave.auto.buf
 
 pub returns : goal.returns
 returns c =
+    let plant : Plant = plant_from c.args.p c.args.bands.now c.args.coef.now in
+    let drafted : InDraft (plant_draft plant) c.put_plant-drafted.result c.put_plant-drafted.new.buf = in_buffer c.args.draft.now (plant_draft plant) c.put_plant-drafted.result c.put_plant-drafted.new.buf c.requires c.put_plant-drafted.ensures in
     let z = c.args in
     let x = c.judge_plant-read in
     let w = c.leave in
-    let e = plant-left (plant c.before.before.before.before.before.before.before.before) (take c.before.before.before.before.before.before.before.before.put-plant.result c.before.before.before.before.before.before.before.before.put-plant.new.1.1.1.0) x.result (drafted c.before.before.before.before.before.before.before.before).front x.ensures z.buf.now in
+    let e = plant-left plant (take c.put_plant-drafted.result c.put_plant-drafted.new.buf) x.result drafted.front x.ensures z.buf.now in
     record { answer = w.ensures.answer ∙ ap (λ (l : Left). l.answer) e; bytes = w.ensures.bytes ∙ ap (λ (l : Left). l.buffer) e }

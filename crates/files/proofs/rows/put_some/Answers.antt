@@ -38,7 +38,7 @@ loop-c-preserved c =
     let a = c.args in
     let i = c.loop-c.c in
     let v = c.number-v in
-    (omega arith, under_more (rw (some-step a.values.now a.from a.count i (omega arith)) at c.loop-c.invariant.1) (rw (to_z-of_z (ok64 v.result v.type-inv), v.ensures) at c.put_signed-p.ensures))
+    (omega arith, under_more (rw (some-step a.values.now a.from a.count i (omega arith)) at c.loop-c.invariant.1) (rw (to_z-of_z (ok64 v.result v.type_inv), v.ensures) at c.put_signed-p.ensures))
 
 pub shape_of-buf : goal.shape_of-buf
 shape_of-buf c = c.loop-c.invariant.1.long
