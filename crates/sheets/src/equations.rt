@@ -13,7 +13,8 @@ fn room_of(h: Sheet, i: usize) -> Room
     requires { i < 4 }
     ensures { result ≡ room_at h i }
 {
-    h.rooms[i]
+    let rooms = h.rooms;
+    rooms[i]
 }
 
 // A room's exchange with the j-th of the other rooms.

@@ -24,8 +24,8 @@ use Rattle.tables.proofs.boxes.Laws.{small-tab}
 
 -- ---- what a sound plant gives
 
-pub step_in : (f : Frame) (bands coef : List ℤ) → PlantSound f bands coef → (u : ℕ) → u < f.modes → StepSound f.n f.q bands coef u
-step_in f bands coef g u h = record { rooms = g.0.rooms; least = g.0.least; most = g.0.most; band = λ i k. g.1.band u i h k; rows = λ i k. g.1.rows u i h k }
+pub step-in : (f : Frame) (bands coef : List ℤ) → PlantSound f bands coef → (u : ℕ) → u < f.modes → StepSound f.n f.q bands coef u
+step-in f bands coef g u h = record { rooms = g.0.rooms; least = g.0.least; most = g.0.most; band = λ i k. g.1.band u i h k; rows = λ i k. g.1.rows u i h k }
 
 -- ---- a frame of another form that is known
 

@@ -1,0 +1,25 @@
+-- `bands::high_end`: the sum stays small. Assumes nothing.
+use Prim.Native.Nat.{ℕ}
+use mathlib.Core.Path.{ap, ◌∙◌}
+use borrow.Author.Rules.{rules}
+use lib.IntN.{pos, ◌+ℤ◌}
+use Rattle.laws.specs.Lists.{at}
+use Rattle.laws.specs.Expressions.{Ex, var, ◌⊕◌, need, exact}
+use Rattle.meaning.specs.Plants.{band_limit}
+use Rattle.meaning.specs.Sheets.{limited_to}
+use Rattle.sheets.proofs.bands.Laws.{width_fits, width}
+use Rattle.sheets.proofs.bands.high_end.Goals as goal
+
+pub overflow_cast-w : goal.overflow_cast-w
+overflow_cast-w c = width_fits c.args.h c.requires.fact_1 c.widening-w.result c.widening-w.ensures
+
+pub overflow_add-h : goal.overflow_add-h
+overflow_add-h c =
+    let sum : Ex = var (at c.args.h.whi c.args.i) band_limit (c.requires.fact_1.bands c.args.i c.requires.fact_2).1 ⊕ width c.args.h c.requires.fact_1 c.widening-w.result c.widening-w.ensures in
+    need sum tt
+
+pub returns : goal.returns
+returns c =
+    let sum : Ex = var (at c.args.h.whi c.args.i) band_limit (c.requires.fact_1.bands c.args.i c.requires.fact_2).1 ⊕ width c.args.h c.requires.fact_1 c.widening-w.result c.widening-w.ensures in
+    let v = at c.args.h.whi c.args.i in
+    c.end.ensures ∙ ap (limited_to band_limit) (exact sum tt) ∙ ap (λ (w : ℕ). limited_to band_limit (v +ℤ pos w)) c.widening-w.ensures

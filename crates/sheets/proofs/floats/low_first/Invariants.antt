@@ -1,0 +1,10 @@
+-- `floats::low_first` reads from the highest byte down. Assumes nothing.
+use native.Mathlib.Omega.{arith}
+use Rattle.sheets.proofs.floats.Laws.{LowUpTo, low-none, low-room, low-more, low-all}
+use Rattle.sheets.proofs.floats.low_first.Given as goal
+
+abbrev pub invariant-loop-k : goal.invariant-loop-k
+invariant-loop-k l = LowUpTo l.s l.at l.k l.v
+
+abbrev pub decreases-loop-k : goal.decreases-loop-k
+decreases-loop-k l = l.k

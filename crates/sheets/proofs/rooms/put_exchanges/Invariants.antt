@@ -1,0 +1,18 @@
+-- `rooms::put_exchanges`: what is left to write is the definition's rest. Assumes nothing.
+use Prim.Native.Nat.{◌-◌, ◌≤◌}
+use mathlib.Core.Path.{◌≡◌}
+use native.Mathlib.Omega.{arith}
+use lib.ListN.{length, get_or}
+use lib.Ieee.{nan}
+use Rattle.meaning.specs.Sheets.{zero_f}
+use Rattle.laws.specs.Lists.{tabs}
+use Rattle.laws.specs.Tabs.{any-default, tabs-step, tabs-done}
+use Rattle.laws.specs.Writing.{Under, under_none, under_more, under-done}
+use Rattle.sheets.specs.Rooms.{exchange_bytes}
+use Rattle.sheets.proofs.rooms.put_exchanges.Given as goal
+
+abbrev pub invariant-loop-j : goal.invariant-loop-j
+invariant-loop-j l = (l.j ≤ l.m) × Under l.initial.buf l.at (tabs (exchange_bytes l.exchange) l.m 0) (tabs (exchange_bytes l.exchange) (l.m - l.j) l.j) l.p l.buf
+
+abbrev pub decreases-loop-j : goal.decreases-loop-j
+decreases-loop-j l = l.m - l.j

@@ -1,0 +1,57 @@
+-- `sheets::read_body`: each return cites the law of the part that it stops at. Assumes nothing.
+use mathlib.Core.Path.{sym, ap, ◌∙◌, subst}
+use Rattle.meaning.specs.declared.Refusal.{Refusal}
+use Rattle.meaning.specs.Files.{bad}
+use Rattle.meaning.specs.Sheets.{above, sheet_read_of}
+use Rattle.sheets.specs.Rooms.{RoomsAs}
+use Rattle.sheets.specs.Floats.{TwoTold}
+use Rattle.sheets.proofs.sheets.Laws.{time-refused, rooms-refused, left_over, by-verdict, refused-sized, taken-sized}
+use borrow.Author.Rules.{rules}
+use Rattle.sheets.proofs.sheets.read_body.Goals as goal
+
+pub returns-then-next-s : goal.returns-then-next-s
+returns-then-next-s c =
+    let z = c.args in
+    let s = c.args.s.now in
+    let f = c.read_two in
+    let u = subst (TwoTold above s z.at) c.in-Floats.is f.ensures in
+    let m = c.read_rooms-read in
+    let v = subst (RoomsAs s c.in-Floats.mid z.b.n m.result.rooms) c.in-Next.is m.ensures in record { value = c.refused-then-next-s.ensures ∙ ap (λ (k : Refusal). sheet_read_of (bad k)) c.unfit.ensures
+          ∙ sym (left_over s z.b z.at c.in-Floats.time c.in-Floats.outside c.in-Floats.mid u m.result.rooms c.in-Next.next v c.if-next-s.true); sized = refused-sized c.refused-then-next-s.result _ c.refused-then-next-s.ensures }
+
+pub returns-in-Refused : goal.returns-in-Refused
+returns-in-Refused c =
+    let z = c.args in
+    let s = c.args.s.now in
+    let f = c.read_two in
+    record { value = c.refused.ensures ∙ sym (time-refused s z.b z.at c.in-Refused.e (subst (TwoTold above s z.at) c.in-Refused.is f.ensures)); sized = refused-sized c.refused.result _ c.refused.ensures }
+
+pub returns-in-Refused-past : goal.returns-in-Refused-past
+returns-in-Refused-past c =
+    let z = c.args in
+    let s = c.args.s.now in
+    let f = c.read_two in
+    let u = subst (TwoTold above s z.at) c.in-Floats.is f.ensures in
+    let m = c.read_rooms-read in
+    record { value = c.refused-in-Refused-past.ensures
+          ∙ sym (rooms-refused s z.b z.at c.in-Floats.time c.in-Floats.outside c.in-Floats.mid u c.in-Refused-past.e (subst (RoomsAs s c.in-Floats.mid z.b.n m.result.rooms) c.in-Refused-past.is m.ensures)); sized = refused-sized c.refused-in-Refused-past.result _ c.refused-in-Refused-past.ensures }
+
+pub returns-in-Refused-related : goal.returns-in-Refused-related
+returns-in-Refused-related c =
+    let z = c.args in
+    let s = c.args.s.now in
+    let f = c.read_two in
+    let u = subst (TwoTold above s z.at) c.in-Floats.is f.ensures in
+    let m = c.read_rooms-read in
+    let v = subst (RoomsAs s c.in-Floats.mid z.b.n m.result.rooms) c.in-Next.is m.ensures in
+    record { value = c.refused-in-Refused-related.ensures ∙ sym (by-verdict s z.b z.at c.in-Floats.time c.in-Floats.outside c.in-Floats.mid u m.result.rooms c.in-Next.next v c.requires.fact_1 c.if-next-s.false z.related _ c.requires.fact_2 c.in-Refused-related.is); sized = refused-sized c.refused-in-Refused-related.result _ c.refused-in-Refused-related.ensures }
+
+pub returns-in-Accepted : goal.returns-in-Accepted
+returns-in-Accepted c =
+    let z = c.args in
+    let s = c.args.s.now in
+    let f = c.read_two in
+    let u = subst (TwoTold above s z.at) c.in-Floats.is f.ensures in
+    let m = c.read_rooms-read in
+    let v = subst (RoomsAs s c.in-Floats.mid z.b.n m.result.rooms) c.in-Next.is m.ensures in
+    record { value = c.accepted.ensures ∙ sym (by-verdict s z.b z.at c.in-Floats.time c.in-Floats.outside c.in-Floats.mid u m.result.rooms c.in-Next.next v c.requires.fact_1 c.if-next-s.false z.related _ c.requires.fact_2 c.in-Accepted.is); sized = taken-sized c.accepted.result s z.b z.at c.in-Floats.time c.in-Floats.outside m.result.rooms c.accepted.ensures c.requires.fact_1 }

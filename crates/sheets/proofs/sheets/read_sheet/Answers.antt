@@ -1,0 +1,24 @@
+-- `sheets::read_sheet`: what was read up to and with 5, then 14. Assumes nothing.
+use mathlib.Core.Path.{sym, ap, ◌∙◌, subst}
+use Rattle.meaning.specs.Sheets.{sheet_read_of}
+use Rattle.sheets.specs.Sheets.{SizedAs}
+use Rattle.sheets.proofs.sheets.Fitting.{values-refused, values-taken}
+use borrow.Author.Rules.{rules}
+use Rattle.sheets.proofs.sheets.read_sheet.Goals as goal
+
+pub fitted-requires : goal.fitted-requires
+fitted-requires c =
+    let r = c.read_values-read in
+    subst (SizedAs r.result.sheet) c.in-Accepted.is r.ensures.sized
+
+pub returns-in-Refused : goal.returns-in-Refused
+returns-in-Refused c =
+    let z = c.args in
+    let r = c.read_values-read in
+    c.refused.ensures ∙ ap sheet_read_of (sym (values-refused z.s.now r.result r.ensures.value c.in-Refused.e c.in-Refused.is))
+
+pub returns-in-Accepted : goal.returns-in-Accepted
+returns-in-Accepted c =
+    let z = c.args in
+    let r = c.read_values-read in
+    c.fitted.ensures ∙ ap sheet_read_of (sym (values-taken z.s.now r.result r.ensures.value c.in-Accepted.is))

@@ -1,0 +1,60 @@
+-- `wholes::whole` goes by the exponent's field of x. Assumes nothing.
+use Prim.Native.Nat.{ℕ, ◌-◌, ◌+◌, ◌^◌}
+use mathlib.Core.Path.{◌≡◌, sym, ap, ◌∙◌, subst}
+use native.Mathlib.Omega.{arith}
+use borrow.Author.Rules.{rules}
+use lib.Dec.{T}
+use lib.Pow.{shr_le}
+use lib.Ieee.{binary64, of_fields, to_bits}
+use lib.Ieee.Compare.{differs_from_itself}
+use Rattle.meaning.specs.Sheets.{whole_of}
+use Rattle.sheets.proofs.wholes.Fields.{sign, exponent, digits, digits-few, of-fields}
+use Rattle.sheets.proofs.wholes.Laws.{nan-out, itself, far-out, near-zero, near-shifted, high, first_small, second-small, high_small}
+use Rattle.sheets.proofs.wholes.whole.Goals as goal
+
+pub returns-then-x : goal.returns-then-x
+returns-then-x c =
+    let a = c.args in
+    sym (ap (whole_of a.limit a.k) (differs_from_itself a.x (subst T (sym c.if-x.true) tt)) ∙ nan-out a.limit a.k)
+
+pub float_to_bits-bits : goal.float_to_bits-bits
+float_to_bits-bits c = itself c.args.x c.if-x.false
+
+pub returns-then-e-ge1057 : goal.returns-then-e-ge1057
+returns-then-e-ge1057 c =
+    let bits : ℕ = to_bits binary64 c.args.x in
+    let by-fields : whole_of c.args.limit c.args.k c.args.x ≡ whole_of c.args.limit c.args.k (of_fields binary64 (sign bits) (exponent bits) (digits bits)) = ap (whole_of c.args.limit c.args.k) (of-fields c.args.x (subst T (sym c.well_formed.1.1.0.1) tt)) in
+    sym (by-fields ∙ far-out c.args.limit c.args.k (sign bits) (exponent bits) (digits bits) (omega arith) (omega arith) c.if-e-ge1057.true)
+
+pub returns-then-e-lt993 : goal.returns-then-e-lt993
+returns-then-e-lt993 c =
+    let bits : ℕ = to_bits binary64 c.args.x in
+    let by-fields : whole_of c.args.limit c.args.k c.args.x ≡ whole_of c.args.limit c.args.k (of_fields binary64 (sign bits) (exponent bits) (digits bits)) = ap (whole_of c.args.limit c.args.k) (of-fields c.args.x (subst T (sym c.well_formed.1.1.0.1) tt)) in
+    sym (by-fields ∙ near-zero c.args.limit c.args.k (sign bits) (exponent bits) (digits bits) (omega arith) c.if-e-lt993.true (digits-few bits))
+
+pub overflow_mul-high : goal.overflow_mul-high
+overflow_mul-high c =
+    let bits : ℕ = to_bits binary64 c.args.x in
+    omega (arith, first_small c.args.k (digits bits) (omega arith) (digits-few bits))
+
+pub overflow_mul-high-2 : goal.overflow_mul-high-2
+overflow_mul-high-2 c =
+    let bits : ℕ = to_bits binary64 c.args.x in
+    omega (arith, second-small c.args.k (digits bits) (omega arith) (digits-few bits))
+
+pub overflow_add-high : goal.overflow_add-high
+overflow_add-high c =
+    let bits : ℕ = to_bits binary64 c.args.x in
+    omega (arith, high_small c.args.k (digits bits) (omega arith) (digits-few bits))
+
+pub overflow_add-twice : goal.overflow_add-twice
+overflow_add-twice c =
+    let bits : ℕ = to_bits binary64 c.args.x in
+    omega (arith, high_small c.args.k (digits bits) (omega arith) (digits-few bits), shr_le (high c.args.k (2 ^ 52 + digits bits)) (1056 - exponent bits))
+
+pub returns : goal.returns
+returns c =
+    let bits : ℕ = to_bits binary64 c.args.x in
+    let by-fields : whole_of c.args.limit c.args.k c.args.x ≡ whole_of c.args.limit c.args.k (of_fields binary64 (sign bits) (exponent bits) (digits bits)) = ap (whole_of c.args.limit c.args.k) (of-fields c.args.x (subst T (sym c.well_formed.1.1.0.1) tt)) in
+    c.limited.ensures
+    ∙ sym (by-fields ∙ near-shifted c.args.limit c.args.k (sign bits) (exponent bits) (digits bits) c.if-e-lt993.false c.if-e-ge1057.false)

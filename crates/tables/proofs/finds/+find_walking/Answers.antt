@@ -1,0 +1,167 @@
+-- `finds::find_walking`, which calls itself with less depth: a node, and a loop over the children of a split up to the one that holds the reading. Assumes nothing.
+use Prim.Native.Nat.{ℕ, ◌-◌, ◌≤◌, ◌<◌}
+use mathlib.Core.Path.{◌≡◌, sym, ap, ◌∙◌}
+use mathlib.Core.Bool.{true, false}
+use mathlib.Core.List.{List, []}
+use native.Mathlib.Omega.{arith}
+use lib.IntN.{ℤ, pos}
+use lib.ListN.{length, replicate}
+use borrow.Author.Rules.{rules}
+use Rattle.laws.specs.Lists.{all}
+use Rattle.laws.specs.Tests.{never}
+use Rattle.meaning.specs.declared.Found.{Found}
+use Rattle.meaning.specs.declared.Number.{Number}
+use Rattle.meaning.specs.Boxes.{Side, fits}
+use Rattle.meaning.specs.Control.{find}
+use Rattle.meaning.specs.Numbers.{number_at}
+use Rattle.meaning.specs.Plants.{edge_limit}
+use Rattle.meaning.specs.Tables.{children_by, reading_of}
+use Rattle.tables.specs.declared.boxes.Bx.{Bx}
+use Rattle.tables.specs.declared.frames.Frame.{Frame}
+use Rattle.tables.specs.Boxes.{box_of, Small}
+use Rattle.tables.specs.Frames.{frame_from, rules_in}
+use Rattle.tables.proofs.boxes.Halving.{small-children}
+use Rattle.tables.proofs.finds.Laws.{held, not-held, node-broken, node_over, node-tile, node-deep}
+use Rattle.tables.proofs.finds.Untold.{look_from, look-split, look_none, look-here, look-more, look-refused}
+use Rattle.tables.proofs.finds.+find_walking.Goals as goal
+
+-- what the walk is lent for bands and coefficients
+abbrev zero : List ℤ
+zero = replicate 1 (pos 0)
+
+pub returns-in_default : goal.returns-in_default
+returns-in_default t c =
+    let frame : Frame = frame_from c.args.f c.args.edges.now in
+    let bytes : List ℕ = c.args.table.now in
+    let box : Bx → List Side = λ b. box_of c.args.f.n b in
+    ap Found.Refused c.broken.ensures ∙ node-broken frame c.args.x c.args.d bytes c.args.at (box c.args.b) (sym c.number.ensures ∙ c.in_default.is)
+
+pub returns-then-f-k : goal.returns-then-f-k
+returns-then-f-k t c =
+    let frame : Frame = frame_from c.args.f c.args.edges.now in
+    let bytes : List ℕ = c.args.table.now in
+    let box : Bx → List Side = λ b. box_of c.args.f.n b in
+    let size : ℕ = c.in-Value.k in
+    let behind : ℕ = c.in-Value.next in
+    let number : number_at bytes c.args.at ≡ Number.Value size behind = sym c.number.ensures ∙ c.in-Value.is in
+    ap Found.Refused c.bad_table.ensures ∙ node_over frame c.args.x c.args.d bytes c.args.at (box c.args.b) size behind number c.if-f-k.true
+
+pub tile-requires : goal.tile-requires
+tile-requires t c =
+    omega (arith, c.if-f-k.false, c.requires.0.longest)
+
+pub returns-then-k-gt0 : goal.returns-then-k-gt0
+returns-then-k-gt0 t c =
+    let frame : Frame = frame_from c.args.f c.args.edges.now in
+    let bytes : List ℕ = c.args.table.now in
+    let box : Bx → List Side = λ b. box_of c.args.f.n b in
+    let size : ℕ = c.in-Value.k in
+    let behind : ℕ = c.in-Value.next in
+    let number : number_at bytes c.args.at ≡ Number.Value size behind = sym c.number.ensures ∙ c.in-Value.is in
+    c.tile.ensures ∙ node-tile frame c.args.x c.args.d bytes c.args.at (box c.args.b) size behind number c.if-k-gt0.true c.if-f-k.false
+
+pub returns-then-d-eq0 : goal.returns-then-d-eq0
+returns-then-d-eq0 t c =
+    let frame : Frame = frame_from c.args.f c.args.edges.now in
+    let bytes : List ℕ = c.args.table.now in
+    let box : Bx → List Side = λ b. box_of c.args.f.n b in
+    let size : ℕ = c.in-Value.k in
+    let behind : ℕ = c.in-Value.next in
+    let number : number_at bytes c.args.at ≡ Number.Value size behind = sym c.number.ensures ∙ c.in-Value.is in
+    ap Found.Refused c.bad_table-then-d-eq0.ensures ∙ node-deep frame c.args.x c.args.d bytes c.args.at (box c.args.b) size behind number c.if-k-gt0.false c.if-d-eq0.true
+
+pub count-count-requires : goal.count-count-requires
+count-count-requires t c = c.requires.0.rooms
+
+pub loop-c-init : goal.loop-c-init
+loop-c-init t c =
+    let frame : Frame = frame_from c.args.f c.args.edges.now in
+    let bytes : List ℕ = c.args.table.now in
+    let box : Bx → List Side = λ b. box_of c.args.f.n b in
+    let size : ℕ = c.in-Value.k in
+    let behind : ℕ = c.in-Value.next in
+    let number : number_at bytes c.args.at ≡ Number.Value size behind = sym c.number.ensures ∙ c.in-Value.is in
+    (omega arith, look-split frame c.args.x c.requires.2 c.args.d bytes c.args.at (box c.args.b) size behind number c.if-k-gt0.false c.if-d-eq0.false)
+
+pub child-child-requires : goal.child-child-requires
+child-child-requires t c =
+    (c.requires.0.rooms, c.requires.1, omega (arith, c.loop-c-test.true, c.count-count.ensures))
+
+pub missed-requires : goal.missed-requires
+missed-requires t c = c.requires.0.rooms
+
+pub overflow_sub-d : goal.overflow_sub-d
+overflow_sub-d t c = omega arith
+
+pub find_walking-requires : goal.find_walking-requires
+find_walking-requires t c =
+    let box : Bx → List Side = λ b. box_of c.args.f.n b in
+    let turn : ℕ = c.loop-c.c in
+    let kid : Bx = c.child-child.result in
+    let below : turn < length (children_by c.args.f.form (box c.args.b)) = omega (arith, c.loop-c-test.true, c.count-count.ensures) in
+    let small : Small edge_limit (box kid) = rw c.child-child.ensures (small-children c.args.f.form edge_limit (box c.args.b) turn below c.requires.1) in
+    (omega (arith, c.requires.0, c.if-d-eq0.false), (c.requires.0, small, c.requires.2))
+
+pub returns-then-n-missed : goal.returns-then-n-missed
+returns-then-n-missed t c =
+    let frame : Frame = frame_from c.args.f c.args.edges.now in
+    let bytes : List ℕ = c.args.table.now in
+    let box : Bx → List Side = λ b. box_of c.args.f.n b in
+    let turn : ℕ = c.loop-c.c in
+    let kid : Bx = c.child-child.result in
+    let below : turn < length (children_by c.args.f.form (box c.args.b)) = omega (arith, c.loop-c-test.true, c.count-count.ensures) in
+    let holds-it : c.args.f.n ≤ c.missed.result → all (fits (box kid) (reading_of c.args.f.n c.args.x)) ≡ true = λ h. held c.args.f.n kid.lo kid.hi c.args.x (omega (arith, h, c.missed.ensures)) in
+    let l = c.loop-c in
+    c.find_walking.ensures ∙ look-here frame c.args.x c.requires.2 (c.args.d - 1) bytes c.args.at (box c.args.b) l.c l.place below (box kid) c.child-child.ensures (holds-it c.if-n-missed.true) ∙ l.invariant.1
+
+pub overflow_sub-d-in-loop-c : goal.overflow_sub-d-in-loop-c
+overflow_sub-d-in-loop-c t c = omega arith
+
+pub walk-requires : goal.walk-requires
+walk-requires t c =
+    let box : Bx → List Side = λ b. box_of c.args.f.n b in
+    let turn : ℕ = c.loop-c.c in
+    let kid : Bx = c.child-child.result in
+    let below : turn < length (children_by c.args.f.form (box c.args.b)) = omega (arith, c.loop-c-test.true, c.count-count.ensures) in
+    let small : Small edge_limit (box kid) = rw c.child-child.ensures (small-children c.args.f.form edge_limit (box c.args.b) turn below c.requires.1) in
+    (c.requires.0, small, (λ e. never e), c.requires.2)
+
+pub returns-in-Refused : goal.returns-in-Refused
+returns-in-Refused t c =
+    let frame : Frame = frame_from c.args.f c.args.edges.now in
+    let bytes : List ℕ = c.args.table.now in
+    let box : Bx → List Side = λ b. box_of c.args.f.n b in
+    let turn : ℕ = c.loop-c.c in
+    let kid : Bx = c.child-child.result in
+    let below : turn < length (children_by c.args.f.form (box c.args.b)) = omega (arith, c.loop-c-test.true, c.count-count.ensures) in
+    let misses-it : c.missed.result < c.args.f.n → all (fits (box kid) (reading_of c.args.f.n c.args.x)) ≡ false = λ h. not-held c.args.f.n kid.lo kid.hi c.args.x (omega (arith, h, c.missed.ensures)) in
+    let l = c.loop-c in
+    let r = c.walk in
+    look-refused frame c.args.x c.requires.2 (c.args.d - 1) bytes c.args.at (box c.args.b) l.c l.place below (box kid) c.child-child.ensures (misses-it c.if-n-missed.false) zero zero r.result r.ensures c.in-Refused.e c.in-Refused.is ∙ l.invariant.1
+
+pub overflow_add-c : goal.overflow_add-c
+overflow_add-c t c = omega arith
+
+pub loop-c-smaller : goal.loop-c-smaller
+loop-c-smaller t c = omega arith
+
+pub loop-c-preserved : goal.loop-c-preserved
+loop-c-preserved t c =
+    let frame : Frame = frame_from c.args.f c.args.edges.now in
+    let bytes : List ℕ = c.args.table.now in
+    let box : Bx → List Side = λ b. box_of c.args.f.n b in
+    let turn : ℕ = c.loop-c.c in
+    let kid : Bx = c.child-child.result in
+    let below : turn < length (children_by c.args.f.form (box c.args.b)) = omega (arith, c.loop-c-test.true, c.count-count.ensures) in
+    let misses-it : c.missed.result < c.args.f.n → all (fits (box kid) (reading_of c.args.f.n c.args.x)) ≡ false = λ h. not-held c.args.f.n kid.lo kid.hi c.args.x (omega (arith, h, c.missed.ensures)) in
+    let l = c.loop-c in
+    let r = c.walk in
+    (omega (arith, c.loop-c-test.true), look-more frame c.args.x c.requires.2 (c.args.d - 1) bytes c.args.at (box c.args.b) l.c l.place below (box kid) c.child-child.ensures (misses-it c.if-n-missed.false) zero zero r.result r.ensures c.in-Next.m c.in-Next.is ∙ l.invariant.1)
+
+pub returns : goal.returns
+returns t c =
+    let frame : Frame = frame_from c.args.f c.args.edges.now in
+    let bytes : List ℕ = c.args.table.now in
+    let box : Bx → List Side = λ b. box_of c.args.f.n b in
+    let l = c.loop-c in
+    ap Found.Refused c.bad_table-2.ensures ∙ look_none frame c.args.x c.requires.2 (c.args.d - 1) bytes c.args.at (box c.args.b) l.c l.place (omega (arith, c.loop-c-test.false, c.count-count.ensures)) ∙ l.invariant.1

@@ -1,0 +1,18 @@
+-- `lengths::total`: what is added so far and what is left come to the whole; k lengths below 2^35 are below k·2^35. Assumes nothing.
+use Prim.Native.Nat.{ℕ, ◌-◌, ◌*◌, ◌^◌, ◌≤◌, ◌<◌}
+use mathlib.Core.Path.{◌≡◌, refl, sym, ap, ◌∙◌}
+use native.Mathlib.Omega.{arith}
+use borrow.Author.Rules.{rules}
+use Rattle.meaning.specs.declared.Number.{Number}
+use Rattle.meaning.specs.Numbers.{number_at}
+use Rattle.meaning.specs.Verdicts.{lengths_at}
+use Rattle.promises.specs.Files.Numbers.{was}
+use Rattle.tables.specs.Lengths.{total_of, total_at}
+use Rattle.tables.proofs.lengths.Laws.{total-none, total-broken, total-more}
+use Rattle.tables.proofs.lengths.total.Given as goal
+
+abbrev pub invariant-loop-left : goal.invariant-loop-left
+invariant-loop-left l = (l.left ≤ l.k) × (l.sum ≤ (l.k - l.left) * 34_359_738_368) × (total_of l.sum (lengths_at l.left l.table l.place) ≡ total_at l.k l.table l.at)
+
+abbrev pub decreases-loop-left : goal.decreases-loop-left
+decreases-loop-left l = l.left

@@ -1,0 +1,19 @@
+-- `relays::relay`: what the checker refuses, or the table that it accepts, which is a tree's. Assumes nothing.
+use mathlib.Core.Path.{sym, ap, ◌∙◌}
+use borrow.Author.Rules.{rules}
+use Rattle.meaning.specs.Buffers.{Left}
+use Rattle.promises.specs.Tables.Checked.{checked-exactly}
+use Rattle.tables.proofs.relays.Laws.{left-refused}
+use Rattle.tables.proofs.relays.relay.Goals as goal
+
+pub lay-requires : goal.lay-requires
+lay-requires c =
+    let v = c.check-verdict in
+    (checked-exactly c.args.plant.now c.args.table.now).0 (sym v.ensures ∙ c.in-Accepted.is)
+
+pub returns-in-Refused : goal.returns-in-Refused
+returns-in-Refused c =
+    let v = c.check-verdict in
+    let w = c.refuse in
+    let e = left-refused c.args.plant.now c.args.table.now c.args.form c.args.buf.now c.in-Refused.e (sym v.ensures ∙ c.in-Refused.is) in
+    record { answer = w.ensures.answer ∙ ap (λ (l : Left). l.answer) e; bytes = w.ensures.bytes ∙ ap (λ (l : Left). l.buffer) e }

@@ -1,0 +1,33 @@
+-- `search::first`: what is left of the path says what the length says, and what is left of the lengths says what the search says. Assumes nothing.
+use Prim.Native.Nat.{ℕ, ◌+◌, ◌-◌, ◌≤◌, ◌<◌}
+use mathlib.Core.Path.{◌≡◌, refl, sym, ◌∙◌}
+use mathlib.Core.Bool.{true, false}
+use mathlib.Core.List.{List}
+use mathlib.Core.Option.{Option, some}
+use native.Mathlib.Omega.{arith}
+use native.Mathlib.Numerals.{add-one}
+use lib.IntN.{ℤ}
+use lib.ListN.{length-set}
+use Rattle.meaning.specs.Plants.{edge_limit}
+use Rattle.tables.specs.Boxes.{box_of, Small}
+use Rattle.tables.specs.Levels.{level_in}
+use Rattle.tables.specs.Search.{Moves, moves_lent, sought, sought_from, shortest_lent, Standing}
+use Rattle.tables.specs.Tiles.{longest_pattern, mode_at}
+use Rattle.tables.proofs.search.Laws.{lengths-all, lengths-done, lengths-found, lengths-next}
+use Rattle.tables.proofs.search.Paths.{standing-none, Along, turns_along, along-start, along-done, along-up, along-found, along-none, along-on, along-down}
+use Rattle.tables.proofs.search.first.Given as goal
+
+abbrev pub invariant-loop-u : goal.invariant-loop-u
+invariant-loop-u l =
+    (l.size ≡ 0) × (level_in l.n l.boxes 0 ≡ level_in l.n l.initial.boxes 0) × Along l.n l.count l.q l.bands l.coef l.limits l.m (sought (moves_lent l.n l.count l.q l.bands l.coef l.limits) l.m (level_in l.n l.initial.boxes 0)) l.boxes l.us l.l l.u
+
+abbrev pub decreases-loop-u : goal.decreases-loop-u
+decreases-loop-u l = turns_along l.n l.count l.q l.bands l.coef l.limits l.m l.boxes l.us l.l l.u
+
+abbrev pub invariant-search : goal.invariant-search
+invariant-search l =
+    (l.m ≤ l.k) × (l.size ≡ 0) × Standing l.n l.count l.q l.bands l.coef l.limits l.boxes l.us × (level_in l.n l.boxes 0 ≡ level_in l.n l.initial.boxes 0)
+    × (sought_from (moves_lent l.n l.count l.q l.bands l.coef l.limits) (l.k - l.m) l.m (level_in l.n l.initial.boxes 0) ≡ shortest_lent l.n l.count l.q l.bands l.coef l.limits l.k (level_in l.n l.initial.boxes 0))
+
+abbrev pub decreases-search : goal.decreases-search
+decreases-search l = l.k - l.m

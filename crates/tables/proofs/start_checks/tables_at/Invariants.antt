@@ -1,0 +1,19 @@
+-- `start_checks::tables_at`: what is left from table i on is the whole. Assumes nothing.
+use Prim.Native.Nat.{ℕ, ◌+◌, ◌-◌, ◌≤◌}
+use mathlib.Core.Path.{◌≡◌, sym, ap, ◌∙◌, subst}
+use native.Mathlib.Omega.{arith}
+use borrow.Author.Rules.{rules}
+use Rattle.meaning.specs.declared.Verdict.{Verdict}
+use Rattle.meaning.specs.Starts.{tables_at}
+use Rattle.tables.specs.declared.frames.Frame.{Frame}
+use Rattle.tables.specs.Frames.{rules_by, PlantSound}
+use Rattle.tables.specs.StartChecks.{rules_at, table_at}
+use Rattle.tables.proofs.start_checks.Laws.{tables-ended, tables-over, tables-stopped, tables_more}
+use Rattle.tables.proofs.start_checks.tables_at.Given as goal
+
+abbrev pub invariant-loop-i : goal.invariant-loop-i
+invariant-loop-i l =
+    (l.i ≤ l.m + 1) × (tables_at (rules_at l.f l.edges l.bands l.coef) l.start (l.m + 1 - l.i) l.i l.place ≡ tables_at (rules_at l.f l.edges l.bands l.coef) l.start (l.m + 1) 0 l.at)
+
+abbrev pub decreases-loop-i : goal.decreases-loop-i
+decreases-loop-i l = l.m + 1 - l.i

@@ -1,0 +1,39 @@
+-- `start_control::idle_choice`: the admission to Rm, then the lowest box. Assumes nothing.
+use mathlib.Core.Path.{◌≡◌, ap, ◌∙◌}
+use mathlib.Core.List.{List}
+use native.Mathlib.Omega.{arith}
+use lib.Dec.{eqb}
+use lib.IntN.{ℤ}
+use borrow.Author.Rules.{rules}
+use Rattle.meaning.specs.Boxes.{Side}
+use Rattle.tables.specs.Boxes.{box_of}
+use Rattle.tables.specs.Chains.{values_in}
+use Rattle.tables.specs.Control.{admission}
+use Rattle.tables.specs.StartControl.{fits_at}
+use Rattle.tables.proofs.start_control.Laws.{box-fits, choice-refused, choice-lowest}
+use Rattle.tables.proofs.start_control.idle_choice.Goals as goal
+
+pub box_at-top-requires : goal.box_at-top-requires
+box_at-top-requires c = (omega arith, omega arith)
+
+pub admit-requires : goal.admit-requires
+admit-requires c = omega arith
+
+pub lowest-requires : goal.lowest-requires
+lowest-requires c = (omega arith, omega arith)
+
+pub returns-in-Refused : goal.returns-in-Refused
+returns-in-Refused c =
+    let root : List Side = box_of c.args.n c.args.root in
+    let vs : List ℤ = values_in c.args.m c.args.edges.now in
+    let asked : c.admit.result ≡ admission (eqb c.args.i 0) (fits_at c.args.n root vs c.args.x c.args.m) = let a = c.args in let b = c.box_at-top in c.admit.ensures ∙ ap (admission (eqb a.i 0)) (box-fits a.n (omega arith) a.root a.edges.now a.m a.x a.m b.result b.ensures) in
+    let a = c.args in
+    choice-refused a.n root vs a.x a.i c.admit.result asked c.in-Refused.e c.in-Refused.is
+
+pub returns-in-Accepted : goal.returns-in-Accepted
+returns-in-Accepted c =
+    let root : List Side = box_of c.args.n c.args.root in
+    let vs : List ℤ = values_in c.args.m c.args.edges.now in
+    let asked : c.admit.result ≡ admission (eqb c.args.i 0) (fits_at c.args.n root vs c.args.x c.args.m) = let a = c.args in let b = c.box_at-top in c.admit.ensures ∙ ap (admission (eqb a.i 0)) (box-fits a.n (omega arith) a.root a.edges.now a.m a.x a.m b.result b.ensures) in
+    let a = c.args in
+    choice-lowest a.n root vs a.x a.i c.admit.result asked c.in-Accepted.is c.lowest.result c.lowest.ensures

@@ -1,0 +1,66 @@
+-- `start_makes::put_parts`: whoever writes the tables that are left has written them all. Assumes nothing.
+use Prim.Native.Nat.{ℕ, ◌+◌, ◌-◌, ◌≤◌}
+use mathlib.Core.Path.{◌≡◌, refl, sym, ◌∙◌, subst}
+use mathlib.Core.List.{List}
+use native.Mathlib.Omega.{arith}
+use lib.ListN.{length}
+use borrow.Author.Rules.{rules}
+use Rattle.meaning.specs.declared.Refusal.{Refusal}
+use Rattle.meaning.specs.declared.Walk.{Walk}
+use Rattle.meaning.specs.Refusals.{no_table}
+use Rattle.meaning.specs.Starts.{tables_from}
+use Rattle.tables.specs.declared.drafts.Grown.{Grown}
+use Rattle.tables.specs.declared.frames.Frame.{Frame}
+use Rattle.tables.specs.Drafts.{Wrote, bytes_most}
+use Rattle.tables.specs.Frames.{rules_in, PlantSound}
+use Rattle.tables.specs.StartMakes.{part_bytes, WroteParts, frames_rules, frames_tables}
+use Rattle.tables.proofs.start_makes.Laws.{Going, parts-begin, parts-done, parts-stopped, parts_more}
+use Rattle.tables.proofs.start_makes.put_parts.Goals as goal
+
+pub loop-i-init : goal.loop-i-init
+loop-i-init c =
+    (omega arith, refl, parts-begin (frames_rules c.args.f c.args.bands.now c.args.coef.now c.args.edges.now) c.args.m c.args.buf.now c.args.at c.requires.place)
+
+pub frame_at-own-requires : goal.frame_at-own-requires
+frame_at-own-requires c =
+    let h = c.loop-i-test.true in
+    ((c.requires.frames.1 0 (omega arith)).0.rooms, omega (arith, c.requires.frames.0))
+
+pub put_part-grown-requires : goal.put_part-grown-requires
+put_part-grown-requires c =
+    let l = c.loop-i in
+    let e = sym c.frame_at-own.ensures in record { frame = subst (λ (f : Frame). PlantSound f c.args.bands.now c.args.coef.now) e (c.requires.frames.1 l.i c.loop-i-test.true); room = subst (λ (f : Frame). bytes_most f ≤ length l.draft) e (omega (arith, c.requires.room, l.invariant.1)) }
+
+pub shape_of-draft-in_default : goal.shape_of-draft-in_default
+shape_of-draft-in_default c = c.put_part-grown.auto.draft ∙ c.loop-i.invariant.1
+
+pub shape_of-buf-in_default : goal.shape_of-buf-in_default
+shape_of-buf-in_default c = c.put_part-grown.auto.buf ∙ c.loop-i.invariant.2.long
+
+pub returns-in_default : goal.returns-in_default
+returns-in_default c =
+    let left : List ℕ = c.put_part-grown.new.buf in
+    let wrote : let l = c.loop-i in Wrote (part_bytes (frames_rules c.args.f c.args.bands.now c.args.coef.now c.args.edges.now l.i)) l.buf l.place c.put_part-grown.result left = let l = c.loop-i in subst (λ (f : Frame). Wrote (part_bytes (rules_in f c.args.bands.now c.args.coef.now)) l.buf l.place c.put_part-grown.result left) c.frame_at-own.ensures c.put_part-grown.ensures in
+    let stopped : c.put_part-grown.result ≡ Grown.Nothing → (e : Refusal) → e ≡ no_table c.loop-i.i → WroteParts (frames_tables c.args.f c.args.bands.now c.args.coef.now c.args.edges.now c.args.m) c.args.buf.now c.args.at (Walk.Refused e) left = λ z. λ e. λ q. let l = c.loop-i in let a = c.args in parts-stopped (frames_rules a.f a.bands.now a.coef.now a.edges.now) a.m l.i a.buf.now a.at (frames_tables a.f a.bands.now a.coef.now a.edges.now a.m) l.place l.buf l.invariant.2 c.loop-i-test.true c.put_part-grown.result left wrote z e q in
+    stopped c.in_default.is c.no_table.result c.no_table.ensures
+
+pub loop-i-preserved : goal.loop-i-preserved
+loop-i-preserved c =
+    let left : List ℕ = c.put_part-grown.new.buf in
+    let wrote : let l = c.loop-i in Wrote (part_bytes (frames_rules c.args.f c.args.bands.now c.args.coef.now c.args.edges.now l.i)) l.buf l.place c.put_part-grown.result left = let l = c.loop-i in subst (λ (f : Frame). Wrote (part_bytes (rules_in f c.args.bands.now c.args.coef.now)) l.buf l.place c.put_part-grown.result left) c.frame_at-own.ensures c.put_part-grown.ensures in
+    let goes_on : (next : ℕ) → c.put_part-grown.result ≡ Grown.Next next → let i = c.loop-i.i in Going c.args.buf.now c.args.at (frames_tables c.args.f c.args.bands.now c.args.coef.now c.args.edges.now c.args.m) (tables_from (frames_rules c.args.f c.args.bands.now c.args.coef.now c.args.edges.now) (c.args.m + 1 - (i + 1)) (i + 1)) next left = λ next. λ z. let l = c.loop-i in let a = c.args in parts_more (frames_rules a.f a.bands.now a.coef.now a.edges.now) a.m l.i a.buf.now a.at (frames_tables a.f a.bands.now a.coef.now a.edges.now a.m) l.place l.buf l.invariant.2 c.loop-i-test.true c.put_part-grown.result left wrote next z in
+    let h = c.loop-i-test.true in
+    (omega arith, c.put_part-grown.auto.draft ∙ c.loop-i.invariant.1, goes_on c.in-Next.next c.in-Next.is)
+
+pub shape_of-draft : goal.shape_of-draft
+shape_of-draft c = c.loop-i.invariant.1
+
+pub shape_of-buf : goal.shape_of-buf
+shape_of-buf c = c.loop-i.invariant.2.long
+
+pub returns : goal.returns
+returns c =
+    let a = c.args in
+    let l = c.loop-i in
+    parts-done (frames_rules a.f a.bands.now a.coef.now a.edges.now) a.m l.i a.buf.now a.at (frames_tables a.f a.bands.now a.coef.now a.edges.now a.m) l.place l.buf l.invariant.2
+    c.loop-i-test.false

@@ -1,0 +1,42 @@
+-- `start_makes::write_start`: the chain's bytes, then the tables; what is answered is told by the place behind them. Assumes nothing.
+use Prim.Native.Nat.{ℕ}
+use mathlib.Core.Path.{ap, ◌∙◌}
+use mathlib.Core.List.{List}
+use native.Mathlib.Omega.{arith}
+use borrow.Author.Rules.{rules}
+use Rattle.laws.specs.Writing.{put-length}
+use Rattle.meaning.specs.declared.Refusal.{Refusal}
+use Rattle.meaning.specs.Buffers.{Left, refused_with}
+use Rattle.meaning.specs.Files.{Judged}
+use Rattle.tables.specs.StartMakes.{frames_tables}
+use Rattle.tables.proofs.start_makes.Laws.{start-refused, start-short, start_fits}
+use Rattle.tables.proofs.start_makes.write_start.Goals as goal
+
+pub put_parts-past-requires : goal.put_parts-past-requires
+put_parts-past-requires c =
+    let w = c.put_bytes-past_chain.ensures in
+    record { frames = c.requires.frames; room = c.requires.room; place = omega (arith, w.place, put-length w) }
+
+pub returns-then-buf-size : goal.returns-then-buf-size
+returns-then-buf-size c =
+    let tables : Judged (List (List ℕ)) = frames_tables c.args.f c.args.bands.now c.args.coef.now c.args.edges.now c.args.m in
+    let out : List ℕ = c.put_parts-past.new.buf in
+    let r = c.refuse-then-buf-size in
+    let e = ap (λ (f : Refusal). refused_with f out) c.short.ensures
+    ∙ start-short c.args.chain.now c.args.buf.now tables c.put_bytes-past_chain.ensures c.put_parts-past.result out c.put_parts-past.ensures c.in-Next.size c.in-Next.is c.if-buf-size.true in
+    record { answer = r.ensures.answer ∙ ap (λ (l : Left). l.answer) e; bytes = r.ensures.bytes ∙ ap (λ (l : Left). l.buffer) e }
+
+pub returns-in-Refused : goal.returns-in-Refused
+returns-in-Refused c =
+    let tables : Judged (List (List ℕ)) = frames_tables c.args.f c.args.bands.now c.args.coef.now c.args.edges.now c.args.m in
+    let out : List ℕ = c.put_parts-past.new.buf in
+    let r = c.refuse in
+    let e = start-refused c.args.chain.now c.args.buf.now tables c.put_bytes-past_chain.ensures c.put_parts-past.result out c.put_parts-past.ensures c.in-Refused.e c.in-Refused.is in
+    record { answer = r.ensures.answer ∙ ap (λ (l : Left). l.answer) e; bytes = r.ensures.bytes ∙ ap (λ (l : Left). l.buffer) e }
+
+pub returns-else-buf-size : goal.returns-else-buf-size
+returns-else-buf-size c =
+    let tables : Judged (List (List ℕ)) = frames_tables c.args.f c.args.bands.now c.args.coef.now c.args.edges.now c.args.m in
+    let out : List ℕ = c.put_parts-past.new.buf in
+    let e = start_fits c.args.chain.now c.args.buf.now tables c.put_bytes-past_chain.ensures c.put_parts-past.result out c.put_parts-past.ensures c.in-Next.size c.in-Next.is c.if-buf-size.false in
+    record { answer = ap (λ (l : Left). l.answer) e; bytes = ap (λ (l : Left). l.buffer) e }

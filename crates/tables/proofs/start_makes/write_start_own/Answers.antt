@@ -1,0 +1,22 @@
+-- `start_makes::write_start_own`: the smallest draft that is sure to have room for each table, for R0's and so for all. Assumes nothing.
+use native.Mathlib.Omega.{arith}
+use borrow.Author.Rules.{rules}
+use Rattle.tables.specs.Chains.{frame_at}
+use Rattle.tables.specs.Frames.{FrameSound}
+use Rattle.tables.proofs.drafts.Laws.{room-long, room-few}
+use Rattle.tables.proofs.start_makes.write_start_own.Goals as goal
+
+pub overflow_mul-f : goal.overflow_mul-f
+overflow_mul-f c =
+    let first : FrameSound (frame_at c.args.f c.args.edges.now 0) = (c.requires.1 0 (omega arith)).0 in
+    omega (arith, first.tiles)
+
+pub write_start-requires : goal.write_start-requires
+write_start-requires c =
+    let first : FrameSound (frame_at c.args.f c.args.edges.now 0) = (c.requires.1 0 (omega arith)).0 in
+    record { frames = c.requires; room = room-few (frame_at c.args.f c.args.edges.now 0) first (omega (arith, c.if-f-gt-BRIEF.false)) c.if-f-le4.true }
+
+pub write_start-requires-2 : goal.write_start-requires-2
+write_start-requires-2 c =
+    let first : FrameSound (frame_at c.args.f c.args.edges.now 0) = (c.requires.1 0 (omega arith)).0 in
+    record { frames = c.requires; room = room-long (frame_at c.args.f c.args.edges.now 0) first (omega (arith, c.if-f-gt-BRIEF.false)) }

@@ -1,0 +1,24 @@
+-- `steps::stays`: the first i rows hold, and their sums are stored. Assumes nothing.
+use Prim.Native.Nat.{ℕ, ◌-◌, ◌<◌}
+use mathlib.Core.Path.{◌≡◌, refl, sym, ap, ◌∙◌}
+use mathlib.Core.Bool.{Bool}
+use native.Mathlib.Omega.{arith}
+use lib.ListN.{length, length-set}
+use Rattle.laws.specs.Lists.{tab}
+use Rattle.laws.specs.Expressions.{Ex, var, mach, exact, under}
+use Rattle.laws.specs.Tests.{never, HoldUpTo, hold-none, hold-more, fails-here, all_hold}
+use Rattle.meaning.specs.Boxes.{Side, side_at, covers}
+use Rattle.meaning.specs.Plants.{row_start}
+use Rattle.tables.specs.Images.{RowSound}
+use Rattle.tables.specs.Levels.{side_in, box_in}
+use Rattle.tables.specs.Limits.{add_limit, sums_at, covered_at, Within}
+use Rattle.tables.proofs.images.Laws.{image-more, image-done}
+use Rattle.tables.proofs.steps.Laws.{within_none, within_more}
+use Rattle.tables.proofs.steps.stays.Given as goal
+
+abbrev pub invariant-loop-i : goal.invariant-loop-i
+invariant-loop-i l =
+    (length l.slo ≡ 4) × (length l.shi ≡ 4) × (tab (side_at l.slo l.shi) l.i 0 ≡ tab (sums_at l.n l.coef l.u (box_in l.n l.boxes l.place)) l.i 0) × HoldUpTo (covered_at l.n l.coef l.limits l.base l.u (box_in l.n l.boxes l.place)) l.n l.i × Within add_limit l.i l.slo l.shi
+
+abbrev pub decreases-loop-i : goal.decreases-loop-i
+decreases-loop-i l = l.n - l.i

@@ -1,0 +1,30 @@
+-- `tiles::tile_rule`: the rule from the present box on, over the modes that are left, is the whole. Assumes nothing.
+use mathlib.Core.Path.{◌≡◌, refl, sym, ap, ◌∙◌}
+use mathlib.Core.List.{List}
+use Prim.Native.Nat.{ℕ, ◌≤◌, ◌<◌, ◌-◌}
+use native.Mathlib.Omega.{arith}
+use borrow.Author.Rules.{rules}
+use lib.IntN.{ℤ}
+use Rattle.laws.specs.Lists.{tab}
+use Rattle.laws.specs.Tabs.{tab-all}
+use Rattle.meaning.specs.declared.Tried.TheVariants.{Misses}
+use Rattle.meaning.specs.Boxes.{Side}
+use Rattle.meaning.specs.Plants.{edge_limit}
+use Rattle.meaning.specs.Rules.{Rules, rule, rule_from}
+use Rattle.tables.specs.declared.boxes.Bx.{Bx}
+use Rattle.tables.specs.declared.frames.Frame.{Frame}
+use Rattle.tables.specs.Boxes.{box_of, Small}
+use Rattle.tables.specs.Images.{StepSound}
+use Rattle.tables.specs.Frames.{frame_from, rules_in}
+use Rattle.tables.specs.Tiles.{mode_at, pattern_of}
+use Rattle.tables.proofs.frames.Laws.{step-in}
+use Rattle.tables.proofs.tiles.Laws.{rule-works, rule-misses, tile-leaves, tile-more, tile-small}
+use Rattle.tables.proofs.tiles.tile_rule.Given as goal
+
+abbrev pub invariant-loop-i : goal.invariant-loop-i
+invariant-loop-i l =
+    (l.i ≤ l.k) × Small edge_limit (box_of l.f.n l.c)
+    × (rule_from (rules_in (frame_from l.f l.edges) l.bands l.coef) l.i (box_of l.f.n l.c) (tab (mode_at l.us) (l.k - l.i) l.i) ≡ rule (rules_in (frame_from l.f l.edges) l.bands l.coef) (box_of l.f.n l.initial.c) (pattern_of l.k l.us))
+
+abbrev pub decreases-loop-i : goal.decreases-loop-i
+decreases-loop-i l = l.k - l.i
