@@ -45,6 +45,7 @@ ten-times k = rw (← add-one k) (pow-add 10 k 1)
 pub digits_are : (most k n : ℕ) → k ≤ most → IsDigitCount 10 1 n k → last_digits 10 k n ≡ digits_in most n
 unfolding digits_in
 digits_are most zero n h f = absurd (omega (arith, f.0))
+digits_are zero (suc _) n h f = elim h [ ]
 digits_are (suc most) (suc zero) n h f =
     let l : n < 10 = f.1 in
     rw (one-digit n l) (simp (lt-ltb n 10 l))

@@ -1,0 +1,11 @@
+-- `answers::answer`: what is answered and stored is that of the case that the answer is. Assumes nothing.
+use mathlib.Core.Path.{sym}
+use borrow.Author.Rules.{rules}
+use Rattle.face.proofs.answers.Laws.{of-answer, of-refusal}
+use Rattle.face.proofs.answers.answer.Goals as goal
+
+pub returns-in_default : goal.returns-in_default
+returns-in_default c = let whole = of-refusal c.in_default.is c.refusal-e.ensures in record { mode = whole.0; state = whole.1 }
+
+pub returns : goal.returns
+returns c = let whole = of-answer (sym c.in-Mode.is) in record { mode = whole.0; state = whole.1 }
