@@ -1,8 +1,7 @@
 -- Lines worked out by hand from request 2026-06 and its readings: the longest side halved alone, ties to the lowest dimension, longest by counts; form 3 of P's
 -- table; the form told to the maker; what is refused where; plants that have a table of one form and none of the other.
-use Rattle.std.specs.Prelude.{ℕ, ◌≡◌, refl, List, [], ◌∷◌, ◌++◌, ℤ, pos, neg_ℤ}
+use Rattle.std.specs.Prelude.{ℕ, ◌≡◌, refl, List, [], ◌∷◌, ◌++◌, pos, neg_ℤ}
 use Rattle.meaning.specs.declared.Answer.{Answer}
-use Rattle.meaning.specs.declared.State.{State}
 use Rattle.meaning.specs.declared.Verdict.{Verdict}
 use Rattle.meaning.specs.declared.StartAnswer.{StartAnswer}
 use Rattle.meaning.specs.Refusals.{broken, wrong_form, unfit, bad_table, no_table, not_held, moved}

@@ -1,6 +1,6 @@
 -- Lines worked out by hand from request 2026-01 and its readings: form 2 of P's table, whose split tells that its first child has two bytes; what the checker
 -- says of wrong lengths, and a call; two levels of lengths; that a call reads no tile that it passes; and tables turned from one form into the other.
-use Rattle.std.specs.Prelude.{ℕ, ◌≡◌, refl, List, [], ◌∷◌, ◌++◌, ℤ, pos, neg_ℤ}
+use Rattle.std.specs.Prelude.{ℕ, ◌≡◌, refl, List, [], ◌∷◌, pos, neg_ℤ}
 use Rattle.meaning.specs.declared.Answer.{Answer}
 use Rattle.meaning.specs.declared.Verdict.{Verdict}
 use Rattle.meaning.specs.Refusals.{broken, wrong_form, bad_table, leaves}

@@ -21,8 +21,7 @@ use meaning::{StartState, State};
 use tables::{checks, control, makes, relays, start_checks, start_control, start_makes};
 
 // A plant file: 0, or the number that it is refused by; out holds place and step.
-#[unsafe(no_mangle)]
-pub extern "C" fn hoachulim_plant(plant: &[u8], out: &mut [u64; 2]) -> u64
+pub fn hoachulim_plant(plant: &[u8], out: &mut [u64; 2]) -> u64
     ensures number { result ≡ (verdict_shown (plant_read plant.now).verdict).number }
     ensures place { out.new ≡ place_and_step (verdict_shown (plant_read plant.now).verdict) }
 {
@@ -33,8 +32,7 @@ pub extern "C" fn hoachulim_plant(plant: &[u8], out: &mut [u64; 2]) -> u64
 
 // The plant file of a sheet file into a lent buffer: 0, or the number of the refusal; out holds the length written, or place and step. Finished, only
 // the plant's bytes are changed; refused, the buffer is all zeros.
-#[unsafe(no_mangle)]
-pub extern "C" fn hoachulim_sheet(sheet: &[u8], buf: &mut [u8], out: &mut [u64; 2]) -> u64
+pub fn hoachulim_sheet(sheet: &[u8], buf: &mut [u8], out: &mut [u64; 2]) -> u64
     ensures number { result ≡ (written_shown (made_left sheet.now buf.old).answer).number }
     ensures length { out.new ≡ length_or_place (made_left sheet.now buf.old).answer }
     ensures bytes { buf.new ≡ (made_left sheet.now buf.old).buffer }
@@ -44,8 +42,7 @@ pub extern "C" fn hoachulim_sheet(sheet: &[u8], buf: &mut [u8], out: &mut [u64; 
 }
 
 // A table file for a plant file: 0, or the number that they are refused by; out holds place and step.
-#[unsafe(no_mangle)]
-pub extern "C" fn hoachulim_check(plant: &[u8], table: &[u8], out: &mut [u64; 2]) -> u64
+pub fn hoachulim_check(plant: &[u8], table: &[u8], out: &mut [u64; 2]) -> u64
     ensures number { result ≡ (verdict_shown (checked plant.now table.now)).number }
     ensures place { out.new ≡ place_and_step (verdict_shown (checked plant.now table.now)) }
 {
@@ -55,8 +52,7 @@ pub extern "C" fn hoachulim_check(plant: &[u8], table: &[u8], out: &mut [u64; 2]
 
 // The table of a plant file, of the form that is told, into a lent buffer: 0, or the number of the refusal; out holds the length written, or place and
 // step. Finished, only the table's bytes are changed; refused, the buffer is all zeros.
-#[unsafe(no_mangle)]
-pub extern "C" fn hoachulim_make(plant: &[u8], form: u64, buf: &mut [u8], out: &mut [u64; 2]) -> u64
+pub fn hoachulim_make(plant: &[u8], form: u64, buf: &mut [u8], out: &mut [u64; 2]) -> u64
     ensures number { result ≡ (written_shown (maker_left plant.now form buf.old).answer).number }
     ensures length { out.new ≡ length_or_place (maker_left plant.now form buf.old).answer }
     ensures bytes { buf.new ≡ (maker_left plant.now form buf.old).buffer }
@@ -68,8 +64,7 @@ pub extern "C" fn hoachulim_make(plant: &[u8], form: u64, buf: &mut [u8], out: &
 
 // A table file for a plant file as one of the form that is told, into a lent buffer: 0, or the number of the refusal, the checker's where that refuses the
 // table; out holds the length written, or place and step. Finished, only the table's bytes are changed; refused, the buffer is all zeros.
-#[unsafe(no_mangle)]
-pub extern "C" fn hoachulim_relay(
+pub fn hoachulim_relay(
     plant: &[u8],
     table: &[u8],
     form: u64,
@@ -86,8 +81,7 @@ pub extern "C" fn hoachulim_relay(
 }
 
 // One call of the controller: the mode, 65,535 where it is refused; out holds number, place and step of the refusal, then the next place and left.
-#[unsafe(no_mangle)]
-pub extern "C" fn hoachulim_control(
+pub fn hoachulim_control(
     plant: &[u8],
     table: &[u8],
     place: u64,
@@ -116,8 +110,7 @@ pub extern "C" fn hoachulim_control(
 }
 
 // A start file for a plant file: 0, or the number that they are refused by; out holds place and step.
-#[unsafe(no_mangle)]
-pub extern "C" fn hoachulim_start_check(plant: &[u8], start: &[u8], out: &mut [u64; 2]) -> u64
+pub fn hoachulim_start_check(plant: &[u8], start: &[u8], out: &mut [u64; 2]) -> u64
     ensures number { result ≡ (verdict_shown (start_checked plant.now start.now)).number }
     ensures place { out.new ≡ place_and_step (verdict_shown (start_checked plant.now start.now)) }
 {
@@ -127,8 +120,7 @@ pub extern "C" fn hoachulim_start_check(plant: &[u8], start: &[u8], out: &mut [u
 
 // The start file of a plant file and a chain, its tables of the form that is told, into a lent buffer: 0, or the number of the refusal; out holds the
 // length written, or place and step. Finished, only the file's bytes are changed; refused, the buffer is all zeros.
-#[unsafe(no_mangle)]
-pub extern "C" fn hoachulim_start_make(
+pub fn hoachulim_start_make(
     plant: &[u8],
     chain: &[u8],
     form: u64,
@@ -146,8 +138,7 @@ pub extern "C" fn hoachulim_start_make(
 
 // One call of the controller on a start file: the mode, 65,535 where it is refused; out holds number, place and step of the refusal, then the next index,
 // place and left.
-#[unsafe(no_mangle)]
-pub extern "C" fn hoachulim_start_control(
+pub fn hoachulim_start_control(
     plant: &[u8],
     start: &[u8],
     index: u64,

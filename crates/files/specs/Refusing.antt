@@ -10,7 +10,7 @@ use Rattle.std.proofs.Math.Seq.{drop-append_seam}
 use Rattle.laws.specs.Standing.{Stands, stand-front, stand-back}
 use Rattle.meaning.specs.declared.Refusal.{Refusal}
 use Rattle.meaning.specs.declared.Number.{Number}
-use Rattle.meaning.specs.Numbers.{groups_of, number_at, bytes_of}
+use Rattle.meaning.specs.Numbers.{number_at, bytes_of}
 use Rattle.meaning.specs.Files.{Form, refused, values_at}
 use Rattle.meaning.specs.Refusals.{broken, wrong_form}
 use Rattle.meaning.specs.Plants.{from, headed}

@@ -2,7 +2,7 @@
 use Prim.Native.Nat.{ℕ, zero, suc, ◌+◌, ◌-◌, ◌*◌, ◌≤◌, ◌<◌}
 use Rattle.std.specs.Prelude.{◌≡◌, length, get_or, drop, replicate, ℤ, pos}
 use Rattle.std.proofs.Math.Path.{refl}
-use Rattle.std.proofs.Common.{sym, ap, ◌∙◌, subst, zero-add, mul-zero, mul-le-mul, le_refl, add-one, drop-cons, get_or-append-add, ext_get_or}
+use Rattle.std.proofs.Common.{sym, ap, ◌∙◌, zero-add, mul-zero, add-one, drop-cons, get_or-append-add, ext_get_or}
 use mathlib.Core.List.{List, [], ◌∷◌, ◌++◌}
 use native.Mathlib.Omega.{arith}
 use Rattle.std.proofs.Math.Decide.{dec_lt}

@@ -1,5 +1,5 @@
 -- Numbers stored in front of zeros: every entry is theirs, and 0 behind them. Assumes nothing.
-use Rattle.std.specs.Prelude.{ℕ, ◌+◌, ◌-◌, ◌≤◌, ◌<◌, ◌≡◌, List, ◌++◌, length, get_or, drop, replicate, ℤ, pos}
+use Rattle.std.specs.Prelude.{ℕ, ◌+◌, ◌-◌, ◌≤◌, ◌<◌, ◌≡◌, List, ◌++◌, length, drop, replicate, ℤ, pos}
 use Rattle.std.proofs.Common.{ap, ◌∙◌, arith, zero-add, get_or-append-add, get_or-drop}
 use Rattle.std.proofs.Math.Path.{fun_ext}
 use Rattle.std.proofs.Math.Decide.{dec_lt}

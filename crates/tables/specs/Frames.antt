@@ -3,7 +3,6 @@
 -- of whatever known form.
 -- Definitions alone.
 use Rattle.std.specs.Prelude.{ℕ, ◌*◌, ◌≤◌, ◌<◌, ◌≡◌, true, List, [], ◌∷◌, ℤ, pos, ◌-ℤ◌, get_or, ◌≤ℤ◌}
-use Rattle.laws.specs.Lists.{at}
 use Rattle.meaning.specs.declared.Outline.{Outline}
 use Rattle.meaning.specs.Boxes.{within}
 use Rattle.meaning.specs.Images.{Step}

@@ -1,6 +1,5 @@
 -- `batch_read_plant`: the reader's verdict, shown, and the values of its plant. Assumes nothing.
 use mathlib.Core.Path.{ap, ◌∙◌}
-use borrow.Author.Rules.{rules}
 use Rattle.meaning.specs.declared.PlantRead.{PlantRead}
 use Rattle.batch.specs.Values.{plant_header, plant_edges}
 use Rattle.face.proofs.shown.Laws.{of-case}

@@ -1,6 +1,5 @@
 -- `batch_read_sheet`: the reader's verdict, shown, and the values of its sheet. Assumes nothing.
 use mathlib.Core.Path.{ap, ◌∙◌}
-use borrow.Author.Rules.{rules}
 use Rattle.meaning.specs.declared.SheetRead.{SheetRead}
 use Rattle.batch.specs.Values.{kinds_of, all_floats_of, sheet_header, sheet_edges, sheet_times}
 use Rattle.face.proofs.shown.Laws.{of-case}

@@ -1,6 +1,5 @@
 -- `batch_write_plant`: the writer's answer, shown; the buffer is as the writer left it. Assumes nothing.
 use mathlib.Core.Path.{◌∙◌}
-use borrow.Author.Rules.{rules}
 use Rattle.face.proofs.shown.Laws.{of-written}
 use Rattle.batch.proofs.batch_write_plant.Goals as goal
 

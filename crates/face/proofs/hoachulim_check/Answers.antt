@@ -1,6 +1,5 @@
 -- `hoachulim_check`: the checker's verdict, shown. Assumes nothing.
 use mathlib.Core.Path.{◌∙◌}
-use borrow.Author.Rules.{rules}
 use Rattle.face.proofs.shown.Laws.{of-case}
 use Rattle.face.proofs.hoachulim_check.Goals as goal
 

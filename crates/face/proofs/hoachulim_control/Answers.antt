@@ -1,7 +1,6 @@
 -- `hoachulim_control`: the controller's answer, shown. Assumes nothing.
 use mathlib.Core.Path.{◌≡◌, ◌∙◌}
 use mathlib.Core.List.{[], ◌∷◌}
-use borrow.Author.Rules.{rules}
 use mir.Facts.{to_z-of_z}
 use Rattle.meaning.specs.Tables.{controlled}
 use Rattle.face.specs.Answers.{state_of}

@@ -1,6 +1,5 @@
 -- `hoachulim_plant`: the reader's verdict, shown. Assumes nothing.
 use mathlib.Core.Path.{ap, ◌∙◌}
-use borrow.Author.Rules.{rules}
 use Rattle.meaning.specs.declared.PlantRead.{PlantRead}
 use Rattle.face.proofs.shown.Laws.{of-case}
 use Rattle.face.proofs.hoachulim_plant.Goals as goal

@@ -1,6 +1,5 @@
 -- `hoachulim_relay`: the answer of relay, shown; the buffer is as that left it. Assumes nothing.
 use mathlib.Core.Path.{◌∙◌}
-use borrow.Author.Rules.{rules}
 use Rattle.face.proofs.shown.Laws.{of-written}
 use Rattle.face.proofs.hoachulim_relay.Goals as goal
 

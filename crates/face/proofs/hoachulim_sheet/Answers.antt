@@ -1,6 +1,5 @@
 -- `hoachulim_sheet`: the answer of sheet to plant, shown; the buffer is as that left it. Assumes nothing.
 use mathlib.Core.Path.{◌∙◌}
-use borrow.Author.Rules.{rules}
 use Rattle.face.proofs.shown.Laws.{of-written}
 use Rattle.face.proofs.hoachulim_sheet.Goals as goal
 

@@ -1,7 +1,6 @@
 -- `hoachulim_start_control`: the start controller's answer, shown. Assumes nothing.
 use mathlib.Core.Path.{◌≡◌, ◌∙◌}
 use mathlib.Core.List.{[], ◌∷◌}
-use borrow.Author.Rules.{rules}
 use mir.Facts.{to_z-of_z}
 use Rattle.meaning.specs.Starts.{start_controlled}
 use Rattle.face.specs.Answers.{start_state_of}

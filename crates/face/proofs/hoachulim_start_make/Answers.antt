@@ -1,6 +1,5 @@
 -- `hoachulim_start_make`: the start maker's answer, shown; the buffer is as the maker left it. Assumes nothing.
 use mathlib.Core.Path.{◌∙◌}
-use borrow.Author.Rules.{rules}
 use Rattle.face.proofs.shown.Laws.{of-written}
 use Rattle.face.proofs.hoachulim_start_make.Goals as goal
 

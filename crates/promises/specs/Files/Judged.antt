@@ -1,7 +1,7 @@
 -- A plant whose file was judged good is sound (page Sound): what document 01 says of a plant's numbers, from the form that its file was
 -- read by (pages Forms and Framed) and the two tests behind it (page Related). That its
 -- edges are 0 beyond n is left out.
-use Rattle.std.specs.Prelude.{ℕ, ◌+◌, ◌*◌, ◌≤◌, ◌<◌, ◌≡◌, Bool, cond, List, map, ℤ, pos}
+use Rattle.std.specs.Prelude.{ℕ, ◌+◌, ◌*◌, ◌≤◌, ◌<◌, ◌≡◌, Bool, cond, List, map, ℤ}
 use Rattle.std.proofs.Math.Path.{refl, ap}
 use Rattle.std.proofs.Common.{◌∙◌, subst, le_refl}
 use Rattle.std.proofs.Math.Bool.{true, false}

@@ -20,7 +20,6 @@ use Rattle.meaning.specs.Plants as P
 use Rattle.meaning.specs.Plants.{wide}
 use Rattle.meaning.specs.Sheets as S
 use Rattle.meaning.specs.Sheets.{finite, whole_of, units, units_of, sheet_form, sheet_of, made_numbers, is_near, near_value, root_sheet, safe_sheet, bands_sheet, sheet_related, sheet_read, sheet_read_of}
-use Rattle.meaning.specs.Verdicts.{verdict}
 use Rattle.promises.specs.Sheets.Faults.{sheet-values-told}
 use Rattle.promises.specs.Files.Firsts.{first-exactly}
 use Rattle.promises.specs.Sheets.Nearest.{Nearest, near-exactly}

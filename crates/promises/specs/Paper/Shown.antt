@@ -2,7 +2,7 @@
 -- and the promises use that definition). Each line has the number, the place, the step and the values themselves, exactly where the promise's own
 -- condition holds: S1 the reader of numbers, S5 the tile rule, S6 the checker, S7 the maker, S8 and S9 a call. A whole number of a float is page Results.
 -- Relies on the pages of those promises, on page Shows, and on page Told for that no refusal is told by 0.
-use Rattle.std.specs.Prelude.{ℕ, suc, ◌+◌, ◌^◌, ◌≤◌, ◌<◌, ◌≡◌, Bool, ◌↔◌, eqb, length, ℤ, pos}
+use Rattle.std.specs.Prelude.{ℕ, suc, ◌^◌, ◌≤◌, ◌<◌, ◌≡◌, Bool, ◌↔◌, eqb, length, ℤ, pos}
 use Rattle.std.proofs.Math.Path.{refl, ap}
 use Rattle.std.proofs.Common.{sym, ◌∙◌}
 use Rattle.std.proofs.Math.Bool.{true, false, cond}

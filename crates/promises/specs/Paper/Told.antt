@@ -3,7 +3,7 @@
 -- controller the plant's own refusal, or, the plant being good, the table's: the checker 1, 2, 6, 7 and 8, the controller 1, 2, 6, 11 and 12. Places and steps are
 -- as page Telling says. And what is shown is 0 exactly where it is accepted, written, answered. Of all inputs. Relies on pages Faults, WalkTold and Made; that each
 -- of these numbers is told of some input is page EachTold. Which refusal it is the definitions say.
-use Rattle.std.specs.Prelude.{ℕ, zero, suc, ◌≤◌, ◌≡◌, Bool, true, false, List, [], ◌∷◌, ◌↔◌, leb, eqb, length, ℤ, pos}
+use Rattle.std.specs.Prelude.{ℕ, zero, suc, ◌≤◌, ◌≡◌, Bool, true, false, List, [], ◌∷◌, ◌↔◌, leb, eqb, length, ℤ}
 use Rattle.std.proofs.Math.Path.{refl}
 use Rattle.std.proofs.Common.{ap, arith}
 use Rattle.std.proofs.lemmas.List.{length-map}

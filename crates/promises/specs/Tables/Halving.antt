@@ -2,7 +2,7 @@
 -- others stay; the children lie in the box, are smaller, have no empty side where it has none, and each reading of it is in exactly one. A box with
 -- no long side, so one of a single reading, cannot be split, and every other can. Relies on meaning's page Boxes and on the laws of a side's halves (pages Children and Splits).
 -- Any number of dimensions, any readings.
-use Rattle.std.specs.Prelude.{ℕ, ◌+◌, ◌*◌, ◌≤◌, ◌<◌, ◌≡◌, refl, Bool, true, false, ◌&&◌, ◌||◌, cond, List, [], ◌∷◌, ◌++◌, map, length, ℤ, pos, ◌+ℤ◌, ◌-ℤ◌, ◌≤ℤ◌, ◌<ℤ◌}
+use Rattle.std.specs.Prelude.{ℕ, ◌*◌, ◌≡◌, refl, Bool, true, false, ◌&&◌, ◌||◌, cond, List, [], ◌∷◌, ◌++◌, map, length, ℤ, pos, ◌≤ℤ◌, ◌<ℤ◌}
 use Rattle.std.proofs.Common.{sym, ap, subst, ◌∙◌, arith, mul-add, mul-zero}
 use Rattle.std.proofs.lemmas.List.{length-map}
 use Rattle.std.specs.Int.Signed.{le_z, ≤ℤ_refl}

@@ -1,7 +1,7 @@
 -- S9, its first half: on a table that is the layout of a working tree, an idle call on a reading in the root begins a trip to the goal, of as many samples as
 -- the tile that holds the reading has modes. Over any rules whose numbers fit five bytes, that split well and whose patterns keep their word; that the goal
 -- lies in the root is not asked. Relies on page Finds for the tile and on page Patterns for its pattern. Trips repeated are page Demand.
-use Rattle.std.specs.Prelude.{ℕ, suc, ◌+◌, ◌≤◌, ◌≡◌, true, length}
+use Rattle.std.specs.Prelude.{ℕ, suc, ◌≤◌, ◌≡◌, true, length}
 use Rattle.std.proofs.Math.Path.{refl, ap}
 use Rattle.std.proofs.Common.{sym, arith, length-append}
 use mathlib.Core.List.{List, [], ◌∷◌, ◌++◌, append-nil}

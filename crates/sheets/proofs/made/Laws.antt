@@ -18,7 +18,7 @@ use Rattle.laws.specs.Columns.{tabs-tab}
 use Rattle.meaning.specs.declared.Sheet.{Sheet}
 use Rattle.meaning.specs.declared.Whole.{Whole}
 use Rattle.meaning.specs.Plants.{entry_limit, offset_limit, coef_count}
-use Rattle.meaning.specs.Sheets.{whole_of, coefficient, offset, emitters, made_row, made_modes, near_value}
+use Rattle.meaning.specs.Sheets.{whole_of, coefficient, offset, made_row, made_modes, near_value}
 use Rattle.promises.specs.Sheets.SheetPlants.{emitters-few}
 use Rattle.sheets.specs.declared.made.Entries.{Entries}
 use Rattle.sheets.specs.Sizes.{Sized}

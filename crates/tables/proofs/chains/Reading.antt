@@ -9,7 +9,7 @@ use native.Mathlib.Nat.{mul-le-mul}
 use lib.Dec.{eqb}
 use lib.IntN.{ℤ, pos, neg_ℤ}
 use lib.ListN.{length, set, replicate, length-set}
-use borrow.Author.Tests.{ne_eqb, le-leb, lt-leb, not-true, not-false}
+use borrow.Author.Tests.{le-leb, lt-leb, not-true, not-false}
 use Rattle.laws.specs.Columns.{tabs-tab}
 use Rattle.laws.specs.Lists as L
 use Rattle.laws.specs.Lists.{at, tab, first_false}

@@ -1,6 +1,6 @@
 -- Laws of the tile that holds a reading, for the proofs of module finds: a node that is no split, at the rules of a frame in the terms of the code; and when a box
 -- holds a reading, for its callers too. A split is page Untold where lengths are not told, and page Told where they are. Assumes nothing.
-use Prim.Native.Nat.{ℕ, ◌-◌, ◌≤◌, ◌<◌}
+use Prim.Native.Nat.{ℕ, ◌≤◌, ◌<◌}
 use mathlib.Core.Path.{◌≡◌, sym, ap, ◌∙◌}
 use mathlib.Core.Bool.{true, false}
 use mathlib.Core.List.{List, []}
@@ -19,7 +19,7 @@ use Rattle.meaning.specs.Control.{tile_found, find}
 use Rattle.meaning.specs.Files.{Read}
 use Rattle.meaning.specs.Numbers.{number_at}
 use Rattle.meaning.specs.Refusals.{broken, bad_table}
-use Rattle.meaning.specs.Rules.{Rules, holds}
+use Rattle.meaning.specs.Rules.{Rules}
 use Rattle.meaning.specs.Tables.{reading_of}
 use Rattle.meaning.specs.Verdicts.{modes_at}
 use Rattle.promises.specs.Tables.Walking.{find-broken, find-deep, find-over, find-tile}

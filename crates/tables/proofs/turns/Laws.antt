@@ -3,7 +3,7 @@
 use Prim.Native.Nat.{ℕ, zero, suc, ◌+◌, ◌-◌, ◌^◌, ◌≤◌, ◌<◌}
 use mathlib.Core.Path.{◌≡◌, refl, sym, ap, ◌∙◌}
 use mathlib.Core.Bool.{Bool, true, false, not}
-use mathlib.Core.List.{List, [], ◌∷◌, ◌++◌, append_assoc}
+use mathlib.Core.List.{List, [], ◌∷◌, ◌++◌}
 use native.Mathlib.Omega.{arith}
 use native.Mathlib.Numerals.{add-one}
 use lib.Dec.{ltb}
@@ -28,8 +28,7 @@ use Rattle.meaning.specs.Verdicts.{lengths_at}
 use Rattle.promises.specs.Files.Buffers.{left-short}
 use Rattle.promises.specs.Files.Bytes.{one_byte}
 use Rattle.promises.specs.Files.Numbers.{reads}
-use Rattle.promises.specs.Tables.Laws.{Fits}
-use Rattle.promises.specs.Tables.SplitLengths.{count_of, told_bytes, layout-some, lengths_read, short-small, split-read}
+use Rattle.promises.specs.Tables.SplitLengths.{told_bytes, layout-some, lengths_read, short-small, split-read}
 use Rattle.promises.specs.Tables.Layouts.{overs-count}
 use Rattle.tables.specs.declared.frames.Counts.{Counts}
 use Rattle.tables.specs.Lengths.{behind_at}

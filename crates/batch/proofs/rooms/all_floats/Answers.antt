@@ -1,7 +1,6 @@
 -- `rooms::all_floats`: the four rooms' floats. Assumes nothing.
 use Rattle.batch.specs.Values.{floats_of}
 use Rattle.batch.proofs.rooms.Laws.{any-room}
-use borrow.Author.Rules.{rules}
 use Rattle.batch.proofs.rooms.all_floats.Goals as goal
 
 pub returns : goal.returns

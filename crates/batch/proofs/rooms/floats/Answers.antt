@@ -1,7 +1,6 @@
 -- `rooms::floats`: the values of the kind that the emitter is. Assumes nothing.
 use mathlib.Core.Path.{refl}
 use lib.Ieee.{of_bits}
-use borrow.Author.Rules.{rules}
 use Rattle.batch.proofs.rooms.floats.Goals as goal
 
 pub returns-in-None : goal.returns-in-None

@@ -2,7 +2,6 @@
 use Rattle.meaning.specs.declared.Room.{Room}
 use Rattle.batch.specs.Values.{kind_of}
 use Rattle.batch.proofs.rooms.Laws.{any-room}
-use borrow.Author.Rules.{rules}
 use Rattle.batch.proofs.rooms.kinds.Goals as goal
 
 pub returns : goal.returns

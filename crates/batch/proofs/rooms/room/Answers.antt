@@ -1,6 +1,5 @@
 -- `rooms::room`: its emitter is the one of its number. Assumes nothing.
 use mathlib.Core.Path.{refl}
-use borrow.Author.Rules.{rules}
 use Rattle.batch.proofs.rooms.room.Goals as goal
 
 pub returns : goal.returns

@@ -1,6 +1,5 @@
 -- `rooms::rooms`: the four. Assumes nothing.
 use mathlib.Core.Path.{refl}
-use borrow.Author.Rules.{rules}
 use Rattle.batch.proofs.rooms.rooms.Goals as goal
 
 pub returns : goal.returns

@@ -1,6 +1,5 @@
 -- `answers::answer`: what is answered and stored is that of the case that the answer is. Assumes nothing.
 use mathlib.Core.Path.{sym}
-use borrow.Author.Rules.{rules}
 use Rattle.face.proofs.answers.Laws.{of-answer, of-refusal}
 use Rattle.face.proofs.answers.answer.Goals as goal
 

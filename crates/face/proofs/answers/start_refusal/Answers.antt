@@ -1,6 +1,5 @@
 -- `answers::start_refusal`: what is answered is that of the case that the answer is. Assumes nothing.
 use mathlib.Core.Path.{sym, ap}
-use borrow.Author.Rules.{rules}
 use Rattle.face.specs.Answers.{start_refusal_of}
 use Rattle.face.proofs.answers.start_refusal.Goals as goal
 

@@ -1,6 +1,5 @@
 -- `shown::verdict`: what is answered and stored is that of the case that the verdict is. Assumes nothing.
 use mathlib.Core.Path.{sym}
-use borrow.Author.Rules.{rules}
 use Rattle.face.proofs.shown.Laws.{of-case}
 use Rattle.face.proofs.shown.verdict.Goals as goal
 

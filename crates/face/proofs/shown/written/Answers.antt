@@ -1,6 +1,5 @@
 -- `shown::written`: what is answered and stored is that of the case that the answer is. Assumes nothing.
 use mathlib.Core.Path.{sym, ◌∙◌}
-use borrow.Author.Rules.{rules}
 use Rattle.face.proofs.shown.Laws.{of-written}
 use Rattle.face.proofs.shown.written.Goals as goal
 

@@ -1,8 +1,7 @@
 -- `texts::put`: what is left to put are the bytes from i on. Assumes nothing.
-use Prim.Native.Nat.{◌-◌, ◌≤◌}
 use native.Mathlib.Omega.{arith}
-use lib.ListN.{length, drop, drop_of_length-le}
-use Rattle.laws.specs.Writing.{Under, under_more, under-done}
+use lib.ListN.{drop_of_length-le}
+use Rattle.laws.specs.Writing.{under_more, under-done}
 use Rattle.figures.proofs.texts.Laws.{under-stopped, next-byte}
 use Rattle.figures.proofs.texts.put.Goals as goal
 use Rattle.figures.proofs.texts.put.Goals.{then-buf-at, else-buf-at}

@@ -1,10 +1,7 @@
 -- `texts::put`: what is left to put are the bytes from i on. Assumes nothing.
 use Prim.Native.Nat.{◌-◌, ◌≤◌}
-use mathlib.Core.Logic.{⊎_elim}
-use native.Mathlib.Omega.{arith}
-use lib.ListN.{length, drop, drop_of_length-le}
-use Rattle.laws.specs.Writing.{Under, under_more, under-done}
-use Rattle.figures.proofs.texts.Laws.{under-stopped, next-byte}
+use lib.ListN.{length, drop}
+use Rattle.laws.specs.Writing.{Under}
 use Rattle.figures.proofs.texts.put.Given as goal
 
 abbrev pub invariant-loop-i : goal.invariant-loop-i

@@ -1,6 +1,5 @@
 -- `texts::put_decimal`: the digits that io puts are those of the definition. Assumes nothing.
 use native.Mathlib.Omega.{arith}
-use borrow.Author.Rules.{rules}
 use mathlib.Core.Path.{◌∙◌}
 use Rattle.figures.specs.Texts.{decimal}
 use Rattle.figures.proofs.texts.Laws.{digits_are, few-digits}

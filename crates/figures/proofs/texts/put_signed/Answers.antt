@@ -1,6 +1,5 @@
 -- `texts::put_signed`: a minus and the number's size. Assumes nothing.
 use native.Mathlib.Omega.{arith}
-use borrow.Author.Rules.{rules}
 use mir.Facts.{to_z-of_z}
 use Rattle.files.proofs.numbers.Laws.{stored-up, stored-down}
 use Rattle.laws.specs.Writing.{put-append}

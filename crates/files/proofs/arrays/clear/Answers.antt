@@ -1,5 +1,5 @@
 -- `arrays::clear`: the first i are zeros. Assumes nothing.
-use Prim.Native.Nat.{ℕ, zero, suc, ◌-◌, ◌≤◌}
+use Prim.Native.Nat.{ℕ, zero, suc}
 use mathlib.Core.Path.{◌≡◌, refl, sym, ap, ◌∙◌}
 use mathlib.Core.List.{List, [], ◌∷◌, ◌++◌}
 use native.Mathlib.Omega.{arith}
@@ -7,7 +7,6 @@ use native.Mathlib.Numerals.{add-one}
 use lib.ListN.{set, length, take, replicate, length-set}
 use lib.Seq.{take-suc-set, take_all}
 use lib.IntN.{ℤ, pos}
-use borrow.Author.Rules.{rules}
 use Rattle.files.proofs.arrays.clear.Goals as goal
 
 one_more : (i : ℕ) (z : ℤ) → replicate i z ++ z ∷ [] ≡ replicate (suc i) z

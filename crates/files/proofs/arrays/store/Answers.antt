@@ -1,7 +1,6 @@
 -- `arrays::store`: behind the last nothing changes. Assumes nothing.
 use mathlib.Core.Path.{sym}
 use lib.Seq.{set_out}
-use borrow.Author.Rules.{rules}
 use Rattle.files.proofs.arrays.store.Goals as goal
 
 pub returns-else-at-values : goal.returns-else-at-values

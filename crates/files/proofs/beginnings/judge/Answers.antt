@@ -1,6 +1,5 @@
 -- `beginnings::judge`: R in S, then the bands. Assumes nothing.
 use Rattle.files.proofs.beginnings.Laws.{out-told, thin-told, all_told}
-use borrow.Author.Rules.{rules}
 use Rattle.files.proofs.beginnings.judge.Goals as goal
 
 pub returns-then-out-n : goal.returns-then-out-n

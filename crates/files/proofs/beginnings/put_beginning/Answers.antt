@@ -3,7 +3,6 @@ use mathlib.Core.List.{append-nil}
 use Rattle.laws.specs.Writing.{put-append}
 use Rattle.files.specs.Signed.{signed-append}
 use Rattle.files.specs.BeginningFiles.{header-alone, all-drafted}
-use borrow.Author.Rules.{rules}
 use Rattle.files.proofs.beginnings.put_beginning.Goals as goal
 
 pub returns-then-n-gt4 : goal.returns-then-n-gt4

@@ -3,7 +3,6 @@ use mathlib.Core.Path.{subst}
 use Rattle.files.specs.Headers.{HeaderTold}
 use Rattle.files.specs.BeginningLaws.{settled}
 use Rattle.files.proofs.beginnings.Laws.{header-cut, header-told}
-use borrow.Author.Rules.{rules}
 use mathlib.Core.Path.{sym}
 use Rattle.files.specs.Beginnings.{BegunAs}
 use Rattle.files.proofs.beginnings.read_beginning.Goals as goal

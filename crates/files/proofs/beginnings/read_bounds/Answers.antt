@@ -3,7 +3,6 @@ use mathlib.Core.Path.{refl, sym, subst}
 use Rattle.files.specs.Beginnings.{BoundsAs}
 use Rattle.files.specs.Bounds.{EdgesAs, BandsAs}
 use Rattle.files.proofs.beginnings.Laws.{edges-refused, bands-refused, bounds-read}
-use borrow.Author.Rules.{rules}
 use Rattle.files.proofs.beginnings.read_bounds.Goals as goal
 
 pub judge-requires : goal.judge-requires

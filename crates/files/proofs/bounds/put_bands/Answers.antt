@@ -1,5 +1,5 @@
 -- `bounds::put_bands`: what is left to write is the definition's rest. Assumes nothing.
-use Prim.Native.Nat.{◌-◌, ◌≤◌}
+use Prim.Native.Nat.{◌-◌}
 use mathlib.Core.Path.{◌≡◌}
 use native.Mathlib.Omega.{arith}
 use mir.Facts.{to_z-of_z}
@@ -7,7 +7,7 @@ use Rattle.laws.specs.Integers.{ok64}
 use Rattle.laws.specs.Lists
 use Rattle.laws.specs.Lists.{tabs}
 use Rattle.meaning.specs.Plants.{band_of}
-use Rattle.laws.specs.Writing.{Under, under_none, under_more, under-done}
+use Rattle.laws.specs.Writing.{under_none, under_more, under-done}
 use Rattle.files.specs.Signed.{signed_bytes}
 use Rattle.files.proofs.bounds.Laws.{bands-step, tabs-over}
 use Rattle.files.proofs.bounds.put_bands.Goals as goal

@@ -1,15 +1,9 @@
 -- `bounds::put_edges`: what is left to write is the definition's rest. Assumes nothing.
 use Prim.Native.Nat.{◌-◌, ◌≤◌}
-use mathlib.Core.Path.{◌≡◌}
-use native.Mathlib.Omega.{arith}
-use mir.Facts.{to_z-of_z}
-use Rattle.laws.specs.Integers.{ok64}
-use Rattle.laws.specs.Lists
 use Rattle.laws.specs.Lists.{tabs}
 use Rattle.meaning.specs.Plants.{edges_of}
-use Rattle.laws.specs.Writing.{Under, under_none, under_more, under-done}
+use Rattle.laws.specs.Writing.{Under}
 use Rattle.files.specs.Signed.{signed_bytes}
-use Rattle.files.proofs.bounds.Laws.{edges_step, tabs-over}
 use Rattle.files.proofs.bounds.put_edges.Given as goal
 
 abbrev pub invariant-loop-i : goal.invariant-loop-i

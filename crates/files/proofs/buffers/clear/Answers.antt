@@ -1,11 +1,11 @@
 -- `buffers::clear`: i bytes are zeros, the others as they were. Assumes nothing.
-use Prim.Native.Nat.{ℕ, ◌-◌, ◌≤◌}
+use Prim.Native.Nat.{ℕ}
 use mathlib.Core.Path.{◌≡◌, refl, ap, ◌∙◌}
-use mathlib.Core.List.{List, ◌++◌, append-nil}
+use mathlib.Core.List.{List, append-nil}
 use native.Mathlib.Omega.{arith}
 use native.Mathlib.Nat.{le_refl}
 use borrow.Author.Fill.{fill_none, fill_more}
-use lib.ListN.{set, length, drop, replicate, length-set, drop_of_length-le}
+use lib.ListN.{set, length, length-set, drop_of_length-le}
 use Rattle.files.proofs.buffers.clear.Goals as goal
 
 pub loop-i-init : goal.loop-i-init

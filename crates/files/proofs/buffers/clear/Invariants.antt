@@ -1,11 +1,8 @@
 -- `buffers::clear`: i bytes are zeros, the others as they were. Assumes nothing.
-use Prim.Native.Nat.{ℕ, ◌-◌, ◌≤◌}
-use mathlib.Core.Path.{◌≡◌, refl, ap, ◌∙◌}
-use mathlib.Core.List.{List, ◌++◌, append-nil}
-use native.Mathlib.Omega.{arith}
-use native.Mathlib.Nat.{le_refl}
-use borrow.Author.Fill.{fill_none, fill_more}
-use lib.ListN.{set, length, drop, replicate, length-set, drop_of_length-le}
+use Prim.Native.Nat.{◌-◌, ◌≤◌}
+use mathlib.Core.Path.{◌≡◌}
+use mathlib.Core.List.{◌++◌}
+use lib.ListN.{length, drop, replicate}
 use Rattle.files.proofs.buffers.clear.Given as goal
 
 abbrev pub invariant-loop-i : goal.invariant-loop-i

@@ -2,7 +2,6 @@
 use mathlib.Core.Path.{ap, sym, ◌∙◌}
 use Rattle.files.specs.Fields.{in_range}
 use Rattle.files.proofs.fields.Laws.{low, high, between}
-use borrow.Author.Rules.{rules}
 use Rattle.files.proofs.fields.counted.Goals as goal
 
 pub returns-in_default : goal.returns-in_default

@@ -1,7 +1,6 @@
 -- `fields::fault` tells a broken number from one out of range. Assumes nothing.
 use mathlib.Core.Path.{ap, sym, ◌∙◌}
 use Rattle.files.specs.Fields.{fault_of}
-use borrow.Author.Rules.{rules}
 use Rattle.files.proofs.fields.fault.Goals as goal
 
 pub returns-in_default : goal.returns-in_default

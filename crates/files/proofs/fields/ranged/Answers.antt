@@ -2,7 +2,6 @@
 use mathlib.Core.Path.{ap, sym, ◌∙◌}
 use Rattle.files.specs.Fields.{in_span}
 use Rattle.files.proofs.fields.Laws.{low_signed, high-signed, between-signed}
-use borrow.Author.Rules.{rules}
 use Rattle.files.proofs.fields.ranged.Goals as goal
 
 pub returns-in_default : goal.returns-in_default

@@ -1,6 +1,5 @@
 -- `headers::put_header` writes six numbers. Assumes nothing.
 use Rattle.laws.specs.Writing.{put-append}
-use borrow.Author.Rules.{rules}
 use Rattle.files.proofs.headers.put_header.Goals as goal
 
 pub returns : goal.returns

@@ -9,7 +9,6 @@ use Rattle.meaning.specs.Files.{refused}
 use Rattle.meaning.specs.Plants.{from}
 use Rattle.files.specs.Fields.{counted_at}
 use Rattle.files.specs.HeaderLaws.{from-d, from-k, from-q, from-m, from-n, Reached, form-broken, form-wrong, form-reached, number-fails, number-reached, d-fails, too-deep, d-reached, headed-as, small_product}
-use borrow.Author.Rules.{rules}
 use borrow.Author.Tests.{not-true, not-false}
 use Rattle.files.proofs.headers.read_header.Goals as goal
 

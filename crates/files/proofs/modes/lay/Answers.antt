@@ -1,10 +1,9 @@
 -- `modes::lay`: the ends of a band one behind the other. Assumes nothing.
-use Prim.Native.Nat.{◌-◌}
 use native.Mathlib.Omega.{arith}
 use mir.Facts.{to_z-of_z}
 use Rattle.laws.specs.Integers.{ok64}
 use Rattle.laws.specs.Lists
-use Rattle.files.proofs.modes.Laws.{ends-few, LaidTo, laid_none, laid_more, laid-all}
+use Rattle.files.proofs.modes.Laws.{ends-few, laid_none, laid_more, laid-all}
 use Rattle.files.proofs.modes.lay.Goals as goal
 
 pub overflow_mul-from : goal.overflow_mul-from

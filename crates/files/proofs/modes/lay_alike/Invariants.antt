@@ -1,7 +1,6 @@
 -- `modes::lay_alike`: mode by mode, as long as there is room. Assumes nothing.
 use Prim.Native.Nat.{◌-◌}
-use native.Mathlib.Omega.{arith}
-use Rattle.files.proofs.modes.Laws.{ends-few, AlikeTo, alike-none, alike-more, alike-full, alike_all}
+use Rattle.files.proofs.modes.Laws.{AlikeTo}
 use Rattle.files.proofs.modes.lay_alike.Given as goal
 
 abbrev pub invariant-loop-u : goal.invariant-loop-u

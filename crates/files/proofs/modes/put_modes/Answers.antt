@@ -1,11 +1,7 @@
 -- `modes::put_modes`: what is left to write is the definition's rest. Assumes nothing.
-use Prim.Native.Nat.{◌-◌, ◌≤◌}
 use mathlib.Core.Path.{◌∙◌}
 use native.Mathlib.Omega.{arith}
-use Rattle.laws.specs.Lists.{tabs}
-use Rattle.laws.specs.Writing.{Under, under_none, under_more, under-done, put-append, put-length}
-use Rattle.files.specs.Signed.{signed_bytes}
-use Rattle.files.specs.Modes.{mode_numbers}
+use Rattle.laws.specs.Writing.{under_none, under_more, under-done, put-append, put-length}
 use Rattle.files.proofs.modes.Laws.{size_few, all-few, ends-few, rows_few}
 use Rattle.files.proofs.modes.Writing.{rest-alike, rest-own, further-step, further-over}
 use Rattle.files.proofs.modes.put_modes.Goals as goal

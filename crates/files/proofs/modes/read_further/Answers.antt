@@ -1,9 +1,7 @@
 -- `modes::read_further`: mode by mode. Relies on page Reading.
-use Prim.Native.Nat.{◌-◌}
 use mathlib.Core.Path.{◌∙◌, subst}
 use native.Mathlib.Omega.{arith}
-use borrow.Author.Rules.{rules}
-use Rattle.files.specs.Modes.{ModeAs, FurtherTo}
+use Rattle.files.specs.Modes.{ModeAs}
 use Rattle.files.proofs.modes.Laws.{bands-kept, coef-kept}
 use Rattle.files.proofs.modes.Reading.{further-none, further-more, further-stop, further-all}
 use Rattle.files.proofs.modes.read_further.Goals as goal

@@ -4,7 +4,6 @@ use native.Mathlib.Omega.{arith}
 use Rattle.files.specs.Bounds.{BandsAs}
 use Rattle.files.proofs.modes.Laws.{size_few, rows_few}
 use Rattle.files.proofs.modes.Reading.{mode-bands-refused, mode-told}
-use borrow.Author.Rules.{rules}
 use Rattle.files.proofs.modes.read_mode.Goals as goal
 
 pub first_narrow-thin-requires : goal.first_narrow-thin-requires

@@ -4,7 +4,6 @@ use native.Mathlib.Nat.{mul-le-mul}
 use borrow.Author.Tests.{eq-eqb, ne_eqb}
 use Rattle.promises.specs.Files.PlantShapes.{numbers-few}
 use Rattle.files.proofs.modes.Reading.{alike-told}
-use borrow.Author.Rules.{rules}
 use Rattle.files.proofs.modes.read_modes.Goals as goal
 
 pub read_own-requires : goal.read_own-requires

@@ -4,7 +4,6 @@ use native.Mathlib.Omega.{arith}
 use Rattle.files.specs.Rows.{RowsTold}
 use Rattle.files.proofs.modes.Laws.{size_few}
 use Rattle.files.proofs.modes.Reading.{own-cut, own-told}
-use borrow.Author.Rules.{rules}
 use Rattle.files.proofs.modes.read_own.Goals as goal
 
 pub read_rows-first-requires : goal.read_rows-first-requires

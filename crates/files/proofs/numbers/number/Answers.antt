@@ -1,10 +1,9 @@
 -- `numbers::number` reads what the definition says. The loop's invariant: after k bytes, what the definition says from here is what it says of the whole.
 -- Assumes nothing.
-use Prim.Native.Nat.{◌-◌, ◌*◌, ◌^◌, ◌<◌, ◌≤◌}
-use mathlib.Core.Path.{◌≡◌, refl, sym, ◌∙◌}
+use Prim.Native.Nat.{◌-◌}
+use mathlib.Core.Path.{refl, sym, ◌∙◌}
 use native.Mathlib.Omega.{arith}
 use lib.ListN.{get_or}
-use Rattle.meaning.specs.Numbers.{groups_at}
 use Rattle.files.proofs.numbers.Laws.{weight-le, weight-next, group-le, short, zero-first, zero-late, last, more, over}
 use Rattle.files.proofs.numbers.number.Goals as goal
 

@@ -1,12 +1,8 @@
 -- `numbers::put_number` writes the definition's bytes. The loop's invariant is a continuation: whoever writes what is left of x from here has
 -- written v whole. Assumes nothing.
-use Prim.Native.Nat.{ℕ, ◌-◌, ◌*◌, ◌^◌, ◌<◌, ◌≤◌}
-use mathlib.Core.Path.{◌≡◌, refl, ◌∙◌}
-use mathlib.Core.List.{List}
+use mathlib.Core.Path.{refl, ◌∙◌}
 use native.Mathlib.Omega.{arith}
-use lib.ListN.{length}
-use Rattle.laws.specs.Writing.{Put, put-append, put-length}
-use Rattle.meaning.specs.Numbers.{groups_of}
+use Rattle.laws.specs.Writing.{put-append, put-length}
 use Rattle.files.proofs.numbers.Laws.{fewer-bits, last-bits, small-group, last-of-all, more-groups}
 use Rattle.files.proofs.numbers.put_number.Goals as goal
 

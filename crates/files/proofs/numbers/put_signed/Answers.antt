@@ -2,7 +2,6 @@
 use native.Mathlib.Omega.{arith}
 use mir.Facts.{to_z-of_z}
 use Rattle.files.proofs.numbers.Laws.{stored-up, stored-down}
-use borrow.Author.Rules.{rules}
 use Rattle.files.proofs.numbers.put_signed.Goals as goal
 
 pub overflow_cast-v : goal.overflow_cast-v

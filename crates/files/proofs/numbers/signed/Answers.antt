@@ -1,6 +1,5 @@
 -- `numbers::signed` takes back what `number` read. Assumes nothing.
 use mathlib.Core.Path.{ap, sym, ◌∙◌}
-use borrow.Author.Rules.{rules}
 use native.Mathlib.Omega.{arith}
 use Rattle.meaning.specs.Numbers.{as_signed}
 use Rattle.files.proofs.numbers.Laws.{even-half, odd-fits, odd-half}

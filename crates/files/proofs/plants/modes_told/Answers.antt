@@ -1,7 +1,6 @@
 -- `plants::modes_told`: each number as it was read. Relies on page Laws.
 use mathlib.Core.Path.{sym, ◌∙◌}
 use Rattle.files.proofs.plants.Laws.{form-broken, n-broken, modes-broken, modes-there}
-use borrow.Author.Rules.{rules}
 use Rattle.files.proofs.plants.modes_told.Goals as goal
 
 pub returns-in_default : goal.returns-in_default

@@ -7,7 +7,6 @@ use Rattle.files.specs.Signed.{signed_bytes}
 use Rattle.files.specs.Beginnings.{beginning_bytes}
 use Rattle.files.specs.DraftLaws.{wide-draft, many-draft, whole-draft}
 use Rattle.files.specs.Plants.{plant_beginning, rest_of, plant_draft}
-use borrow.Author.Rules.{rules}
 use Rattle.files.proofs.plants.put_plant.Goals as goal
 
 pub returns-then-n-gt4 : goal.returns-then-n-gt4

@@ -8,7 +8,6 @@ use Rattle.meaning.specs.declared.Walk.{Walk}
 use Rattle.meaning.specs.Files.{bad}
 use Rattle.files.specs.Modes.{ModesAs}
 use Rattle.files.proofs.plants.Laws.{modes-refused, left_over, thin-told, all_told, refused-so}
-use borrow.Author.Rules.{rules}
 use Rattle.files.proofs.plants.read_body.Goals as goal
 
 pub returns-then-next-s : goal.returns-then-next-s

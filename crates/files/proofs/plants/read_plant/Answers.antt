@@ -3,7 +3,6 @@ use mathlib.Core.Path.{subst}
 use Rattle.meaning.specs.Plants.{plant_forms, most_modes}
 use Rattle.files.specs.Beginnings.{BegunAs}
 use Rattle.files.proofs.plants.Laws.{beginning-refused, beginning-read, answered}
-use borrow.Author.Rules.{rules}
 use Rattle.files.proofs.plants.read_plant.Goals as goal
 
 pub read_body-requires : goal.read_body-requires

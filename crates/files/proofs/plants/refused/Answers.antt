@@ -2,7 +2,6 @@
 use mathlib.Core.Path.{refl}
 use Rattle.laws.specs.Lists.{tab, tabs}
 use Rattle.meaning.specs.Plants.{plant_of}
-use borrow.Author.Rules.{rules}
 use Rattle.files.proofs.plants.refused.Goals as goal
 
 pub returns : goal.returns

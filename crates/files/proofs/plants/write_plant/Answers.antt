@@ -2,7 +2,6 @@
 use native.Mathlib.Omega.{arith}
 use Rattle.meaning.specs.Plants.{plant_from}
 use Rattle.files.proofs.plants.Drafts.{draft-room}
-use borrow.Author.Rules.{rules}
 use Rattle.files.proofs.plants.write_plant.Goals as goal
 
 pub write_by-requires : goal.write_by-requires

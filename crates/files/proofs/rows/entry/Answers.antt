@@ -1,6 +1,5 @@
 -- `rows::entry` takes the limit of its column. Assumes nothing.
 use borrow.Author.Tests.{lt-ltb, le-ltb}
-use borrow.Author.Rules.{rules}
 use Rattle.files.proofs.rows.entry.Goals as goal
 
 pub returns-then-column-n : goal.returns-then-column-n

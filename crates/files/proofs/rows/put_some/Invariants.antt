@@ -1,14 +1,9 @@
 -- `rows::put_some`: what is left to write is the definition's rest. Assumes nothing.
 use Prim.Native.Nat.{◌+◌, ◌-◌, ◌≤◌}
-use mathlib.Core.Path.{◌≡◌}
-use native.Mathlib.Omega.{arith}
-use mir.Facts.{to_z-of_z}
-use Rattle.laws.specs.Integers.{ok64}
 use Rattle.laws.specs.Lists
 use Rattle.laws.specs.Lists.{tab}
-use Rattle.laws.specs.Writing.{Under, under_none, under_more, under-done}
+use Rattle.laws.specs.Writing.{Under}
 use Rattle.files.specs.Signed.{signed_bytes}
-use Rattle.files.proofs.rows.Laws.{some-step, some-over}
 use Rattle.files.proofs.rows.put_some.Given as goal
 
 abbrev pub invariant-loop-c : goal.invariant-loop-c

@@ -1,5 +1,4 @@
 -- `rows::read_rows` reads the coefficients number by number. Assumes nothing.
-use Prim.Native.Nat.{◌-◌}
 use mathlib.Core.Path.{sym, ap, ◌∙◌}
 use native.Mathlib.Omega.{arith}
 use mir.Syntax.{w64}
@@ -7,8 +6,7 @@ use mir.Val.{SFits}
 use mir.Facts.{to_z-of_z}
 use lib.ListN.{length}
 use lib.Seq.{length-sets}
-use Rattle.files.proofs.rows.Laws.{EntriesUpTo, entries_none, entries-more, rows-fails, rows_all}
-use borrow.Author.Rules.{rules}
+use Rattle.files.proofs.rows.Laws.{entries_none, entries-more, rows-fails, rows_all}
 use Rattle.files.proofs.rows.read_rows.Goals as goal
 
 pub overflow_add-entries : goal.overflow_add-entries

@@ -4,7 +4,6 @@ use mir.Syntax.{w64}
 use mir.Val.{SFits}
 use mir.Facts.{to_z-of_z}
 use Rattle.files.proofs.spans.Laws.{lo-fails, hi-fails, spanned}
-use borrow.Author.Rules.{rules}
 use Rattle.files.proofs.spans.read_span.Goals as goal
 
 pub returns-in_default : goal.returns-in_default

@@ -1,15 +1,7 @@
 -- `bands::largest_edge`: so far, that of the first i rooms. Assumes nothing.
 use Prim.Native.Nat.{◌-◌, ◌≤◌}
-use mathlib.Core.Path.{◌≡◌, sym, ap, ◌∙◌}
-use native.Mathlib.Omega.{arith}
-use lib.IntN.{ℤ, nat_abs}
-use mir.Syntax.{w64}
-use mir.Val.{to_z, of_z}
-use Rattle.laws.specs.Lists.{at}
-use Rattle.laws.specs.Expressions.{var, exact}
-use Rattle.meaning.specs.Plants.{edge_limit}
+use mathlib.Core.Path.{◌≡◌}
 use Rattle.meaning.specs.Sheets.{largest_edge}
-use Rattle.sheets.proofs.bands.Laws.{largest-none, largest-more}
 use Rattle.sheets.proofs.bands.largest_edge.Given as goal
 
 abbrev pub invariant-loop-i : goal.invariant-loop-i

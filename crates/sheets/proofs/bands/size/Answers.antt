@@ -1,7 +1,6 @@
 -- `bands::size` goes by the sign. Assumes nothing.
 use mathlib.Core.Path.{◌≡◌, ap, ◌∙◌}
 use native.Mathlib.Omega.{arith}
-use borrow.Author.Rules.{rules}
 use lib.IntN.{pos, nat_abs}
 use Rattle.laws.specs.Expressions.{Ex, var, lit, ◌⊝◌, mach, need, exact, lt_yes, lt_no}
 use Rattle.meaning.specs.Plants.{edge_limit}

@@ -1,5 +1,5 @@
 -- `bands::widened` goes dimension by dimension. Assumes nothing.
-use Prim.Native.Nat.{ℕ, ◌+◌, ◌-◌, ◌*◌}
+use Prim.Native.Nat.{ℕ, ◌+◌, ◌*◌}
 use mathlib.Core.Path.{ap, ◌∙◌}
 use native.Mathlib.Omega.{arith}
 use mir.Facts.{to_z-of_z}
@@ -8,7 +8,7 @@ use Rattle.meaning.specs.declared.Whole.{Whole}
 use Rattle.meaning.specs.Sheets.{near_value}
 use Rattle.sheets.specs.Wholes.{joined, near}
 use Rattle.sheets.specs.Bands.{low_end}
-use Rattle.sheets.proofs.bands.Laws.{BandsUpTo, bands-none, bands-more, bands-all}
+use Rattle.sheets.proofs.bands.Laws.{bands-none, bands-more, bands-all}
 use Rattle.sheets.proofs.bands.widened.Goals as goal
 
 pub loop-i-init : goal.loop-i-init

@@ -1,6 +1,5 @@
 -- `bands::widening`: nothing overflows, S being small. Assumes nothing.
 use native.Mathlib.Omega.{arith}
-use borrow.Author.Rules.{rules}
 use Rattle.sheets.proofs.bands.Laws.{product_small, widening-is}
 use Rattle.sheets.proofs.bands.widening.Goals as goal
 

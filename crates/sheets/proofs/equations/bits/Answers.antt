@@ -1,10 +1,8 @@
 -- `equations::bits` goes room by room. Assumes nothing.
-use Prim.Native.Nat.{◌-◌, ◌≤◌}
-use mathlib.Core.Path.{◌≡◌}
 use native.Mathlib.Omega.{arith}
 use Rattle.meaning.specs.Sheets as S
 use Rattle.sheets.specs.Equations as Q
-use Rattle.sheets.proofs.equations.Laws.{StoredUpTo, stored-none, stored_more, stored-all}
+use Rattle.sheets.proofs.equations.Laws.{stored-none, stored_more, stored-all}
 use Rattle.sheets.proofs.equations.bits.Goals as goal
 
 pub loop-i-init : goal.loop-i-init

@@ -1,10 +1,7 @@
 -- `equations::bits` goes room by room. Assumes nothing.
 use Prim.Native.Nat.{◌-◌, ◌≤◌}
-use mathlib.Core.Path.{◌≡◌}
-use native.Mathlib.Omega.{arith}
 use Rattle.meaning.specs.Sheets as S
-use Rattle.sheets.specs.Equations as Q
-use Rattle.sheets.proofs.equations.Laws.{StoredUpTo, stored-none, stored_more, stored-all}
+use Rattle.sheets.proofs.equations.Laws.{StoredUpTo}
 use Rattle.sheets.proofs.equations.bits.Given as goal
 
 abbrev pub invariant-loop-i : goal.invariant-loop-i

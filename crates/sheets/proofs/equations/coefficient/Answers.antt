@@ -1,7 +1,6 @@
 -- `equations::coefficient`, on the diagonal, the room's emitter being on or not, and off it. Assumes nothing.
 use mathlib.Core.Path.{sym, ◌∙◌}
 use native.Mathlib.Omega.{arith}
-use borrow.Author.Rules.{rules}
 use lib.Ieee.{of_bits}
 use Rattle.sheets.proofs.equations.Laws.{bit-small, on-diagonal, off-diagonal, before-gap, behind-gap}
 use Rattle.sheets.proofs.equations.coefficient.Goals as goal

@@ -1,6 +1,5 @@
 -- `equations::emitters`: so far, those of the first i rooms. Assumes nothing.
-use Prim.Native.Nat.{◌-◌, ◌≤◌}
-use mathlib.Core.Path.{◌≡◌, sym, ap, ◌∙◌}
+use mathlib.Core.Path.{sym, ap, ◌∙◌}
 use native.Mathlib.Omega.{arith}
 use Rattle.meaning.specs.Sheets as S
 use Rattle.meaning.specs.declared.Room.{Room}

@@ -1,12 +1,8 @@
 -- `equations::emitters`: so far, those of the first i rooms. Assumes nothing.
 use Prim.Native.Nat.{◌-◌, ◌≤◌}
-use mathlib.Core.Path.{◌≡◌, sym, ap, ◌∙◌}
-use native.Mathlib.Omega.{arith}
+use mathlib.Core.Path.{◌≡◌}
 use Rattle.meaning.specs.Sheets as S
-use Rattle.meaning.specs.declared.Room.{Room}
 use Rattle.meaning.specs.Sheets.{room_at, has_emitter}
-use Rattle.promises.specs.Sheets.SheetPlants.{has_one}
-use Rattle.sheets.proofs.equations.Laws.{none_before, one_more}
 use Rattle.sheets.proofs.equations.emitters.Given as goal
 
 abbrev pub invariant-loop-i : goal.invariant-loop-i

@@ -1,8 +1,7 @@
 -- `equations::loss_sum`: what is summed so far and what is left give the whole sum. Assumes nothing.
-use Prim.Native.Nat.{◌-◌, ◌≤◌}
-use mathlib.Core.Path.{◌≡◌, sym, ap, ◌∙◌}
+use Prim.Native.Nat.{◌-◌}
+use mathlib.Core.Path.{sym, ap, ◌∙◌}
 use native.Mathlib.Omega.{arith}
-use Rattle.laws.specs.Lists.{tab}
 use Rattle.laws.specs.Tabs.{tab-all}
 use Rattle.meaning.specs.Sheets.{exchange_at, sum_from}
 use Rattle.sheets.proofs.equations.Laws.{sum_step, sum_done}

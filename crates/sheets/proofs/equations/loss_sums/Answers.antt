@@ -1,12 +1,10 @@
 -- `equations::loss_sums` goes room by room. Assumes nothing.
-use Prim.Native.Nat.{◌-◌, ◌≤◌}
-use mathlib.Core.Path.{◌≡◌}
 use native.Mathlib.Omega.{arith}
 use Rattle.meaning.specs.Sheets.{zero_f}
 use Rattle.sheets.specs.Equations as Q
 use Rattle.sheets.specs.Equations.{sum_at}
 use Rattle.sheets.proofs.floats.Laws.{zero_is}
-use Rattle.sheets.proofs.equations.Laws.{StoredUpTo, stored-none, stored_more, stored-all}
+use Rattle.sheets.proofs.equations.Laws.{stored-none, stored_more, stored-all}
 use Rattle.sheets.proofs.equations.loss_sums.Goals as goal
 
 pub loop-i-init : goal.loop-i-init

@@ -1,7 +1,6 @@
 -- `equations::offset`, the room's emitter being on or not. Assumes nothing.
 use mathlib.Core.Path.{sym, ◌∙◌}
 use native.Mathlib.Omega.{arith}
-use borrow.Author.Rules.{rules}
 use Rattle.sheets.proofs.equations.Laws.{bit-small, pushed-offset, plain-offset}
 use Rattle.sheets.proofs.equations.offset.Goals as goal
 

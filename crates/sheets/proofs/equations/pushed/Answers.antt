@@ -1,6 +1,5 @@
 -- `equations::pushed` goes by the emitter's kind. Assumes nothing.
 use mathlib.Core.Path.{sym, ap}
-use borrow.Author.Rules.{rules}
 use Rattle.meaning.specs.Sheets as S
 use Rattle.sheets.proofs.equations.pushed.Goals as goal
 

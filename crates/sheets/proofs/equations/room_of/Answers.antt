@@ -1,7 +1,5 @@
 -- `equations::room_of`: a sheet has four. Assumes nothing.
 use native.Mathlib.Omega.{arith}
-use borrow.Author.Rules.{rules}
-use lib.ListN.{length-map}
 use Rattle.laws.specs.Tabs.{any-default}
 use Rattle.meaning.specs.Sheets.{no_room}
 use Rattle.sheets.proofs.equations.room_of.Goals as goal

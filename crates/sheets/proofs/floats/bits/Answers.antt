@@ -1,5 +1,4 @@
 -- `floats::bits` has the one choice of bits for no number, and else asks the machine. Assumes nothing.
-use borrow.Author.Rules.{rules}
 use Rattle.sheets.proofs.floats.Laws.{nan-bits}
 use Rattle.sheets.proofs.wholes.Laws.{itself}
 use Rattle.sheets.proofs.floats.bits.Goals as goal

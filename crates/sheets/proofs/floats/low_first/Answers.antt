@@ -1,6 +1,6 @@
 -- `floats::low_first` reads from the highest byte down. Assumes nothing.
 use native.Mathlib.Omega.{arith}
-use Rattle.sheets.proofs.floats.Laws.{LowUpTo, low-none, low-room, low-more, low-all}
+use Rattle.sheets.proofs.floats.Laws.{low-none, low-room, low-more, low-all}
 use Rattle.sheets.proofs.floats.low_first.Goals as goal
 
 pub loop-k-init : goal.loop-k-init

@@ -1,6 +1,5 @@
 -- `floats::low_first` reads from the highest byte down. Assumes nothing.
-use native.Mathlib.Omega.{arith}
-use Rattle.sheets.proofs.floats.Laws.{LowUpTo, low-none, low-room, low-more, low-all}
+use Rattle.sheets.proofs.floats.Laws.{LowUpTo}
 use Rattle.sheets.proofs.floats.low_first.Given as goal
 
 abbrev pub invariant-loop-k : goal.invariant-loop-k

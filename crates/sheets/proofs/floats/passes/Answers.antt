@@ -1,7 +1,6 @@
 -- `floats::passes` tests what is asked. Assumes nothing.
 use mathlib.Core.Path.{refl}
 use Rattle.sheets.proofs.floats.Laws.{zero_is}
-use borrow.Author.Rules.{rules}
 use Rattle.sheets.proofs.floats.passes.Goals as goal
 
 pub returns-in-NotBelow : goal.returns-in-NotBelow

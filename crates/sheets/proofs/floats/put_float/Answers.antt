@@ -1,8 +1,7 @@
 -- `floats::put_float`: what is left to write is the definition's rest. Assumes nothing.
-use Prim.Native.Nat.{◌-◌, ◌≤◌}
 use native.Mathlib.Omega.{arith}
 use lib.Ieee.{binary64, to_bits}
-use Rattle.laws.specs.Writing.{Under, under_none, under_more, under-done}
+use Rattle.laws.specs.Writing.{under_none, under_more, under-done}
 use Rattle.meaning.specs.Files.{low_first}
 use Rattle.sheets.proofs.floats.Laws.{low_step, low-over}
 use Rattle.sheets.proofs.floats.put_float.Goals as goal

@@ -1,10 +1,8 @@
 -- `floats::put_float`: what is left to write is the definition's rest. Assumes nothing.
 use Prim.Native.Nat.{◌-◌, ◌≤◌}
-use native.Mathlib.Omega.{arith}
 use lib.Ieee.{binary64, to_bits}
-use Rattle.laws.specs.Writing.{Under, under_none, under_more, under-done}
+use Rattle.laws.specs.Writing.{Under}
 use Rattle.meaning.specs.Files.{low_first}
-use Rattle.sheets.proofs.floats.Laws.{low_step, low-over}
 use Rattle.sheets.proofs.floats.put_float.Given as goal
 
 abbrev pub invariant-loop-k : goal.invariant-loop-k

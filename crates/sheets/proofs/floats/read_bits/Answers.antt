@@ -2,7 +2,6 @@
 use mathlib.Core.Path.{sym}
 use native.Mathlib.Omega.{arith}
 use Rattle.sheets.proofs.floats.Laws.{cut_short}
-use borrow.Author.Rules.{rules}
 use Rattle.sheets.proofs.floats.read_bits.Goals as goal
 
 pub returns-then-at-s : goal.returns-then-at-s

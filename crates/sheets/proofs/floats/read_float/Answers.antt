@@ -2,7 +2,6 @@
 use mathlib.Core.Path.{sym, ap, ◌∙◌}
 use Rattle.sheets.specs.Floats.{bits_taken, ok_of}
 use Rattle.sheets.proofs.floats.Laws.{float_cut, not_finite, no_nan, floated, not-asked}
-use borrow.Author.Rules.{rules}
 use Rattle.sheets.proofs.floats.read_float.Goals as goal
 
 pub returns-in_default : goal.returns-in_default

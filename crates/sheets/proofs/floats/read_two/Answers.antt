@@ -3,7 +3,6 @@ use mathlib.Core.Path.{subst}
 use Rattle.meaning.specs.Sheets.{any_float}
 use Rattle.sheets.specs.Floats.{ok_of, FloatTold}
 use Rattle.sheets.proofs.floats.Laws.{first-cut, second-cut, two-read}
-use borrow.Author.Rules.{rules}
 use Rattle.sheets.proofs.floats.read_two.Goals as goal
 
 pub returns-in-Refused : goal.returns-in-Refused

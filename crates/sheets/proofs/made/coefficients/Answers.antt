@@ -1,5 +1,4 @@
 -- `made::coefficients` goes place by place. Assumes nothing.
-use Prim.Native.Nat.{◌-◌}
 use mathlib.Core.Path.{ap, ◌∙◌}
 use native.Mathlib.Omega.{arith}
 use mir.Facts.{to_z-of_z}
@@ -7,7 +6,7 @@ use Rattle.laws.specs.Integers.{ok64}
 use Rattle.meaning.specs.declared.Whole.{Whole}
 use Rattle.meaning.specs.Sheets.{near_value}
 use Rattle.sheets.specs.Wholes.{joined, near}
-use Rattle.sheets.proofs.made.Laws.{EntriesUpTo, entries_none, entries-more, entries-all}
+use Rattle.sheets.proofs.made.Laws.{entries_none, entries-more, entries-all}
 use Rattle.sheets.proofs.made.coefficients.Goals as goal
 
 pub loss_sums-sums-requires : goal.loss_sums-sums-requires

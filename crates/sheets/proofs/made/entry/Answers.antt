@@ -1,7 +1,6 @@
 -- `made::entry` goes by the column: an entry of A, or b. Assumes nothing.
 use mathlib.Core.Path.{◌∙◌}
 use native.Mathlib.Omega.{arith}
-use borrow.Author.Rules.{rules}
 use Rattle.sheets.proofs.equations.Laws.{sum-read, bit-read}
 use Rattle.sheets.proofs.made.Laws.{entry-is, offset-is, row_below, row_small, scaled}
 use Rattle.sheets.proofs.made.entry.Goals as goal

@@ -1,7 +1,6 @@
 -- `made::modes`: at most four rooms have an emitter. Assumes nothing.
 use native.Mathlib.Omega.{arith}
 use native.Mathlib.Nat.{one-mul, mod-eq_of_lt}
-use borrow.Author.Rules.{rules}
 use Rattle.sheets.proofs.equations.Laws.{bit-small}
 use Rattle.sheets.proofs.made.Laws.{modes-few}
 use Rattle.sheets.proofs.made.modes.Goals as goal

@@ -1,6 +1,5 @@
 -- `rooms::put_emitter` writes the number, then the values of its kind. Assumes nothing.
 use Rattle.laws.specs.Writing.{put-append}
-use borrow.Author.Rules.{rules}
 use Rattle.sheets.proofs.rooms.put_emitter.Goals as goal
 
 pub returns-in-None : goal.returns-in-None

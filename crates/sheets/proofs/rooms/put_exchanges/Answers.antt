@@ -1,5 +1,5 @@
 -- `rooms::put_exchanges`: what is left to write is the definition's rest. Assumes nothing.
-use Prim.Native.Nat.{◌-◌, ◌≤◌}
+use Prim.Native.Nat.{◌-◌}
 use mathlib.Core.Path.{◌≡◌}
 use native.Mathlib.Omega.{arith}
 use lib.ListN.{length, get_or}
@@ -7,7 +7,7 @@ use lib.Ieee.{nan}
 use Rattle.meaning.specs.Sheets.{zero_f}
 use Rattle.laws.specs.Lists.{tabs}
 use Rattle.laws.specs.Tabs.{any-default, tabs-step, tabs-done}
-use Rattle.laws.specs.Writing.{Under, under_none, under_more, under-done}
+use Rattle.laws.specs.Writing.{under_none, under_more, under-done}
 use Rattle.sheets.specs.Rooms.{exchange_bytes}
 use Rattle.sheets.proofs.rooms.put_exchanges.Goals as goal
 

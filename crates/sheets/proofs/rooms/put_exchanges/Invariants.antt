@@ -1,13 +1,7 @@
 -- `rooms::put_exchanges`: what is left to write is the definition's rest. Assumes nothing.
 use Prim.Native.Nat.{◌-◌, ◌≤◌}
-use mathlib.Core.Path.{◌≡◌}
-use native.Mathlib.Omega.{arith}
-use lib.ListN.{length, get_or}
-use lib.Ieee.{nan}
-use Rattle.meaning.specs.Sheets.{zero_f}
 use Rattle.laws.specs.Lists.{tabs}
-use Rattle.laws.specs.Tabs.{any-default, tabs-step, tabs-done}
-use Rattle.laws.specs.Writing.{Under, under_none, under_more, under-done}
+use Rattle.laws.specs.Writing.{Under}
 use Rattle.sheets.specs.Rooms.{exchange_bytes}
 use Rattle.sheets.proofs.rooms.put_exchanges.Given as goal
 

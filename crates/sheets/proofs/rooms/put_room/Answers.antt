@@ -1,6 +1,5 @@
 -- `rooms::put_room` writes part by part. Assumes nothing.
 use Rattle.laws.specs.Writing.{put-append}
-use borrow.Author.Rules.{rules}
 use Rattle.sheets.proofs.rooms.put_room.Goals as goal
 
 pub returns : goal.returns

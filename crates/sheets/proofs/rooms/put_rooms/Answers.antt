@@ -1,11 +1,11 @@
 -- `rooms::put_rooms`: what is left to write is the definition's rest. Assumes nothing.
-use Prim.Native.Nat.{◌-◌, ◌≤◌}
+use Prim.Native.Nat.{◌-◌}
 use mathlib.Core.Path.{◌≡◌}
 use native.Mathlib.Omega.{arith}
 use lib.ListN.{length}
 use Rattle.laws.specs.Lists.{tabs}
 use Rattle.laws.specs.Tabs.{tabs-step, tabs-done}
-use Rattle.laws.specs.Writing.{Under, under_none, under_more, under-done}
+use Rattle.laws.specs.Writing.{under_none, under_more, under-done}
 use Rattle.sheets.specs.Rooms.{bytes_of_room}
 use Rattle.sheets.proofs.rooms.Laws.{put-there}
 use Rattle.sheets.proofs.rooms.put_rooms.Goals as goal

@@ -1,13 +1,8 @@
 -- `rooms::put_rooms`: what is left to write is the definition's rest. Assumes nothing.
 use Prim.Native.Nat.{◌-◌, ◌≤◌}
-use mathlib.Core.Path.{◌≡◌}
-use native.Mathlib.Omega.{arith}
-use lib.ListN.{length}
 use Rattle.laws.specs.Lists.{tabs}
-use Rattle.laws.specs.Tabs.{tabs-step, tabs-done}
-use Rattle.laws.specs.Writing.{Under, under_none, under_more, under-done}
+use Rattle.laws.specs.Writing.{Under}
 use Rattle.sheets.specs.Rooms.{bytes_of_room}
-use Rattle.sheets.proofs.rooms.Laws.{put-there}
 use Rattle.sheets.proofs.rooms.put_rooms.Given as goal
 
 abbrev pub invariant-loop-i : goal.invariant-loop-i

@@ -4,7 +4,6 @@ use native.Mathlib.Omega.{arith}
 use Rattle.meaning.specs.declared.Emitter.{Emitter}
 use Rattle.sheets.specs.declared.rooms.EmitterRead.{EmitterRead}
 use Rattle.sheets.proofs.rooms.Laws.{kind-cut, kind-over, own-told, none_read}
-use borrow.Author.Rules.{rules}
 use Rattle.sheets.proofs.rooms.read_emitter.Goals as goal
 
 pub returns-in_default : goal.returns-in_default

@@ -3,7 +3,6 @@ use mathlib.Core.Path.{subst}
 use Rattle.meaning.specs.Sheets.{not_below}
 use Rattle.sheets.specs.Floats.{TwoTold}
 use Rattle.sheets.proofs.rooms.Laws.{heater-read}
-use borrow.Author.Rules.{rules}
 use Rattle.sheets.proofs.rooms.read_heater.Goals as goal
 
 pub returns-in-Refused : goal.returns-in-Refused

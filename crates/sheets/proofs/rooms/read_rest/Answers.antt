@@ -3,7 +3,6 @@ use Prim.Native.Nat.{◌-◌}
 use mathlib.Core.Path.{sym, subst}
 use Rattle.sheets.specs.Rooms.{ExchangesAs, EmitterTold, RestAs}
 use Rattle.sheets.proofs.rooms.Laws.{exchanges-cut, emitter-cut, rest_read}
-use borrow.Author.Rules.{rules}
 use Rattle.sheets.proofs.rooms.read_rest.Goals as goal
 
 pub returns-in-Refused : goal.returns-in-Refused

@@ -4,7 +4,6 @@ use Rattle.meaning.specs.Sheets.{not_below}
 use Rattle.sheets.specs.Floats.{FloatTold}
 use Rattle.sheets.specs.Rooms.{RoomAs}
 use Rattle.sheets.proofs.rooms.Laws.{loss-cut, rest-told}
-use borrow.Author.Rules.{rules}
 use Rattle.sheets.proofs.rooms.read_room.Goals as goal
 
 pub returns-in-Refused : goal.returns-in-Refused

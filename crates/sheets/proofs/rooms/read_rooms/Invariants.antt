@@ -1,10 +1,6 @@
 -- `rooms::read_rooms` reads room by room. Assumes nothing.
 use Prim.Native.Nat.{◌-◌}
-use mathlib.Core.Path.{subst}
-use native.Mathlib.Omega.{arith}
-use borrow.Author.Rules.{rules}
-use Rattle.sheets.specs.Rooms.{RoomAs}
-use Rattle.sheets.proofs.rooms.Laws.{RoomsUpTo, rooms-none, rooms-more, rooms-fails, rooms-all}
+use Rattle.sheets.proofs.rooms.Laws.{RoomsUpTo}
 use Rattle.sheets.proofs.rooms.read_rooms.Given as goal
 
 abbrev pub invariant-loop-i : goal.invariant-loop-i

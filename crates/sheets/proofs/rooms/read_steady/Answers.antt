@@ -3,7 +3,6 @@ use mathlib.Core.Path.{subst}
 use Rattle.meaning.specs.Sheets.{any_float}
 use Rattle.sheets.specs.Floats.{FloatTold}
 use Rattle.sheets.proofs.rooms.Laws.{steady-read}
-use borrow.Author.Rules.{rules}
 use Rattle.sheets.proofs.rooms.read_steady.Goals as goal
 
 pub returns-in-Refused : goal.returns-in-Refused

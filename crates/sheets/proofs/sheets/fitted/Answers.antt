@@ -4,7 +4,6 @@ use Rattle.meaning.specs.declared.Refusal.{Refusal}
 use Rattle.meaning.specs.Files.{bad}
 use Rattle.meaning.specs.Sheets.{sheet_read_of}
 use Rattle.sheets.proofs.sheets.Fitting.{not-fitting, all-fitting}
-use borrow.Author.Rules.{rules}
 use Rattle.sheets.proofs.sheets.fitted.Goals as goal
 
 pub returns-then-made : goal.returns-then-made

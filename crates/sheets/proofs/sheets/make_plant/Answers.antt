@@ -5,7 +5,6 @@ use Rattle.meaning.specs.Buffers.{Left, refused_with}
 use Rattle.promises.specs.Sheets.SheetPlants.{made-refused}
 use Rattle.sheets.specs.Sheets.{SizedAs}
 use Rattle.sheets.proofs.sheets.Fitting.{values-refused, unfit-left, fit-left}
-use borrow.Author.Rules.{rules}
 use Rattle.sheets.proofs.sheets.make_plant.Goals as goal
 
 pub make-made-requires : goal.make-made-requires

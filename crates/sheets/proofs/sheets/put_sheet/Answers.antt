@@ -3,7 +3,6 @@ use mathlib.Core.List.{append-nil}
 use Rattle.laws.specs.Writing.{put-append}
 use Rattle.files.specs.DraftLaws.{wide-draft, many-draft, whole-draft}
 use Rattle.sheets.specs.Sheets.{sheet_beginning, rest_bytes, sheet_draft}
-use borrow.Author.Rules.{rules}
 use Rattle.sheets.proofs.sheets.put_sheet.Goals as goal
 
 pub returns-then-n-gt4 : goal.returns-then-n-gt4

@@ -6,7 +6,6 @@ use Rattle.meaning.specs.Sheets.{above, sheet_read_of}
 use Rattle.sheets.specs.Rooms.{RoomsAs}
 use Rattle.sheets.specs.Floats.{TwoTold}
 use Rattle.sheets.proofs.sheets.Laws.{time-refused, rooms-refused, left_over, by-verdict, refused-sized, taken-sized}
-use borrow.Author.Rules.{rules}
 use Rattle.sheets.proofs.sheets.read_body.Goals as goal
 
 pub returns-then-next-s : goal.returns-then-next-s
@@ -16,8 +15,11 @@ returns-then-next-s c =
     let f = c.read_two in
     let u = subst (TwoTold above s z.at) c.in-Floats.is f.ensures in
     let m = c.read_rooms-read in
-    let v = subst (RoomsAs s c.in-Floats.mid z.b.n m.result.rooms) c.in-Next.is m.ensures in record { value = c.refused-then-next-s.ensures ∙ ap (λ (k : Refusal). sheet_read_of (bad k)) c.unfit.ensures
-          ∙ sym (left_over s z.b z.at c.in-Floats.time c.in-Floats.outside c.in-Floats.mid u m.result.rooms c.in-Next.next v c.if-next-s.true); sized = refused-sized c.refused-then-next-s.result _ c.refused-then-next-s.ensures }
+    let v = subst (RoomsAs s c.in-Floats.mid z.b.n m.result.rooms) c.in-Next.is m.ensures in record {
+      value = c.refused-then-next-s.ensures ∙ ap (λ (k : Refusal). sheet_read_of (bad k)) c.unfit.ensures
+          ∙ sym (left_over s z.b z.at c.in-Floats.time c.in-Floats.outside c.in-Floats.mid u m.result.rooms c.in-Next.next v c.if-next-s.true);
+      sized = refused-sized c.refused-then-next-s.result _ c.refused-then-next-s.ensures;
+    }
 
 pub returns-in-Refused : goal.returns-in-Refused
 returns-in-Refused c =
@@ -33,8 +35,11 @@ returns-in-Refused-past c =
     let f = c.read_two in
     let u = subst (TwoTold above s z.at) c.in-Floats.is f.ensures in
     let m = c.read_rooms-read in
-    record { value = c.refused-in-Refused-past.ensures
-          ∙ sym (rooms-refused s z.b z.at c.in-Floats.time c.in-Floats.outside c.in-Floats.mid u c.in-Refused-past.e (subst (RoomsAs s c.in-Floats.mid z.b.n m.result.rooms) c.in-Refused-past.is m.ensures)); sized = refused-sized c.refused-in-Refused-past.result _ c.refused-in-Refused-past.ensures }
+    record {
+      value = c.refused-in-Refused-past.ensures
+          ∙ sym (rooms-refused s z.b z.at c.in-Floats.time c.in-Floats.outside c.in-Floats.mid u c.in-Refused-past.e (subst (RoomsAs s c.in-Floats.mid z.b.n m.result.rooms) c.in-Refused-past.is m.ensures));
+      sized = refused-sized c.refused-in-Refused-past.result _ c.refused-in-Refused-past.ensures;
+    }
 
 pub returns-in-Refused-related : goal.returns-in-Refused-related
 returns-in-Refused-related c =

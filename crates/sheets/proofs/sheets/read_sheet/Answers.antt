@@ -3,7 +3,6 @@ use mathlib.Core.Path.{sym, ap, ◌∙◌, subst}
 use Rattle.meaning.specs.Sheets.{sheet_read_of}
 use Rattle.sheets.specs.Sheets.{SizedAs}
 use Rattle.sheets.proofs.sheets.Fitting.{values-refused, values-taken}
-use borrow.Author.Rules.{rules}
 use Rattle.sheets.proofs.sheets.read_sheet.Goals as goal
 
 pub fitted-requires : goal.fitted-requires

@@ -2,7 +2,6 @@
 use mathlib.Core.Path.{sym, ◌∙◌, subst}
 use Rattle.files.specs.Beginnings.{BegunAs}
 use Rattle.sheets.proofs.sheets.Laws.{beginning-refused, beginning-read, refused-sized}
-use borrow.Author.Rules.{rules}
 use Rattle.sheets.proofs.sheets.read_values.Goals as goal
 
 pub read_body-requires : goal.read_body-requires

@@ -2,7 +2,6 @@
 use mathlib.Core.Path.{refl}
 use Rattle.laws.specs.Lists.{tab}
 use Rattle.meaning.specs.Sheets.{rooms_of, sheet_of}
-use borrow.Author.Rules.{rules}
 use Rattle.sheets.proofs.sheets.refused.Goals as goal
 
 pub returns : goal.returns

@@ -4,7 +4,6 @@ use lib.ListN.{take}
 use lib.Seq.{length-take-le}
 use Rattle.meaning.specs.Buffers.{Left}
 use Rattle.sheets.proofs.sheets.Drafts.{in-draft, sheet-left}
-use borrow.Author.Rules.{rules}
 use Rattle.sheets.proofs.sheets.write_sheet.Goals as goal
 
 pub slice_bounds-draft-end : goal.slice_bounds-draft-end

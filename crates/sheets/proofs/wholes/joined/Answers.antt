@@ -1,5 +1,4 @@
 -- `wholes::joined` goes by whether all of the first numbers fit. Assumes nothing.
-use borrow.Author.Rules.{rules}
 use borrow.Author.Tests.{eq-eqb, ne_eqb}
 use Rattle.sheets.proofs.wholes.joined.Goals as goal
 

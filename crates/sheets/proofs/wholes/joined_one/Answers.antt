@@ -1,6 +1,5 @@
 -- `wholes::joined_one` goes by whether the number is out. Assumes nothing.
 use mathlib.Core.Path.{sym, ap, ◌∙◌}
-use borrow.Author.Rules.{rules}
 use Rattle.meaning.specs.declared.Whole.{Whole}
 use Rattle.sheets.specs.Wholes.{joined, near}
 use Rattle.sheets.proofs.wholes.joined_one.Goals as goal

@@ -7,7 +7,6 @@ use lib.IntN.{pos, neg_ℤ, ◌-ℤ◌, +ℤ_idl}
 use mir.Syntax.{w64}
 use mir.Val.{to_z, of_z}
 use mir.ValLaws.{to_z_pos}
-use borrow.Author.Rules.{rules}
 use Rattle.laws.specs.Expressions.{Ex, lit, held, ◌⊝◌, need, exact}
 use Rattle.meaning.specs.declared.Whole.{Whole}
 use Rattle.meaning.specs.Sheets.{signed_by}

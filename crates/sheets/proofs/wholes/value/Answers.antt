@@ -1,6 +1,5 @@
 -- `wholes::value` goes by whether the number is out. Assumes nothing.
 use mathlib.Core.Path.{sym, ap, ◌∙◌}
-use borrow.Author.Rules.{rules}
 use mir.Facts.{to_z-of_z}
 use Rattle.laws.specs.Integers.{ok64}
 use Rattle.meaning.specs.Sheets.{near_value}

@@ -1,8 +1,8 @@
 -- `boxes::all_halved`: the sides that are done, and the child of the others by the bits that are left, are the whole child. Assumes nothing.
 use mathlib.Core.Path.{◌≡◌, sym, ◌∙◌}
-use Prim.Native.Nat.{ℕ, ◌≤◌, ◌<◌, ◌-◌}
+use Prim.Native.Nat.{ℕ, ◌<◌, ◌-◌}
 use native.Mathlib.Omega.{arith}
-use lib.ListN.{length, length-set}
+use lib.ListN.{length-set}
 use lib.IntN.{ℤ}
 use borrow.Author.Rules.{rules}
 use mir.Facts.{to_z-of_z}
@@ -12,7 +12,7 @@ use Rattle.laws.specs.Expressions.{Ex, var, val, mach, under, down}
 use Rattle.meaning.specs.Boxes.{side}
 use Rattle.meaning.specs.Plants.{edge_limit}
 use Rattle.tables.specs.Boxes.{box_of, piece_of, rest_of}
-use Rattle.tables.proofs.boxes.Laws.{cut-none, child_at, children-at, small-side, Cut, cut-done, cut-more}
+use Rattle.tables.proofs.boxes.Laws.{cut-none, children-at, small-side, cut-done, cut-more}
 use Rattle.tables.proofs.boxes.all_halved.Goals as goal
 
 pub loop-due-init : goal.loop-due-init

@@ -1,13 +1,11 @@
 -- `boxes::count`: with j sides behind it, k times the count of the others is the whole count. Assumes nothing.
 use mathlib.Core.Path.{◌≡◌, ◌∙◌}
-use mathlib.Core.Logic.{⊎_elim}
-use Prim.Native.Nat.{◌≤◌, ◌<◌, ◌-◌, ◌*◌, ◌^◌}
+use Prim.Native.Nat.{◌<◌}
 use native.Mathlib.Omega.{arith}
 use native.Mathlib.Nat.{sub-zero}
 use mir.Facts.{to_z-of_z}
 use Rattle.laws.specs.Integers.{ok64}
-use Rattle.laws.specs.Lists.{at, tab}
-use Rattle.meaning.specs.Boxes.{side_at}
+use Rattle.laws.specs.Lists.{at}
 use Rattle.tables.specs.Boxes.{box_of}
 use Rattle.tables.proofs.boxes.Laws.{count_of, count-end, count-twice, count_same, twice, pow_small, pow-next}
 use Rattle.tables.proofs.boxes.Halving.{count_none, count-two, count-all}
@@ -49,8 +47,8 @@ loop-j-preserved c =
     let eh = to_z-of_z (ok64 (at hi l.j) c.h-1.given) in
     let p = pow-next l.j in
     elim c.if-l-h.branch [
-    then-l-h w ↦ (omega arith, omega (arith, w.k-is), rw w.k-is (twice l.k _ _ _ (count-twice lo hi a.n l.j h (rw (el, eh) at w.if-l-h.true)) l.invariant.2))
-    | else-l-h w ↦ (omega arith, omega (arith, w.k-is), rw w.k-is (rw (← count_same lo hi a.n l.j h (rw (el, eh) at w.if-l-h.false)) l.invariant.2))
+      | then-l-h w ↦ (omega arith, omega (arith, w.k-is), rw w.k-is (twice l.k _ _ _ (count-twice lo hi a.n l.j h (rw (el, eh) at w.if-l-h.true)) l.invariant.2))
+      | else-l-h w ↦ (omega arith, omega (arith, w.k-is), rw w.k-is (rw (← count_same lo hi a.n l.j h (rw (el, eh) at w.if-l-h.false)) l.invariant.2))
     ]
 
 pub returns-then-k-eq1 : goal.returns-then-k-eq1

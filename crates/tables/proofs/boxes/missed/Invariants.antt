@@ -1,17 +1,7 @@
 -- `boxes::missed`: the first j tests hold. Assumes nothing.
-use mathlib.Core.Path.{◌≡◌, sym, ap, ◌∙◌}
-use mathlib.Core.Bool.{Bool}
-use Prim.Native.Nat.{ℕ, ◌-◌}
-use native.Mathlib.Omega.{arith}
-use borrow.Author.Rules.{rules}
-use mir.Facts.{to_z-of_z}
-use Rattle.laws.specs.Integers.{ok64}
-use Rattle.laws.specs.Lists.{at, tab, first_false}
-use Rattle.laws.specs.Tests.{HoldUpTo, hold-none, hold-more, first-here, first-none}
-use Rattle.meaning.specs.Boxes.{side_at, fits}
-use Rattle.meaning.specs.Tables.{reading_of}
-use Rattle.tables.specs.Boxes.{box_of}
-use Rattle.tables.proofs.boxes.Laws.{holds_at, fits-tab}
+use Prim.Native.Nat.{◌-◌}
+use Rattle.laws.specs.Tests.{HoldUpTo}
+use Rattle.tables.proofs.boxes.Laws.{holds_at}
 use Rattle.tables.proofs.boxes.missed.Given as goal
 
 abbrev pub invariant-loop-j : goal.invariant-loop-j

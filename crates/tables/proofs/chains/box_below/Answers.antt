@@ -2,7 +2,6 @@
 use Prim.Native.Nat.{suc, ◌-◌}
 use mathlib.Core.Path.{◌≡◌, ap, ◌∙◌}
 use native.Mathlib.Omega.{arith}
-use borrow.Author.Rules.{rules}
 use Rattle.tables.specs.Chains.{bx_below}
 use Rattle.tables.proofs.chains.box_below.Goals as goal
 

@@ -1,5 +1,5 @@
 -- `chains::box_on` takes a box out of the edges, side by side. Assumes nothing.
-use Prim.Native.Nat.{◌*◌, ◌-◌, ◌≤◌, ◌+◌}
+use Prim.Native.Nat.{◌*◌, ◌≤◌, ◌+◌}
 use mathlib.Core.Path.{◌≡◌, refl, ap, ◌∙◌}
 use mathlib.Core.List.{List}
 use native.Mathlib.Omega.{arith}
@@ -9,7 +9,7 @@ use Rattle.laws.specs.Integers.{ok64}
 use Rattle.laws.specs.Lists.{at}
 use Rattle.meaning.specs.Plants.{column}
 use Rattle.tables.specs.Frames.{box_from}
-use Rattle.tables.proofs.chains.Laws.{TakenOut, none_out, more-out, all-out, few-edges}
+use Rattle.tables.proofs.chains.Laws.{none_out, more-out, all-out, few-edges}
 use Rattle.tables.proofs.chains.box_on.Goals as goal
 
 same-box : {lo hi x y : List ℤ} → lo ≡ x → hi ≡ y → box_from lo hi ≡ box_from x y

@@ -1,10 +1,9 @@
 -- `chains::first_unheld`: the first i boxes keep, and the last of them is at hand. Assumes nothing.
-use Prim.Native.Nat.{◌-◌, ◌≤◌}
+use Prim.Native.Nat.{◌≤◌}
 use mathlib.Core.Path.{◌≡◌, refl, sym, ◌∙◌}
 use native.Mathlib.Omega.{arith}
-use borrow.Author.Rules.{rules}
-use Rattle.laws.specs.Tests.{HoldUpTo, hold-none, hold-more, first-here, first-none}
-use Rattle.meaning.specs.Starts.{box_at, held}
+use Rattle.laws.specs.Tests.{hold-none, hold-more, first-here, first-none}
+use Rattle.meaning.specs.Starts.{held}
 use Rattle.tables.specs.Boxes.{box_of}
 use Rattle.tables.specs.Chains.{values_in}
 use Rattle.tables.proofs.chains.Laws.{held-as, next-box}

@@ -1,13 +1,10 @@
 -- `chains::first_unheld`: the first i boxes keep, and the last of them is at hand. Assumes nothing.
-use Prim.Native.Nat.{◌-◌, ◌≤◌}
-use mathlib.Core.Path.{◌≡◌, refl, sym, ◌∙◌}
-use native.Mathlib.Omega.{arith}
-use borrow.Author.Rules.{rules}
-use Rattle.laws.specs.Tests.{HoldUpTo, hold-none, hold-more, first-here, first-none}
+use Prim.Native.Nat.{◌-◌}
+use mathlib.Core.Path.{◌≡◌}
+use Rattle.laws.specs.Tests.{HoldUpTo}
 use Rattle.meaning.specs.Starts.{box_at, held}
 use Rattle.tables.specs.Boxes.{box_of}
 use Rattle.tables.specs.Chains.{values_in}
-use Rattle.tables.proofs.chains.Laws.{held-as, next-box}
 use Rattle.tables.proofs.chains.first_unheld.Given as goal
 
 abbrev pub invariant-loop-i : goal.invariant-loop-i

@@ -1,6 +1,5 @@
 -- `chains::frame_at`: both boxes, the rest as it is. Assumes nothing.
 use mathlib.Core.Path.{refl}
-use borrow.Author.Rules.{rules}
 use Rattle.tables.proofs.chains.frame_at.Goals as goal
 
 pub returns : goal.returns

@@ -1,6 +1,5 @@
 -- `chains::keeps`: both tests, the second only where the first holds. Assumes nothing.
 use mathlib.Core.Path.{sym, ◌∙◌}
-use borrow.Author.Rules.{rules}
 use Rattle.tables.proofs.chains.keeps.Goals as goal
 
 pub returns-then-within : goal.returns-then-within

@@ -1,5 +1,4 @@
 -- `chains::left_over`. Assumes nothing.
-use borrow.Author.Rules.{rules}
 use Rattle.tables.proofs.chains.left_over.Goals as goal
 
 pub returns-then-whole : goal.returns-then-whole

@@ -1,6 +1,5 @@
 -- `chains::read_head` reads the two numbers that a chain begins with. Each return cites the law of the number that it stops at. Assumes nothing.
 use mathlib.Core.Path.{sym, ap, ◌∙◌}
-use borrow.Author.Rules.{rules}
 use Rattle.meaning.specs.Files.{refused}
 use Rattle.tables.proofs.chains.Reading.{form-broken, form-wrong, m-broken, m-over, headed}
 use Rattle.tables.proofs.chains.read_head.Goals as goal

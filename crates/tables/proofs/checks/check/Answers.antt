@@ -1,6 +1,5 @@
 -- `checks::check`: arrays for few modes, or for any. Assumes nothing.
 use native.Mathlib.Omega.{arith}
-use borrow.Author.Rules.{rules}
 use Rattle.tables.proofs.arrays.Laws.{few-room}
 use Rattle.tables.proofs.checks.check.Goals as goal
 

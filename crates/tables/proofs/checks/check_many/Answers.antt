@@ -1,5 +1,4 @@
 -- `checks::check_many`: arrays for any plant. Assumes nothing.
-use borrow.Author.Rules.{rules}
 use Rattle.tables.proofs.arrays.Laws.{any-room}
 use Rattle.tables.proofs.checks.check_many.Goals as goal
 

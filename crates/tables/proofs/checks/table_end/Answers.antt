@@ -2,7 +2,6 @@
 use Prim.Native.Nat.{ℕ}
 use mathlib.Core.Path.{◌≡◌, sym, ap, ◌∙◌, subst}
 use mathlib.Core.List.{List}
-use borrow.Author.Rules.{rules}
 use Rattle.meaning.specs.Tables.{form_of}
 use Rattle.meaning.specs.Verdicts.{table_end}
 use Rattle.promises.specs.Tables.TableForms.{form-known}

@@ -1,6 +1,5 @@
 -- `control::admit`: the state, then the reading. Assumes nothing.
 use mathlib.Core.Path.{ap, ◌∙◌}
-use borrow.Author.Rules.{rules}
 use Rattle.meaning.specs.declared.Verdict.{Verdict}
 use Rattle.meaning.specs.Boxes.{fits}
 use Rattle.meaning.specs.Tables.{reading_of}

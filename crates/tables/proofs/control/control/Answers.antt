@@ -1,7 +1,6 @@
 -- `control::control`: the plant, then the call on its frame. Assumes nothing.
 use mathlib.Core.Path.{◌≡◌, sym, ap, ◌∙◌}
 use mathlib.Core.List.{[]}
-use borrow.Author.Rules.{rules}
 use Rattle.meaning.specs.Control.{call}
 use Rattle.meaning.specs.Plants.{plant_judged}
 use Rattle.promises.specs.Files.Judged.{judged-sound}

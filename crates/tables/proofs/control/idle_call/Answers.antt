@@ -3,7 +3,6 @@ use Prim.Native.Nat.{ℕ}
 use mathlib.Core.Path.{◌≡◌, sym, ap, ◌∙◌}
 use mathlib.Core.List.{List, []}
 use lib.Dec.{eqb}
-use borrow.Author.Rules.{rules}
 use Rattle.meaning.specs.declared.Found.{Found}
 use Rattle.meaning.specs.Control.{on_found, find, idle_call}
 use Rattle.meaning.specs.Boxes.{fits}

@@ -2,7 +2,6 @@
 use Prim.Native.Nat.{ℕ}
 use mathlib.Core.Path.{◌∙◌}
 use mathlib.Core.List.{List, []}
-use borrow.Author.Rules.{rules}
 use Rattle.meaning.specs.Rules.{Rules}
 use Rattle.tables.specs.Frames.{rules_in}
 use Rattle.tables.proofs.control.Laws.{running-refused, running-answers}

@@ -1,7 +1,6 @@
 -- `division::floor` rounds down, on both sides of zero. Assumes nothing.
 use mathlib.Core.Path.{◌∙◌}
 use native.Mathlib.Omega.{arith}
-use borrow.Author.Rules.{rules}
 use lib.IntN.{pos}
 use mir.Facts.{to_z_pos, sfits_lit}
 use mir.Syntax.{w64}

@@ -1,12 +1,12 @@
 -- `drafts::put_tile`: what is left to write are the modes that are left. Assumes nothing.
-use Prim.Native.Nat.{◌-◌, ◌≤◌, ◌<◌}
+use Prim.Native.Nat.{◌<◌}
 use mathlib.Core.Path.{◌∙◌}
 use native.Mathlib.Omega.{arith}
 use Rattle.laws.specs.Tabs.{tab-all}
-use Rattle.laws.specs.Writing.{Under, under_none, under_more, under-done, put-length}
+use Rattle.laws.specs.Writing.{under_none, under_more, under-done, put-length}
 use Rattle.meaning.specs.Trees.{modes_bytes}
 use Rattle.tables.specs.Tiles.{longest_pattern, mode_at, pattern_of}
-use Rattle.tables.proofs.drafts.Laws.{modes_from, tile-whole, tile-mode, tile-end}
+use Rattle.tables.proofs.drafts.Laws.{tile-whole, tile-mode, tile-end}
 use Rattle.tables.proofs.drafts.put_tile.Goals as goal
 
 pub put_number-place-requires : goal.put_number-place-requires

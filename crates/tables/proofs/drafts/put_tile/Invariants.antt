@@ -1,12 +1,9 @@
 -- `drafts::put_tile`: what is left to write are the modes that are left. Assumes nothing.
-use Prim.Native.Nat.{◌-◌, ◌≤◌, ◌<◌}
-use mathlib.Core.Path.{◌∙◌}
-use native.Mathlib.Omega.{arith}
-use Rattle.laws.specs.Tabs.{tab-all}
-use Rattle.laws.specs.Writing.{Under, under_none, under_more, under-done, put-length}
+use Prim.Native.Nat.{◌-◌, ◌≤◌}
+use Rattle.laws.specs.Writing.{Under}
 use Rattle.meaning.specs.Trees.{modes_bytes}
-use Rattle.tables.specs.Tiles.{longest_pattern, mode_at, pattern_of}
-use Rattle.tables.proofs.drafts.Laws.{modes_from, tile-whole, tile-mode, tile-end}
+use Rattle.tables.specs.Tiles.{longest_pattern, pattern_of}
+use Rattle.tables.proofs.drafts.Laws.{modes_from}
 use Rattle.tables.proofs.drafts.put_tile.Given as goal
 
 abbrev pub invariant-loop-j : goal.invariant-loop-j

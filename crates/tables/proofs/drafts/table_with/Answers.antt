@@ -1,7 +1,6 @@
 -- `drafts::table_with`: the limits, the header, then the tree of the box that is tiled, by the frame taken apart. Assumes nothing.
 use Prim.Native.Nat.{ℕ}
 use mathlib.Core.Path.{◌≡◌, sym, subst}
-use borrow.Author.Rules.{rules}
 use Rattle.meaning.specs.Plants.{edge_limit}
 use Rattle.tables.specs.declared.frames.Frame.{Frame}
 use Rattle.tables.specs.Boxes.{box_of, Small}

@@ -2,27 +2,25 @@
 use Prim.Native.Nat.{ℕ, ◌-◌, ◌≤◌, ◌<◌}
 use mathlib.Core.Path.{◌≡◌, sym, ap, ◌∙◌}
 use mathlib.Core.Bool.{true, false}
-use mathlib.Core.List.{List, []}
+use mathlib.Core.List.{List}
 use native.Mathlib.Omega.{arith}
 use lib.IntN.{ℤ, pos}
 use lib.ListN.{length, replicate}
-use borrow.Author.Rules.{rules}
 use Rattle.laws.specs.Lists.{all}
 use Rattle.laws.specs.Tests.{never}
 use Rattle.meaning.specs.declared.Found.{Found}
 use Rattle.meaning.specs.declared.Number.{Number}
 use Rattle.meaning.specs.Boxes.{Side, fits}
-use Rattle.meaning.specs.Control.{find}
 use Rattle.meaning.specs.Numbers.{number_at}
 use Rattle.meaning.specs.Plants.{edge_limit}
 use Rattle.meaning.specs.Tables.{children_by, reading_of}
 use Rattle.tables.specs.declared.boxes.Bx.{Bx}
 use Rattle.tables.specs.declared.frames.Frame.{Frame}
 use Rattle.tables.specs.Boxes.{box_of, Small}
-use Rattle.tables.specs.Frames.{frame_from, rules_in}
+use Rattle.tables.specs.Frames.{frame_from}
 use Rattle.tables.proofs.boxes.Halving.{small-children}
 use Rattle.tables.proofs.finds.Laws.{held, not-held, node-broken, node_over, node-tile, node-deep}
-use Rattle.tables.proofs.finds.Untold.{look_from, look-split, look_none, look-here, look-more, look-refused}
+use Rattle.tables.proofs.finds.Untold.{look-split, look_none, look-here, look-more, look-refused}
 use Rattle.tables.proofs.finds.+find_walking.Goals as goal
 
 -- what the walk is lent for bands and coefficients

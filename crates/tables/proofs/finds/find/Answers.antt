@@ -1,22 +1,18 @@
 -- `finds::find`: where lengths are told, in the loop, what is left to find is the whole. Assumes nothing.
-use Prim.Native.Nat.{ℕ, ◌-◌, ◌≤◌, ◌<◌}
+use Prim.Native.Nat.{ℕ, ◌-◌}
 use mathlib.Core.Path.{◌≡◌, refl, sym, ap, ◌∙◌}
-use mathlib.Core.Bool.{true}
 use mathlib.Core.List.{List, []}
 use native.Mathlib.Omega.{arith}
-use lib.ListN.{length}
-use borrow.Author.Rules.{rules}
 use borrow.Author.Tests.{ne_eqb}
 use Rattle.meaning.specs.declared.Found.{Found}
 use Rattle.meaning.specs.declared.Number.{Number}
 use Rattle.meaning.specs.declared.Refusal.{Refusal}
 use Rattle.meaning.specs.declared.Walk.{Walk}
-use Rattle.meaning.specs.Boxes.{Side, children}
+use Rattle.meaning.specs.Boxes.{Side}
 use Rattle.meaning.specs.Control.{find}
 use Rattle.meaning.specs.Numbers.{number_at}
 use Rattle.meaning.specs.Plants.{edge_limit}
 use Rattle.tables.specs.Boxes.{box_of, Small}
-use Rattle.tables.specs.Finds.{holds_in}
 use Rattle.tables.specs.declared.frames.Frame.{Frame}
 use Rattle.tables.specs.Frames.{frame_from, rules_in}
 use Rattle.tables.proofs.boxes.Halving.{small-children}

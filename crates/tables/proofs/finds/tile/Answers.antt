@@ -1,5 +1,4 @@
 -- `finds::tile`: what was answered for its modes. Assumes nothing.
-use borrow.Author.Rules.{rules}
 use Rattle.meaning.specs.Verdicts.{modes_at}
 use Rattle.tables.specs.Tiles.{pattern_of}
 use Rattle.tables.proofs.finds.Laws.{tile-refused, tile-found}

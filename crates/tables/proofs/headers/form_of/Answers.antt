@@ -1,6 +1,5 @@
 -- `headers::form_of` reads the header's form. Assumes nothing.
 use mathlib.Core.Path.{sym, ◌∙◌}
-use borrow.Author.Rules.{rules}
 use Rattle.tables.proofs.headers.Laws.{told_none, told-known, told-unknown}
 use Rattle.tables.proofs.headers.form_of.Goals as goal
 

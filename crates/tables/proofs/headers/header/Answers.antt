@@ -2,7 +2,6 @@
 use mathlib.Core.Path.{sym, ap, ◌∙◌}
 use Rattle.meaning.specs.declared.Walk.{Walk}
 use Rattle.tables.proofs.headers.Laws.{form-broken, form-wrong, n-broken, n-differs, n-same}
-use borrow.Author.Rules.{rules}
 use Rattle.tables.proofs.headers.header.Goals as goal
 
 pub returns-in_default : goal.returns-in_default

@@ -1,6 +1,5 @@
 -- `images::band`: the place is a usize. Assumes nothing.
 use native.Mathlib.Omega.{arith}
-use borrow.Author.Rules.{rules}
 use Rattle.tables.proofs.images.band.Goals as goal
 
 pub returns : goal.returns

@@ -1,7 +1,6 @@
 -- `images::image_side`: each edge by its sum and its division. Assumes nothing.
 use mathlib.Core.Path.{◌∙◌}
 use Prim.Native.Nat.{◌+◌}
-use borrow.Author.Rules.{rules}
 use mir.Facts.{to_z-of_z}
 use Rattle.laws.specs.Integers.{ok64}
 use Rattle.laws.specs.Lists.{at}

@@ -2,7 +2,6 @@
 use Prim.Native.Nat.{◌+◌}
 use mathlib.Core.Path.{◌≡◌, ◌∙◌}
 use lib.IntN.{ℤ, ◌+ℤ◌, ◌*ℤ◌}
-use borrow.Author.Rules.{rules}
 use Rattle.laws.specs.Lists.{at}
 use Rattle.laws.specs.Expressions.{Ex, var, ◌⊕◌, ◌⊝◌, ◌⊗◌, val, need, exact}
 use Rattle.meaning.specs.Boxes.{Side, side_at}
@@ -60,8 +59,7 @@ overflow_add-least-2 c =
     let negative : Ex = var c.negative_part-negative.result entry_limit (negative-small (val entry) gave c.requires.entry.0) in
     let positive : Ex = entry ⊝ negative in
     let least₁ : Ex = var c.args.s.lo row_limit c.requires.sums.0 ⊕ positive ⊗ low in
-    let least : Ex = least₁ ⊕ negative ⊗ high in
-    need least tt
+    need (least₁ ⊕ negative ⊗ high) tt
 
 pub overflow_mul-greatest : goal.overflow_mul-greatest
 overflow_mul-greatest c =

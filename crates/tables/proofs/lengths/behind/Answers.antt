@@ -2,7 +2,6 @@
 use Prim.Native.Nat.{ℕ}
 use mathlib.Core.Path.{◌≡◌, refl, sym, ap, ◌∙◌}
 use native.Mathlib.Omega.{arith}
-use borrow.Author.Rules.{rules}
 use Rattle.meaning.specs.declared.Walk.{Walk}
 use Rattle.tables.specs.Lengths.{behind_at}
 use Rattle.tables.proofs.lengths.Laws.{behind-none, behind-broken, behind_more}

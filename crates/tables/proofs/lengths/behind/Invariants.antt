@@ -1,11 +1,6 @@
 -- `lengths::behind`: what is left from here is the whole. Assumes nothing.
-use Prim.Native.Nat.{ℕ}
-use mathlib.Core.Path.{◌≡◌, refl, sym, ap, ◌∙◌}
-use native.Mathlib.Omega.{arith}
-use borrow.Author.Rules.{rules}
-use Rattle.meaning.specs.declared.Walk.{Walk}
+use mathlib.Core.Path.{◌≡◌}
 use Rattle.tables.specs.Lengths.{behind_at}
-use Rattle.tables.proofs.lengths.Laws.{behind-none, behind-broken, behind_more}
 use Rattle.tables.proofs.lengths.behind.Given as goal
 
 abbrev pub invariant-loop-left : goal.invariant-loop-left

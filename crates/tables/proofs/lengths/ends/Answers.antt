@@ -3,7 +3,6 @@ use Prim.Native.Nat.{ℕ, ◌+◌, ◌≤◌}
 use mathlib.Core.Path.{◌≡◌, refl, sym, ap, ◌∙◌}
 use native.Mathlib.Omega.{arith}
 use lib.ListN.{length}
-use borrow.Author.Rules.{rules}
 use Rattle.meaning.specs.declared.Walk.{Walk}
 use Rattle.tables.specs.Lengths.{ends_at}
 use Rattle.tables.proofs.lengths.Laws.{ends-none, ends-broken, ends-past, ends_more}

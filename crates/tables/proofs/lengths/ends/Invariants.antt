@@ -1,12 +1,8 @@
 -- `lengths::ends`: what is left from here is the whole. Assumes nothing.
-use Prim.Native.Nat.{ℕ, ◌+◌, ◌≤◌}
-use mathlib.Core.Path.{◌≡◌, refl, sym, ap, ◌∙◌}
-use native.Mathlib.Omega.{arith}
+use Prim.Native.Nat.{◌≤◌}
+use mathlib.Core.Path.{◌≡◌}
 use lib.ListN.{length}
-use borrow.Author.Rules.{rules}
-use Rattle.meaning.specs.declared.Walk.{Walk}
 use Rattle.tables.specs.Lengths.{ends_at}
-use Rattle.tables.proofs.lengths.Laws.{ends-none, ends-broken, ends-past, ends_more}
 use Rattle.tables.proofs.lengths.ends.Given as goal
 
 abbrev pub invariant-loop-left : goal.invariant-loop-left

@@ -1,6 +1,5 @@
 -- `lengths::held`: a length that is told is read, and held to its child. Assumes nothing.
 use mathlib.Core.Path.{sym, ap, ◌∙◌}
-use borrow.Author.Rules.{rules}
 use Rattle.meaning.specs.declared.Walk.{Walk}
 use Rattle.tables.proofs.lengths.Laws.{held-untold, held-broken, held-before, held-other, held_same}
 use Rattle.tables.proofs.lengths.held.Goals as goal

@@ -1,7 +1,6 @@
 -- `lengths::told`: each child but the last has one, in form 2. Assumes nothing.
 use mathlib.Core.Path.{refl}
 use native.Mathlib.Omega.{arith}
-use borrow.Author.Rules.{rules}
 use borrow.Author.Tests.{eq-eqb, ne_eqb}
 use Rattle.tables.proofs.lengths.told.Goals as goal
 

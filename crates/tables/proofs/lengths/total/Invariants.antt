@@ -1,14 +1,8 @@
 -- `lengths::total`: what is added so far and what is left come to the whole; k lengths below 2^35 are below k·2^35. Assumes nothing.
-use Prim.Native.Nat.{ℕ, ◌-◌, ◌*◌, ◌^◌, ◌≤◌, ◌<◌}
-use mathlib.Core.Path.{◌≡◌, refl, sym, ap, ◌∙◌}
-use native.Mathlib.Omega.{arith}
-use borrow.Author.Rules.{rules}
-use Rattle.meaning.specs.declared.Number.{Number}
-use Rattle.meaning.specs.Numbers.{number_at}
+use Prim.Native.Nat.{◌-◌, ◌*◌, ◌≤◌}
+use mathlib.Core.Path.{◌≡◌}
 use Rattle.meaning.specs.Verdicts.{lengths_at}
-use Rattle.promises.specs.Files.Numbers.{was}
 use Rattle.tables.specs.Lengths.{total_of, total_at}
-use Rattle.tables.proofs.lengths.Laws.{total-none, total-broken, total-more}
 use Rattle.tables.proofs.lengths.total.Given as goal
 
 abbrev pub invariant-loop-left : goal.invariant-loop-left

@@ -1,11 +1,11 @@
 -- `levels::begin`: the sides that are done are filled. Assumes nothing.
-use Prim.Native.Nat.{◌-◌, ◌≤◌, ◌<◌}
+use Prim.Native.Nat.{◌<◌}
 use mathlib.Core.Path.{◌≡◌, ◌∙◌}
 use native.Mathlib.Omega.{arith}
 use Rattle.meaning.specs.Boxes.{side_at}
 use Rattle.tables.proofs.boxes.Laws.{small-side}
 use Rattle.tables.proofs.limits.Laws.{edge-held}
-use Rattle.tables.proofs.levels.Laws.{FilledTo, filled_none, filled_more, filled-box}
+use Rattle.tables.proofs.levels.Laws.{filled_none, filled_more, filled-box}
 use Rattle.tables.proofs.levels.begin.Goals as goal
 
 pub loop-i-init : goal.loop-i-init

@@ -1,11 +1,7 @@
 -- `levels::begin`: the sides that are done are filled. Assumes nothing.
-use Prim.Native.Nat.{◌-◌, ◌≤◌, ◌<◌}
-use mathlib.Core.Path.{◌≡◌, ◌∙◌}
-use native.Mathlib.Omega.{arith}
+use Prim.Native.Nat.{◌-◌, ◌≤◌}
 use Rattle.meaning.specs.Boxes.{side_at}
-use Rattle.tables.proofs.boxes.Laws.{small-side}
-use Rattle.tables.proofs.limits.Laws.{edge-held}
-use Rattle.tables.proofs.levels.Laws.{FilledTo, filled_none, filled_more, filled-box}
+use Rattle.tables.proofs.levels.Laws.{FilledTo}
 use Rattle.tables.proofs.levels.begin.Given as goal
 
 abbrev pub invariant-loop-i : goal.invariant-loop-i

@@ -2,7 +2,6 @@
 use Prim.Native.Nat.{◌+◌, ◌≤◌}
 use mathlib.Core.Path.{◌≡◌, ap, ◌∙◌}
 use lib.IntN.{ℤ, nat_abs, ◌+ℤ◌}
-use borrow.Author.Rules.{rules}
 use Rattle.laws.specs.Lists.{at}
 use Rattle.laws.specs.Expressions.{Ex, var, ◌⊕◌, need, exact, under}
 use Rattle.meaning.specs.Boxes.{Side}

@@ -1,7 +1,6 @@
 -- `limits::last_offset`: the number behind the entries of the last row. Assumes nothing.
 use Prim.Native.Nat.{◌-◌}
 use native.Mathlib.Omega.{arith}
-use borrow.Author.Rules.{rules}
 use Rattle.laws.specs.Expressions.{var, exact}
 use Rattle.meaning.specs.Plants.{offset_limit, row_start}
 use Rattle.tables.specs.Images.{RowSound}

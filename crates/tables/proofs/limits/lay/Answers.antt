@@ -1,6 +1,5 @@
 -- `limits::lay`: the boxes, and the marks, each in its slice. Assumes nothing.
 use native.Mathlib.Omega.{arith}
-use borrow.Author.Rules.{rules}
 use Rattle.tables.proofs.limits.lay.Goals as goal
 
 pub lay_boxes-requires : goal.lay_boxes-requires

@@ -1,10 +1,10 @@
 -- `limits::lay_boxes`: the modes that are done are laid. Assumes nothing.
-use Prim.Native.Nat.{◌+◌, ◌-◌, ◌*◌, ◌≤◌}
-use mathlib.Core.Path.{◌≡◌, refl, ◌∙◌}
+use Prim.Native.Nat.{◌+◌, ◌*◌, ◌≤◌}
+use mathlib.Core.Path.{refl, ◌∙◌}
 use native.Mathlib.Omega.{arith}
 use lib.ListN.{length}
 use Rattle.meaning.specs.Boxes.{side_at}
-use Rattle.tables.specs.Limits.{limits_size, Laid}
+use Rattle.tables.specs.Limits.{limits_size}
 use Rattle.tables.proofs.limits.Laws.{laid_more}
 use Rattle.tables.proofs.limits.lay_boxes.Goals as goal
 

@@ -1,11 +1,9 @@
 -- `limits::lay_boxes`: the modes that are done are laid. Assumes nothing.
-use Prim.Native.Nat.{◌+◌, ◌-◌, ◌*◌, ◌≤◌}
-use mathlib.Core.Path.{◌≡◌, refl, ◌∙◌}
-use native.Mathlib.Omega.{arith}
+use Prim.Native.Nat.{◌-◌, ◌≤◌}
+use mathlib.Core.Path.{◌≡◌}
 use lib.ListN.{length}
 use Rattle.meaning.specs.Boxes.{side_at}
-use Rattle.tables.specs.Limits.{limits_size, Laid}
-use Rattle.tables.proofs.limits.Laws.{laid_more}
+use Rattle.tables.specs.Limits.{Laid}
 use Rattle.tables.proofs.limits.lay_boxes.Given as goal
 
 abbrev pub invariant-loop-u : goal.invariant-loop-u

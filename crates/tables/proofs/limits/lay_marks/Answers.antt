@@ -1,11 +1,11 @@
 -- `limits::lay_marks`: the marks and offsets that are set are those of their modes. Assumes nothing.
 use Prim.Native.Nat.{◌+◌, ◌-◌, ◌*◌, ◌≤◌}
-use mathlib.Core.Path.{◌≡◌, refl, ◌∙◌}
+use mathlib.Core.Path.{refl, ◌∙◌}
 use native.Mathlib.Omega.{arith}
 use lib.ListN.{length, length-set}
 use mir.Facts.{to_z-of_z}
 use Rattle.laws.specs.Integers.{ok64}
-use Rattle.tables.specs.Limits.{marks_size, Marked}
+use Rattle.tables.specs.Limits.{marks_size}
 use Rattle.tables.proofs.limits.Laws.{marked_more}
 use Rattle.tables.proofs.limits.lay_marks.Goals as goal
 

@@ -2,7 +2,6 @@
 use Prim.Native.Nat.{◌-◌}
 use mathlib.Core.Path.{refl}
 use native.Mathlib.Omega.{arith}
-use borrow.Author.Rules.{rules}
 use Rattle.meaning.specs.Plants.{row_start}
 use Rattle.tables.specs.Images.{RowSound}
 use Rattle.tables.proofs.limits.mark.Goals as goal

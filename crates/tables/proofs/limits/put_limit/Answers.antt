@@ -1,7 +1,6 @@
 -- `limits::put_limit`: a store leaves the length as it is. Assumes nothing.
 use native.Mathlib.Omega.{arith}
 use lib.ListN.{length-set}
-use borrow.Author.Rules.{rules}
 use Rattle.tables.proofs.limits.put_limit.Goals as goal
 
 pub bounds-limits-base-2 : goal.bounds-limits-base-2

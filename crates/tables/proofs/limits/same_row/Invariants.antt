@@ -1,14 +1,6 @@
 -- `limits::same_row`: the entries that were compared are the same. Assumes nothing.
 use Prim.Native.Nat.{ℕ, ◌-◌, ◌≤◌, ◌<◌}
-use mathlib.Core.Path.{◌≡◌, sym, ap, ◌∙◌}
-use native.Mathlib.Omega.{arith}
-use borrow.Author.Count.{below_more}
-use mir.Syntax.{w64}
-use mir.Val.{to_z}
-use Rattle.laws.specs.Expressions.{var, exact}
-use Rattle.laws.specs.Tabs.{tab-same}
-use Rattle.laws.specs.Tests.{never}
-use Rattle.meaning.specs.Plants.{entry_limit}
+use mathlib.Core.Path.{◌≡◌}
 use Rattle.tables.specs.Images.{entry_at}
 use Rattle.tables.proofs.limits.same_row.Given as goal
 

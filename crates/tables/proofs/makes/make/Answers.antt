@@ -1,6 +1,5 @@
 -- `makes::make`: arrays for few modes, or for any. Assumes nothing.
 use native.Mathlib.Omega.{arith}
-use borrow.Author.Rules.{rules}
 use Rattle.tables.proofs.arrays.Laws.{few-room}
 use Rattle.tables.proofs.makes.make.Goals as goal
 

@@ -1,5 +1,4 @@
 -- `makes::make_many`: arrays for any plant. Assumes nothing.
-use borrow.Author.Rules.{rules}
 use Rattle.tables.proofs.arrays.Laws.{any-room}
 use Rattle.tables.proofs.makes.make_many.Goals as goal
 

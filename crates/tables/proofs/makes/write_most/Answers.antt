@@ -1,5 +1,4 @@
 -- `makes::write_most`: a draft for any table. Assumes nothing.
-use borrow.Author.Rules.{rules}
 use Rattle.tables.proofs.drafts.Laws.{room_most}
 use Rattle.tables.proofs.makes.write_most.Goals as goal
 

@@ -1,6 +1,5 @@
 -- `makes::write_own`: the smallest draft that is sure to have room. Assumes nothing.
 use native.Mathlib.Omega.{arith}
-use borrow.Author.Rules.{rules}
 use Rattle.tables.proofs.drafts.Laws.{room-long, room-few}
 use Rattle.tables.proofs.makes.write_own.Goals as goal
 

@@ -1,10 +1,8 @@
 -- `modes::read_modes` reads the modes one after another. Each return cites the law of the mode that it stops at. Assumes nothing.
-use Prim.Native.Nat.{◌-◌}
 use mathlib.Core.Path.{refl, sym, ap, ◌∙◌}
 use native.Mathlib.Omega.{arith}
-use borrow.Author.Rules.{rules}
 use Rattle.meaning.specs.Files.{refused}
-use Rattle.tables.proofs.modes.Laws.{ModesUpTo, modes-none, modes-all, modes-end, modes-past, modes-next}
+use Rattle.tables.proofs.modes.Laws.{modes-none, modes-all, modes-end, modes-past, modes-next}
 use Rattle.tables.proofs.modes.read_modes.Goals as goal
 
 pub loop-i-init : goal.loop-i-init

@@ -1,10 +1,6 @@
 -- `modes::read_modes` reads the modes one after another. Each return cites the law of the mode that it stops at. Assumes nothing.
 use Prim.Native.Nat.{◌-◌}
-use mathlib.Core.Path.{refl, sym, ap, ◌∙◌}
-use native.Mathlib.Omega.{arith}
-use borrow.Author.Rules.{rules}
-use Rattle.meaning.specs.Files.{refused}
-use Rattle.tables.proofs.modes.Laws.{ModesUpTo, modes-none, modes-all, modes-end, modes-past, modes-next}
+use Rattle.tables.proofs.modes.Laws.{ModesUpTo}
 use Rattle.tables.proofs.modes.read_modes.Given as goal
 
 abbrev pub invariant-loop-i : goal.invariant-loop-i

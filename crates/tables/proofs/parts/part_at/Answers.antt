@@ -1,7 +1,6 @@
 -- `parts::part_at`: the length, and whether so many bytes stand behind it. Assumes nothing.
 use mathlib.Core.Path.{sym, ap, ◌∙◌}
 use native.Mathlib.Omega.{arith}
-use borrow.Author.Rules.{rules}
 use Rattle.tables.specs.declared.parts.Part.{Part}
 use Rattle.tables.proofs.parts.Laws.{number-within, part-broken, part-over, part-there}
 use Rattle.tables.proofs.parts.part_at.Goals as goal

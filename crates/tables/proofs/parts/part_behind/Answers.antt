@@ -2,7 +2,6 @@
 use Prim.Native.Nat.{ℕ}
 use mathlib.Core.Path.{◌≡◌, refl, sym, ap, ◌∙◌}
 use native.Mathlib.Omega.{arith}
-use borrow.Author.Rules.{rules}
 use Rattle.tables.specs.Parts.{part_behind}
 use Rattle.tables.proofs.parts.Laws.{part-within, behind-none, behind_more, behind-stopped}
 use Rattle.tables.proofs.parts.part_behind.Goals as goal

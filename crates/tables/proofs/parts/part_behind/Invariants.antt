@@ -1,10 +1,6 @@
 -- `parts::part_behind`: what is left from here is the whole. Assumes nothing.
-use Prim.Native.Nat.{ℕ}
-use mathlib.Core.Path.{◌≡◌, refl, sym, ap, ◌∙◌}
-use native.Mathlib.Omega.{arith}
-use borrow.Author.Rules.{rules}
+use mathlib.Core.Path.{◌≡◌}
 use Rattle.tables.specs.Parts.{part_behind}
-use Rattle.tables.proofs.parts.Laws.{part-within, behind-none, behind_more, behind-stopped}
 use Rattle.tables.proofs.parts.part_behind.Given as goal
 
 abbrev pub invariant-loop-left : goal.invariant-loop-left

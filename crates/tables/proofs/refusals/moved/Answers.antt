@@ -1,6 +1,5 @@
 -- `refusals::moved`: the place is moved where it is a byte's. Assumes nothing.
 use mathlib.Core.Path.{sym, ◌∙◌}
-use borrow.Author.Rules.{rules}
 use Rattle.tables.proofs.refusals.moved.Goals as goal
 
 pub overflow_add-result : goal.overflow_add-result

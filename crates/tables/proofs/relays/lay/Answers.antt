@@ -1,7 +1,6 @@
 -- `relays::lay`: the table itself, its tree in the other layout, or 2; each by its law. Assumes nothing.
 use Prim.Native.Nat.{ℕ}
 use mathlib.Core.Path.{◌≡◌, ap, ◌∙◌}
-use borrow.Author.Rules.{rules}
 use Rattle.meaning.specs.declared.Refusal.{Refusal}
 use Rattle.meaning.specs.Buffers.{Left, refused_with}
 use Rattle.tables.specs.Frames.{own_frame, formed}

@@ -1,6 +1,5 @@
 -- `relays::relay`: what the checker refuses, or the table that it accepts, which is a tree's. Assumes nothing.
 use mathlib.Core.Path.{sym, ap, ◌∙◌}
-use borrow.Author.Rules.{rules}
 use Rattle.meaning.specs.Buffers.{Left}
 use Rattle.promises.specs.Tables.Checked.{checked-exactly}
 use Rattle.tables.proofs.relays.Laws.{left-refused}

@@ -1,5 +1,4 @@
 -- `relays::turns_into`: each answer cites its law. Assumes nothing.
-use borrow.Author.Rules.{rules}
 use Rattle.tables.proofs.relays.Laws.{into_one, into-all, into-unknown}
 use Rattle.tables.proofs.relays.turns_into.Goals as goal
 

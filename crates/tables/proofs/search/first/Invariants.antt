@@ -1,20 +1,9 @@
 -- `search::first`: what is left of the path says what the length says, and what is left of the lengths says what the search says. Assumes nothing.
-use Prim.Native.Nat.{ℕ, ◌+◌, ◌-◌, ◌≤◌, ◌<◌}
-use mathlib.Core.Path.{◌≡◌, refl, sym, ◌∙◌}
-use mathlib.Core.Bool.{true, false}
-use mathlib.Core.List.{List}
-use mathlib.Core.Option.{Option, some}
-use native.Mathlib.Omega.{arith}
-use native.Mathlib.Numerals.{add-one}
-use lib.IntN.{ℤ}
-use lib.ListN.{length-set}
-use Rattle.meaning.specs.Plants.{edge_limit}
-use Rattle.tables.specs.Boxes.{box_of, Small}
+use Prim.Native.Nat.{◌-◌, ◌≤◌}
+use mathlib.Core.Path.{◌≡◌}
 use Rattle.tables.specs.Levels.{level_in}
-use Rattle.tables.specs.Search.{Moves, moves_lent, sought, sought_from, shortest_lent, Standing}
-use Rattle.tables.specs.Tiles.{longest_pattern, mode_at}
-use Rattle.tables.proofs.search.Laws.{lengths-all, lengths-done, lengths-found, lengths-next}
-use Rattle.tables.proofs.search.Paths.{standing-none, Along, turns_along, along-start, along-done, along-up, along-found, along-none, along-on, along-down}
+use Rattle.tables.specs.Search.{moves_lent, sought, sought_from, shortest_lent, Standing}
+use Rattle.tables.proofs.search.Paths.{Along, turns_along}
 use Rattle.tables.proofs.search.first.Given as goal
 
 abbrev pub invariant-loop-u : goal.invariant-loop-u

@@ -1,6 +1,5 @@
 -- `start_checks::start_check`: smaller arrays of zeros where the plant's file tells of few modes. Assumes nothing.
 use native.Mathlib.Omega.{arith}
-use borrow.Author.Rules.{rules}
 use Rattle.tables.proofs.arrays.Laws.{few-room}
 use Rattle.tables.proofs.start_checks.start_check.Goals as goal
 

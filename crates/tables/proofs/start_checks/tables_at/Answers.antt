@@ -1,8 +1,7 @@
 -- `start_checks::tables_at`: what is left from table i on is the whole. Assumes nothing.
-use Prim.Native.Nat.{ℕ, ◌+◌, ◌-◌, ◌≤◌}
+use Prim.Native.Nat.{ℕ, ◌+◌, ◌-◌}
 use mathlib.Core.Path.{◌≡◌, sym, ap, ◌∙◌, subst}
 use native.Mathlib.Omega.{arith}
-use borrow.Author.Rules.{rules}
 use Rattle.meaning.specs.declared.Verdict.{Verdict}
 use Rattle.meaning.specs.Starts.{tables_at}
 use Rattle.tables.specs.declared.frames.Frame.{Frame}
@@ -40,8 +39,7 @@ loop-i-smaller c = omega arith
 pub loop-i-preserved : goal.loop-i-preserved
 loop-i-preserved c =
     let told : (let a = c.args in c.table_at.result ≡ table_at (rules_at a.f a.edges.now a.bands.now a.coef.now c.loop-i.i) a.start.now c.loop-i.place) = let a = c.args in c.table_at.ensures ∙ ap (λ (g : Frame). table_at (rules_by g a.bands.now a.coef.now) a.start.now c.loop-i.place) c.frame_at.ensures in
-    let a = c.args in
-    (
+    let a = c.args in (
       omega arith,
       tables_more (rules_at a.f a.edges.now a.bands.now a.coef.now) a.start.now a.m c.loop-i.i c.loop-i.place (omega arith) c.table_at.result told c.in-Next.next c.in-Next.is ∙ c.loop-i.invariant.1,
     )

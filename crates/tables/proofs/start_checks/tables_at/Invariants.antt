@@ -1,14 +1,8 @@
 -- `start_checks::tables_at`: what is left from table i on is the whole. Assumes nothing.
-use Prim.Native.Nat.{ℕ, ◌+◌, ◌-◌, ◌≤◌}
-use mathlib.Core.Path.{◌≡◌, sym, ap, ◌∙◌, subst}
-use native.Mathlib.Omega.{arith}
-use borrow.Author.Rules.{rules}
-use Rattle.meaning.specs.declared.Verdict.{Verdict}
+use Prim.Native.Nat.{◌+◌, ◌-◌, ◌≤◌}
+use mathlib.Core.Path.{◌≡◌}
 use Rattle.meaning.specs.Starts.{tables_at}
-use Rattle.tables.specs.declared.frames.Frame.{Frame}
-use Rattle.tables.specs.Frames.{rules_by, PlantSound}
-use Rattle.tables.specs.StartChecks.{rules_at, table_at}
-use Rattle.tables.proofs.start_checks.Laws.{tables-ended, tables-over, tables-stopped, tables_more}
+use Rattle.tables.specs.StartChecks.{rules_at}
 use Rattle.tables.proofs.start_checks.tables_at.Given as goal
 
 abbrev pub invariant-loop-i : goal.invariant-loop-i

@@ -4,7 +4,6 @@ use mathlib.Core.List.{List}
 use native.Mathlib.Omega.{arith}
 use lib.Dec.{eqb}
 use lib.IntN.{ℤ}
-use borrow.Author.Rules.{rules}
 use Rattle.meaning.specs.Boxes.{Side}
 use Rattle.tables.specs.Boxes.{box_of}
 use Rattle.tables.specs.Chains.{values_in}

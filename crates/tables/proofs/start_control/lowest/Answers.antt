@@ -1,10 +1,7 @@
 -- `start_control::lowest`: the boxes before i do not hold the reading. Assumes nothing.
-use Prim.Native.Nat.{◌+◌, ◌-◌}
+use Prim.Native.Nat.{◌+◌}
 use native.Mathlib.Omega.{arith}
-use Rattle.laws.specs.Tests.{HoldUpTo, hold-none, hold-more, first-here, first-none}
-use Rattle.tables.specs.Boxes.{box_of}
-use Rattle.tables.specs.Chains.{values_in}
-use Rattle.tables.specs.StartControl.{misses_at}
+use Rattle.laws.specs.Tests.{hold-none, hold-more, first-here, first-none}
 use Rattle.tables.proofs.start_control.Laws.{box-stops, box-passed}
 use Rattle.tables.proofs.start_control.lowest.Goals as goal
 

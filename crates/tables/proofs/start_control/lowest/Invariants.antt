@@ -1,11 +1,9 @@
 -- `start_control::lowest`: the boxes before i do not hold the reading. Assumes nothing.
 use Prim.Native.Nat.{◌+◌, ◌-◌}
-use native.Mathlib.Omega.{arith}
-use Rattle.laws.specs.Tests.{HoldUpTo, hold-none, hold-more, first-here, first-none}
+use Rattle.laws.specs.Tests.{HoldUpTo}
 use Rattle.tables.specs.Boxes.{box_of}
 use Rattle.tables.specs.Chains.{values_in}
 use Rattle.tables.specs.StartControl.{misses_at}
-use Rattle.tables.proofs.start_control.Laws.{box-stops, box-passed}
 use Rattle.tables.proofs.start_control.lowest.Given as goal
 
 abbrev pub invariant-loop-i : goal.invariant-loop-i

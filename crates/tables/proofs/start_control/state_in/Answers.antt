@@ -1,6 +1,5 @@
 -- `start_control::state_in`: idle behind the last mode. Assumes nothing.
 use mathlib.Core.Path.{sym, ◌∙◌}
-use borrow.Author.Rules.{rules}
 use Rattle.tables.proofs.start_control.Laws.{kept-none, kept-index}
 use Rattle.tables.proofs.start_control.state_in.Goals as goal
 

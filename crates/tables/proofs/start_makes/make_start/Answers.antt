@@ -4,7 +4,6 @@ use mathlib.Core.Path.{◌≡◌, sym, ap, ◌∙◌, subst}
 use mathlib.Core.Bool.{true}
 use mathlib.Core.List.{List}
 use lib.IntN.{ℤ}
-use borrow.Author.Rules.{rules}
 use Rattle.meaning.specs.declared.Refusal.{Refusal}
 use Rattle.meaning.specs.declared.Verdict.{Verdict}
 use Rattle.meaning.specs.Buffers.{Left, refused_with, left}
@@ -28,7 +27,7 @@ write_start_own-requires c =
     let form : ℕ = c.args.form in
     let boxes : ChainRead = c.read_chain-read.result in
     let taken : (h : boxes.verdict ≡ Verdict.Accepted) → Chained true frame chain boxes = λ h. chain-taken true frame chain boxes c.read_chain-read.ensures h in
-    let sound : (h : boxes.verdict ≡ Verdict.Accepted) → (k : known_form form ≡ true) → (boxes.m ≤ most_above) × FramesSound (formed frame form) bands coef boxes.edges boxes.m = λ h. λ k. ( chain-few true frame chain boxes c.read_chain-read.ensures (taken h), λ i l. ( formed-sound (frame_at frame boxes.edges i) form k (frame-sound true frame chain boxes c.read_chain-read.ensures (taken h) c.requires.frame.0 c.requires.root i l), c.requires.frame.1, ), ) in
+    let sound : (h : boxes.verdict ≡ Verdict.Accepted) → (k : known_form form ≡ true) → (boxes.m ≤ most_above) × FramesSound (formed frame form) bands coef boxes.edges boxes.m = λ h. λ k. (chain-few true frame chain boxes c.read_chain-read.ensures (taken h), λ i l. (formed-sound (frame_at frame boxes.edges i) form k (frame-sound true frame chain boxes c.read_chain-read.ensures (taken h) c.requires.frame.0 c.requires.root i l), c.requires.frame.1)) in
     let accepted : (boxes).verdict ≡ Verdict.Accepted = c.in-Accepted.is in
     let known : known_form form ≡ true = sym c.known.ensures ∙ c.if-known.true in
     subst (λ (f : Frame). (boxes.m ≤ most_above) × FramesSound f bands coef boxes.edges boxes.m) (sym c.formed-own.ensures) (sound accepted known)

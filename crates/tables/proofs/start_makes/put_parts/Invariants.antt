@@ -1,20 +1,10 @@
 -- `start_makes::put_parts`: whoever writes the tables that are left has written them all. Assumes nothing.
-use Prim.Native.Nat.{ℕ, ◌+◌, ◌-◌, ◌≤◌}
-use mathlib.Core.Path.{◌≡◌, refl, sym, ◌∙◌, subst}
-use mathlib.Core.List.{List}
-use native.Mathlib.Omega.{arith}
+use Prim.Native.Nat.{◌+◌, ◌-◌, ◌≤◌}
+use mathlib.Core.Path.{◌≡◌}
 use lib.ListN.{length}
-use borrow.Author.Rules.{rules}
-use Rattle.meaning.specs.declared.Refusal.{Refusal}
-use Rattle.meaning.specs.declared.Walk.{Walk}
-use Rattle.meaning.specs.Refusals.{no_table}
 use Rattle.meaning.specs.Starts.{tables_from}
-use Rattle.tables.specs.declared.drafts.Grown.{Grown}
-use Rattle.tables.specs.declared.frames.Frame.{Frame}
-use Rattle.tables.specs.Drafts.{Wrote, bytes_most}
-use Rattle.tables.specs.Frames.{rules_in, PlantSound}
-use Rattle.tables.specs.StartMakes.{part_bytes, WroteParts, frames_rules, frames_tables}
-use Rattle.tables.proofs.start_makes.Laws.{Going, parts-begin, parts-done, parts-stopped, parts_more}
+use Rattle.tables.specs.StartMakes.{frames_rules, frames_tables}
+use Rattle.tables.proofs.start_makes.Laws.{Going}
 use Rattle.tables.proofs.start_makes.put_parts.Given as goal
 
 abbrev pub invariant-loop-i : goal.invariant-loop-i

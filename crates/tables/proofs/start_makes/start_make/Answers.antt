@@ -1,6 +1,5 @@
 -- `start_makes::start_make`: smaller arrays of zeros where the plant's file tells of few modes. Assumes nothing.
 use native.Mathlib.Omega.{arith}
-use borrow.Author.Rules.{rules}
 use Rattle.tables.proofs.arrays.Laws.{few-room}
 use Rattle.tables.proofs.start_makes.start_make.Goals as goal
 

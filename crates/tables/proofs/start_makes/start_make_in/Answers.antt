@@ -5,7 +5,6 @@ use mathlib.Core.Path.{◌≡◌, sym, ap, ◌∙◌, subst}
 use mathlib.Core.Bool.{true}
 use mathlib.Core.List.{List}
 use lib.IntN.{ℤ}
-use borrow.Author.Rules.{rules}
 use Rattle.meaning.specs.Boxes.{within}
 use Rattle.meaning.specs.Buffers.{Left}
 use Rattle.meaning.specs.Plants.{Plant, plant_judged}

@@ -1,5 +1,4 @@
 -- `start_makes::start_make_many`: arrays of zeros, with room for any plant. Assumes nothing.
-use borrow.Author.Rules.{rules}
 use Rattle.tables.proofs.arrays.Laws.{any-room}
 use Rattle.tables.proofs.start_makes.start_make_many.Goals as goal
 

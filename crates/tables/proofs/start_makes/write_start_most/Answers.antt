@@ -1,6 +1,5 @@
 -- `start_makes::write_start_most`: the draft has room for any table. Assumes nothing.
 use native.Mathlib.Omega.{arith}
-use borrow.Author.Rules.{rules}
 use Rattle.tables.proofs.drafts.Laws.{room_most}
 use Rattle.tables.proofs.start_makes.write_start_most.Goals as goal
 

@@ -1,6 +1,5 @@
 -- `start_makes::write_start_own`: the smallest draft that is sure to have room for each table, for R0's and so for all. Assumes nothing.
 use native.Mathlib.Omega.{arith}
-use borrow.Author.Rules.{rules}
 use Rattle.tables.specs.Chains.{frame_at}
 use Rattle.tables.specs.Frames.{FrameSound}
 use Rattle.tables.proofs.drafts.Laws.{room-long, room-few}

@@ -1,7 +1,6 @@
 -- `states::answer`: with none left, one, and more. Assumes nothing.
 use Prim.Native.Nat.{ℕ}
 use mathlib.Core.Path.{◌≡◌, sym, ap, ◌∙◌}
-use borrow.Author.Rules.{rules}
 use Rattle.meaning.specs.declared.Answer.{Answer}
 use Rattle.meaning.specs.declared.Number.{Number}
 use Rattle.meaning.specs.Numbers.{number_at}

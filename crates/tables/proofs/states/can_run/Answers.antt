@@ -2,7 +2,6 @@
 use Prim.Native.Nat.{ℕ}
 use mathlib.Core.Path.{◌≡◌}
 use mathlib.Core.List.{List}
-use borrow.Author.Rules.{rules}
 use Rattle.meaning.specs.Verdicts.{modes_at}
 use Rattle.tables.specs.Modes.{told}
 use Rattle.tables.specs.Tiles.{pattern_of}

@@ -1,5 +1,5 @@
 -- `steps::divide`: the sides that are done are filled with the sums divided. Assumes nothing.
-use Prim.Native.Nat.{ℕ, ◌+◌, ◌-◌, ◌≤◌, ◌<◌}
+use Prim.Native.Nat.{ℕ, ◌+◌, ◌<◌}
 use mathlib.Core.Path.{◌≡◌, ap, ◌∙◌}
 use native.Mathlib.Omega.{arith}
 use lib.ListN.{length}
@@ -11,9 +11,9 @@ use Rattle.meaning.specs.Boxes.{Side, side_at}
 use Rattle.meaning.specs.Plants.{band_limit, band_start}
 use Rattle.promises.specs.Files.Sound.{Bounded}
 use Rattle.tables.specs.Images.{sum_limit, BandSound}
-use Rattle.tables.specs.Limits.{add_limit, divided, divided_in}
+use Rattle.tables.specs.Limits.{add_limit, divided}
 use Rattle.tables.proofs.images.Laws.{band_here, band-here, band-small, band-inside}
-use Rattle.tables.proofs.levels.Laws.{FilledTo, filled_none, filled_more, filled-box}
+use Rattle.tables.proofs.levels.Laws.{filled_none, filled_more, filled-box}
 use Rattle.tables.proofs.steps.divide.Goals as goal
 
 pub loop-i-init : goal.loop-i-init

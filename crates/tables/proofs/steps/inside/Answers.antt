@@ -1,6 +1,5 @@
 -- `steps::inside`: two orders. Assumes nothing.
 use Prim.Native.Nat.{◌+◌}
-use borrow.Author.Rules.{rules}
 use mir.Facts.{to_z-of_z}
 use Rattle.laws.specs.Integers.{ok64}
 use Rattle.laws.specs.Lists.{at}

@@ -1,5 +1,5 @@
 -- `steps::last`: the modes that are left say what all of them say, and the extremes are those of the mode before. Assumes nothing.
-use Prim.Native.Nat.{ℕ, ◌+◌, ◌-◌, ◌≤◌}
+use Prim.Native.Nat.{ℕ, ◌+◌, ◌-◌}
 use mathlib.Core.Path.{◌≡◌, sym, ap, ◌∙◌}
 use mathlib.Core.Bool.{Bool}
 use mathlib.Core.List.{List, []}
@@ -9,9 +9,8 @@ use native.Mathlib.Nat.{sub-zero}
 use borrow.Author.Tests.{lt-ltb, le-ltb}
 use Rattle.laws.specs.Guards.{guard}
 use Rattle.meaning.specs.Defined.{first_mode}
-use Rattle.tables.specs.Images.{Extremes}
 use Rattle.tables.specs.Levels.{box_in}
-use Rattle.tables.specs.Limits.{landing, last_entries}
+use Rattle.tables.specs.Limits.{landing}
 use Rattle.tables.specs.Search.{picked}
 use Rattle.tables.proofs.search.Laws.{modes-over, modes-hit, modes-miss}
 use Rattle.tables.proofs.steps.last.Goals as goal
@@ -42,8 +41,11 @@ pub returns-then-lands : goal.returns-then-lands
 returns-then-lands c =
     let try : ℕ → Option (List ℕ) = let a = c.args in landing a.n a.coef.now a.limits.now (box_in a.n a.boxes.now a.place) in
     let u = c.loop-u.u in
-    let h = c.loop-u-test.true in record { first = ap (λ (b : Bool). picked b u) (lt-ltb u c.args.count h)
-          ∙ sym (modes-hit try c.args.count u h [] (ap behind (sym c.lands.ensures ∙ c.if-lands.true))) ∙ c.loop-u.invariant.2; size = omega arith }
+    let h = c.loop-u-test.true in record {
+      first = ap (λ (b : Bool). picked b u) (lt-ltb u c.args.count h)
+          ∙ sym (modes-hit try c.args.count u h [] (ap behind (sym c.lands.ensures ∙ c.if-lands.true))) ∙ c.loop-u.invariant.2;
+      size = omega arith;
+    }
 
 pub overflow_add-u : goal.overflow_add-u
 overflow_add-u c = let h = c.loop-u-test.true in omega arith

@@ -1,19 +1,10 @@
 -- `steps::last`: the modes that are left say what all of them say, and the extremes are those of the mode before. Assumes nothing.
-use Prim.Native.Nat.{ℕ, ◌+◌, ◌-◌, ◌≤◌}
-use mathlib.Core.Path.{◌≡◌, sym, ap, ◌∙◌}
-use mathlib.Core.Bool.{Bool}
-use mathlib.Core.List.{List, []}
-use mathlib.Core.Option.{Option, none, some}
-use native.Mathlib.Omega.{arith}
-use native.Mathlib.Nat.{sub-zero}
-use borrow.Author.Tests.{lt-ltb, le-ltb}
-use Rattle.laws.specs.Guards.{guard}
+use Prim.Native.Nat.{◌-◌, ◌≤◌}
+use mathlib.Core.Path.{◌≡◌}
 use Rattle.meaning.specs.Defined.{first_mode}
 use Rattle.tables.specs.Images.{Extremes}
 use Rattle.tables.specs.Levels.{box_in}
 use Rattle.tables.specs.Limits.{landing, last_entries}
-use Rattle.tables.specs.Search.{picked}
-use Rattle.tables.proofs.search.Laws.{modes-over, modes-hit, modes-miss}
 use Rattle.tables.proofs.steps.last.Given as goal
 
 abbrev pub invariant-loop-u : goal.invariant-loop-u

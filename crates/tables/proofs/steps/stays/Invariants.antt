@@ -1,19 +1,12 @@
 -- `steps::stays`: the first i rows hold, and their sums are stored. Assumes nothing.
-use Prim.Native.Nat.{ℕ, ◌-◌, ◌<◌}
-use mathlib.Core.Path.{◌≡◌, refl, sym, ap, ◌∙◌}
-use mathlib.Core.Bool.{Bool}
-use native.Mathlib.Omega.{arith}
-use lib.ListN.{length, length-set}
+use Prim.Native.Nat.{◌-◌}
+use mathlib.Core.Path.{◌≡◌}
+use lib.ListN.{length}
 use Rattle.laws.specs.Lists.{tab}
-use Rattle.laws.specs.Expressions.{Ex, var, mach, exact, under}
-use Rattle.laws.specs.Tests.{never, HoldUpTo, hold-none, hold-more, fails-here, all_hold}
-use Rattle.meaning.specs.Boxes.{Side, side_at, covers}
-use Rattle.meaning.specs.Plants.{row_start}
-use Rattle.tables.specs.Images.{RowSound}
-use Rattle.tables.specs.Levels.{side_in, box_in}
+use Rattle.laws.specs.Tests.{HoldUpTo}
+use Rattle.meaning.specs.Boxes.{side_at}
+use Rattle.tables.specs.Levels.{box_in}
 use Rattle.tables.specs.Limits.{add_limit, sums_at, covered_at, Within}
-use Rattle.tables.proofs.images.Laws.{image-more, image-done}
-use Rattle.tables.proofs.steps.Laws.{within_none, within_more}
 use Rattle.tables.proofs.steps.stays.Given as goal
 
 abbrev pub invariant-loop-i : goal.invariant-loop-i

@@ -2,7 +2,6 @@
 use Prim.Native.Nat.{◌+◌}
 use mathlib.Core.Path.{refl, sym, ap, ◌∙◌}
 use native.Mathlib.Omega.{arith}
-use borrow.Author.Rules.{rules}
 use Rattle.laws.specs.Tabs.{tab-same}
 use Rattle.laws.specs.Tests.{never}
 use Rattle.meaning.specs.Boxes.{Side, side_at}
@@ -28,9 +27,14 @@ returns-then-stays c =
     let box = box_in a.n a.boxes.now a.place in
     let slo = c.stays.new.slo in
     let shi = c.stays.new.shi in
-    let sums = c.stays.ensures.sums t in record { stays = sym t ∙ c.stays.ensures.stays; image = λ e. c.divide.ensures.sides
-            ∙ tab-same (divided_in a.n a.q a.bands.now a.u slo shi) (divided_at a.n a.q a.bands.now a.coef.now a.u box) a.n 0
-            (λ i l h. ap (λ (z : Side). divided a.q (band_side a.n a.bands.now a.u i) z) (tab-entry (side_at slo shi) (sums_at a.n a.coef.now a.u box) a.n i sums (omega arith))); beside = c.divide.ensures.beside; untouched = λ e. never (sym e) }
+    let sums = c.stays.ensures.sums t in record {
+      stays = sym t ∙ c.stays.ensures.stays;
+      image = λ e. c.divide.ensures.sides
+          ∙ tab-same (divided_in a.n a.q a.bands.now a.u slo shi) (divided_at a.n a.q a.bands.now a.coef.now a.u box) a.n 0
+          (λ i l h. ap (λ (z : Side). divided a.q (band_side a.n a.bands.now a.u i) z) (tab-entry (side_at slo shi) (sums_at a.n a.coef.now a.u box) a.n i sums (omega arith)));
+      beside = c.divide.ensures.beside;
+      untouched = λ e. never (sym e);
+    }
 
 pub returns : goal.returns
 returns c =

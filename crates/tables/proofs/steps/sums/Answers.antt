@@ -1,6 +1,5 @@
 -- `steps::sums`: the extremes of a row, and its offset added to each. Assumes nothing.
 use Prim.Native.Nat.{◌+◌}
-use borrow.Author.Rules.{rules}
 use Rattle.laws.specs.Lists.{at}
 use Rattle.laws.specs.Expressions.{Ex, var, ◌⊕◌, need, exact, under}
 use Rattle.meaning.specs.Plants.{offset_limit}

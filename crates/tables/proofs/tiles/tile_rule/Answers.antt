@@ -1,22 +1,19 @@
 -- `tiles::tile_rule`: the rule from the present box on, over the modes that are left, is the whole. Assumes nothing.
 use mathlib.Core.Path.{◌≡◌, refl, sym, ap, ◌∙◌}
 use mathlib.Core.List.{List}
-use Prim.Native.Nat.{ℕ, ◌≤◌, ◌<◌, ◌-◌}
+use Prim.Native.Nat.{ℕ, ◌<◌}
 use native.Mathlib.Omega.{arith}
-use borrow.Author.Rules.{rules}
 use lib.IntN.{ℤ}
-use Rattle.laws.specs.Lists.{tab}
 use Rattle.laws.specs.Tabs.{tab-all}
 use Rattle.meaning.specs.declared.Tried.TheVariants.{Misses}
 use Rattle.meaning.specs.Boxes.{Side}
-use Rattle.meaning.specs.Plants.{edge_limit}
-use Rattle.meaning.specs.Rules.{Rules, rule, rule_from}
+use Rattle.meaning.specs.Rules.{Rules}
 use Rattle.tables.specs.declared.boxes.Bx.{Bx}
 use Rattle.tables.specs.declared.frames.Frame.{Frame}
-use Rattle.tables.specs.Boxes.{box_of, Small}
+use Rattle.tables.specs.Boxes.{box_of}
 use Rattle.tables.specs.Images.{StepSound}
 use Rattle.tables.specs.Frames.{frame_from, rules_in}
-use Rattle.tables.specs.Tiles.{mode_at, pattern_of}
+use Rattle.tables.specs.Tiles.{mode_at}
 use Rattle.tables.proofs.frames.Laws.{step-in}
 use Rattle.tables.proofs.tiles.Laws.{rule-works, rule-misses, tile-leaves, tile-more, tile-small}
 use Rattle.tables.proofs.tiles.tile_rule.Goals as goal
@@ -42,10 +39,10 @@ image-c-requires c =
     (sound l.i c.loop-i-test.true, l.invariant.1)
 
 pub within-requires : goal.within-requires
-within-requires c =  c.requires.plant.0.0.rooms
+within-requires c = c.requires.plant.0.0.rooms
 
 pub overflow_add-i : goal.overflow_add-i
-overflow_add-i c =  let h = c.loop-i-test.true in let k = c.requires.pattern.longest in omega arith
+overflow_add-i c = let h = c.loop-i-test.true in let k = c.requires.pattern.longest in omega arith
 
 pub loop-i-smaller : goal.loop-i-smaller
 loop-i-smaller c = let h = c.loop-i-test.true in omega arith
@@ -66,7 +63,7 @@ loop-i-preserved c =
     )
 
 pub overflow_add-result : goal.overflow_add-result
-overflow_add-result c =  let h = c.loop-i-test.true in let k = c.requires.pattern.longest in omega arith
+overflow_add-result c = let h = c.loop-i-test.true in let k = c.requires.pattern.longest in omega arith
 
 pub returns-else-within : goal.returns-else-within
 returns-else-within c =
@@ -80,7 +77,7 @@ returns-else-within c =
     sym (tile-leaves frame bands coef modes c.args.k l.i (box l.c) (box c.image-c.result) c.loop-i-test.true c.image-c.ensures e) ∙ l.invariant.2
 
 pub within-requires-2 : goal.within-requires-2
-within-requires-2 c =  c.requires.plant.0.0.rooms
+within-requires-2 c = c.requires.plant.0.0.rooms
 
 pub returns-then-within-2 : goal.returns-then-within-2
 returns-then-within-2 c =

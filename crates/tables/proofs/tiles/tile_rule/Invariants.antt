@@ -1,24 +1,12 @@
 -- `tiles::tile_rule`: the rule from the present box on, over the modes that are left, is the whole. Assumes nothing.
-use mathlib.Core.Path.{◌≡◌, refl, sym, ap, ◌∙◌}
-use mathlib.Core.List.{List}
-use Prim.Native.Nat.{ℕ, ◌≤◌, ◌<◌, ◌-◌}
-use native.Mathlib.Omega.{arith}
-use borrow.Author.Rules.{rules}
-use lib.IntN.{ℤ}
+use mathlib.Core.Path.{◌≡◌}
+use Prim.Native.Nat.{◌≤◌, ◌-◌}
 use Rattle.laws.specs.Lists.{tab}
-use Rattle.laws.specs.Tabs.{tab-all}
-use Rattle.meaning.specs.declared.Tried.TheVariants.{Misses}
-use Rattle.meaning.specs.Boxes.{Side}
 use Rattle.meaning.specs.Plants.{edge_limit}
-use Rattle.meaning.specs.Rules.{Rules, rule, rule_from}
-use Rattle.tables.specs.declared.boxes.Bx.{Bx}
-use Rattle.tables.specs.declared.frames.Frame.{Frame}
+use Rattle.meaning.specs.Rules.{rule, rule_from}
 use Rattle.tables.specs.Boxes.{box_of, Small}
-use Rattle.tables.specs.Images.{StepSound}
 use Rattle.tables.specs.Frames.{frame_from, rules_in}
 use Rattle.tables.specs.Tiles.{mode_at, pattern_of}
-use Rattle.tables.proofs.frames.Laws.{step-in}
-use Rattle.tables.proofs.tiles.Laws.{rule-works, rule-misses, tile-leaves, tile-more, tile-small}
 use Rattle.tables.proofs.tiles.tile_rule.Given as goal
 
 abbrev pub invariant-loop-i : goal.invariant-loop-i

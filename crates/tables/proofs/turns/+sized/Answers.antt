@@ -1,11 +1,10 @@
 use Prim.Native.Nat.{ℕ, ◌+◌, ◌-◌, ◌≤◌, ◌<◌}
-use mathlib.Core.Path.{◌≡◌, refl, sym, ap, ◌∙◌}
+use mathlib.Core.Path.{◌≡◌, sym, ap, ◌∙◌}
 use mathlib.Core.Bool.{true, false}
-use mathlib.Core.List.{List, []}
+use mathlib.Core.List.{List}
 use native.Mathlib.Omega.{arith}
 use lib.Dec.{ltb}
 use lib.ListN.{length}
-use borrow.Author.Rules.{rules}
 use Rattle.meaning.specs.declared.Number.{Number}
 use Rattle.meaning.specs.Boxes.{Side}
 use Rattle.meaning.specs.Numbers.{number_at}
@@ -62,14 +61,13 @@ loop-c-init t c =
     let kids : List (List Side) = children_by c.args.f.form box in
     let Lies : Tree → ℕ → Type 0 = TreeLies c.args.f false bytes c.args.d box c.args.at in
     let number_is : number_at bytes c.args.at ≡ Number.Value c.in-Value.k c.in-Value.next = sym c.number.ensures ∙ c.in-Value.is in
-    let the-split : (u : Tree) (m : ℕ) (l : Lies u m) → c.in-Value.k ≤ 0 → WasSplit c.args.f false bytes c.args.d box c.args.at c.requires.0 c.in-Value.k c.in-Value.next u m l = λ u. λ m. λ l. λ h. was-split c.args.f false bytes c.args.d box c.args.at c.requires.0 c.in-Value.k c.in-Value.next number_is u m l h in
-    (
-  omega arith,
-  λ u m l.
-      let w = the-split u m l c.if-k-gt0.false in
-      let short = rw w.is at l.short in
-      rw w.is (sizing-none c.args.f bytes (c.args.d - 1) kids c.in-Value.next w.first m w.trees w.lie short),
-)
+    let the-split : (u : Tree) (m : ℕ) (l : Lies u m) → c.in-Value.k ≤ 0 → WasSplit c.args.f false bytes c.args.d box c.args.at c.requires.0 c.in-Value.k c.in-Value.next u m l = λ u. λ m. λ l. λ h. was-split c.args.f false bytes c.args.d box c.args.at c.requires.0 c.in-Value.k c.in-Value.next number_is u m l h in (
+      omega arith,
+      λ u m l.
+          let w = the-split u m l c.if-k-gt0.false in
+          let short = rw w.is at l.short in
+          rw w.is (sizing-none c.args.f bytes (c.args.d - 1) kids c.in-Value.next w.first m w.trees w.lie short),
+    )
 
 pub child-child-requires : goal.child-child-requires
 child-child-requires t c =

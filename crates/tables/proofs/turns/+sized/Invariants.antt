@@ -1,21 +1,10 @@
-use Prim.Native.Nat.{ℕ, ◌+◌, ◌-◌, ◌≤◌, ◌<◌}
-use mathlib.Core.Path.{◌≡◌, refl, sym, ap, ◌∙◌}
-use mathlib.Core.Bool.{true, false}
-use mathlib.Core.List.{List, []}
-use native.Mathlib.Omega.{arith}
-use lib.Dec.{ltb}
-use lib.ListN.{length}
-use borrow.Author.Rules.{rules}
-use Rattle.meaning.specs.declared.Number.{Number}
-use Rattle.meaning.specs.Boxes.{Side}
-use Rattle.meaning.specs.Numbers.{number_at}
-use Rattle.meaning.specs.Plants.{edge_limit}
+use Prim.Native.Nat.{ℕ, ◌-◌, ◌≤◌}
+use mathlib.Core.Bool.{false}
 use Rattle.meaning.specs.Tables.{children_by}
 use Rattle.meaning.specs.Trees.{Tree}
 use Rattle.tables.specs.Boxes.{box_of}
-use Rattle.tables.specs.Turns.{most_tree, TreeLies, length_if}
-use Rattle.tables.proofs.boxes.Halving.{small-children}
-use Rattle.tables.proofs.turns.Laws.{WasTile, WasSplit, lies-read, was-tile, was-split, next-tree, Sizing, sizing-none, sizing-more, sizing-done}
+use Rattle.tables.specs.Turns.{TreeLies}
+use Rattle.tables.proofs.turns.Laws.{Sizing}
 use Rattle.tables.proofs.turns.+sized.Given as goal
 
 abbrev pub invariant-loop-c : goal.invariant-loop-c

@@ -1,18 +1,17 @@
 -- `turns::turn`, which calls itself with less depth: a tile is copied; of a split the 0, the lengths, and in the loop its trees. Assumes nothing.
 use Prim.Native.Nat.{ℕ, ◌+◌, ◌-◌, ◌≤◌, ◌<◌}
-use mathlib.Core.Path.{◌≡◌, refl, sym, ap, ◌∙◌}
-use mathlib.Core.Bool.{Bool, not}
-use mathlib.Core.List.{List, []}
+use mathlib.Core.Path.{◌≡◌, sym, ◌∙◌}
+use mathlib.Core.Bool.{not}
+use mathlib.Core.List.{List}
 use native.Mathlib.Omega.{arith}
 use lib.ListN.{length, take, drop}
-use borrow.Author.Rules.{rules}
 use Rattle.laws.specs.Writing.{Put, put-length}
 use Rattle.meaning.specs.declared.Number.{Number}
 use Rattle.meaning.specs.Boxes.{Side}
-use Rattle.meaning.specs.Numbers.{number_at, bytes_of}
+use Rattle.meaning.specs.Numbers.{number_at}
 use Rattle.meaning.specs.Plants.{edge_limit}
 use Rattle.meaning.specs.Tables.{children_by}
-use Rattle.meaning.specs.Trees.{Tree, Forest, layout, layouts}
+use Rattle.meaning.specs.Trees.{Tree, Forest, layout}
 use Rattle.promises.specs.Tables.SplitLengths.{told_bytes}
 use Rattle.tables.specs.Boxes.{box_of}
 use Rattle.tables.specs.Turns.{TreeLies, SplitLies}

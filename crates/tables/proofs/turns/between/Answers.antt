@@ -1,11 +1,9 @@
 -- `turns::between`: lengths that are told are passed over, and others are written. Assumes nothing.
-use Prim.Native.Nat.{ℕ, ◌+◌}
-use mathlib.Core.Path.{◌≡◌, sym, subst, ◌∙◌}
+use Prim.Native.Nat.{ℕ}
+use mathlib.Core.Path.{◌≡◌, sym, subst}
 use mathlib.Core.Bool.{Bool, true, false}
 use mathlib.Core.List.{List}
 use native.Mathlib.Omega.{arith}
-use borrow.Author.Rules.{rules}
-use lib.ListN.{length}
 use Rattle.laws.specs.Writing.{put-none}
 use Rattle.meaning.specs.Boxes.{Side}
 use Rattle.meaning.specs.Tables.{children_by}

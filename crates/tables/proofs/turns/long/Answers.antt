@@ -2,12 +2,10 @@
 use mathlib.Core.Path.{◌≡◌, refl}
 use mathlib.Core.Bool.{true}
 use native.Mathlib.Omega.{arith}
-use borrow.Author.Rules.{rules}
 use lib.ListN.{length}
 use Rattle.meaning.specs.Numbers.{bytes_of, groups_of}
 use Rattle.promises.specs.Files.Bytes.{bytes-grow}
 use Rattle.tables.specs.Turns.{most_tree}
-use Rattle.tables.proofs.turns.long.Lts as lts
 use Rattle.tables.proofs.turns.long.Goals as goal
 
 three : length (bytes_of most_tree) ≡ 3

@@ -1,9 +1,7 @@
 -- `turns::passed`: the place that the lengths' reader gives. Assumes nothing.
 use mathlib.Core.Path.{◌≡◌, sym, ◌∙◌}
-use borrow.Author.Rules.{rules}
 use Rattle.laws.specs.Tests.{never}
 use Rattle.meaning.specs.declared.Walk.{Walk}
-use Rattle.tables.proofs.turns.passed.Lts as lts
 use Rattle.tables.proofs.turns.passed.Goals as goal
 
 -- src/turns.rt:39:1

@@ -1,6 +1,5 @@
 -- `turns::put_table`: form, n, then the tree, by the frame's counts. Assumes nothing.
 use mathlib.Core.Bool.{not}
-use borrow.Author.Rules.{rules}
 use Rattle.laws.specs.Writing.{Put, put-append}
 use Rattle.meaning.specs.Trees.{layout}
 use Rattle.tables.proofs.turns.put_table.Goals as goal

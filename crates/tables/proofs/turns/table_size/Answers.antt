@@ -5,7 +5,6 @@ use mathlib.Core.Bool.{true, false}
 use mathlib.Core.List.{◌++◌}
 use native.Mathlib.Omega.{arith}
 use lib.ListN.{length, length-append}
-use borrow.Author.Rules.{rules}
 use Rattle.meaning.specs.Numbers.{bytes_of}
 use Rattle.meaning.specs.Trees.{Tree, layout}
 use Rattle.promises.specs.Files.Bytes.{one_byte}

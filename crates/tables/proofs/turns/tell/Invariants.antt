@@ -1,20 +1,11 @@
 -- `turns::tell`: in the loop over the children, the lengths that are left are of the trees that are left. Assumes nothing.
-use Prim.Native.Nat.{ℕ, ◌+◌, ◌-◌, ◌≤◌, ◌<◌}
-use mathlib.Core.Path.{◌≡◌, sym, ◌∙◌}
+use Prim.Native.Nat.{ℕ, ◌-◌, ◌≤◌}
 use mathlib.Core.Bool.{false}
-use mathlib.Core.List.{List, []}
-use native.Mathlib.Omega.{arith}
-use lib.ListN.{length}
-use Rattle.laws.specs.Writing.{Put}
-use Rattle.meaning.specs.Boxes.{Side}
-use Rattle.meaning.specs.Numbers.{bytes_of}
-use Rattle.meaning.specs.Plants.{edge_limit}
 use Rattle.meaning.specs.Tables.{children_by}
 use Rattle.meaning.specs.Trees.{Forest}
 use Rattle.tables.specs.Boxes.{box_of}
 use Rattle.tables.specs.Turns.{TreesLie}
-use Rattle.tables.proofs.boxes.Halving.{small-children}
-use Rattle.tables.proofs.turns.Laws.{next-tree, Telling, telling-none, telling-more, telling-done}
+use Rattle.tables.proofs.turns.Laws.{Telling}
 use Rattle.tables.proofs.turns.tell.Given as goal
 
 abbrev pub invariant-loop-c : goal.invariant-loop-c

@@ -1,27 +1,10 @@
 -- `walks::walk_told`, which calls itself with less depth: each return cites the law of the node that it stops at; in the loop over the children,
 -- those that are left say what the whole says, each held to its length. Assumes nothing.
-use Prim.Native.Nat.{ℕ, ◌+◌, ◌-◌, ◌≤◌, ◌<◌}
-use mathlib.Core.Path.{◌≡◌, refl, sym, ap, ◌∙◌}
-use mathlib.Core.Bool.{Bool}
-use mathlib.Core.List.{List}
-use native.Mathlib.Omega.{arith}
-use lib.IntN.{ℤ}
-use lib.ListN.{length}
-use borrow.Author.Rules.{rules}
-use Rattle.meaning.specs.declared.Number.{Number}
-use Rattle.meaning.specs.declared.Refusal.{Refusal}
-use Rattle.meaning.specs.declared.Walk.{Walk}
-use Rattle.meaning.specs.Refusals.{bad_table}
-use Rattle.meaning.specs.Numbers.{number_at}
-use Rattle.meaning.specs.Boxes.{Side}
-use Rattle.meaning.specs.Plants.{edge_limit}
+use Prim.Native.Nat.{◌-◌, ◌≤◌}
 use Rattle.meaning.specs.Tables.{children_by}
 use Rattle.tables.specs.Boxes.{box_of}
-use Rattle.tables.specs.declared.frames.Frame.{Frame}
 use Rattle.tables.specs.Frames.{frame_from}
-use Rattle.tables.specs.Lengths.{behind_at}
-use Rattle.tables.proofs.boxes.Halving.{small-children}
-use Rattle.tables.proofs.walks.Laws.{Left, tree, tree-broken, tree_over, plain-sound, tile-alike, tree-deep, tree-stuck, tree-unread, tree-split, left-done, left-stopped, left-more, left-wrong}
+use Rattle.tables.proofs.walks.Laws.{Left, tree}
 use Rattle.tables.proofs.walks.+walk_told.Given as goal
 
 abbrev pub invariant-loop-c : goal.invariant-loop-c

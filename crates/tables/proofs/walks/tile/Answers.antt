@@ -4,7 +4,6 @@ use mathlib.Core.Path.{◌≡◌, refl, sym, ap, ◌∙◌}
 use mathlib.Core.Bool.{Bool, true, false}
 use mathlib.Core.List.{List}
 use native.Mathlib.Omega.{arith}
-use borrow.Author.Rules.{rules}
 use Rattle.meaning.specs.declared.Tried.{Tried}
 use Rattle.meaning.specs.declared.Tried.TheVariants.{Works}
 use Rattle.meaning.specs.declared.Walk.{Walk}
@@ -53,7 +52,7 @@ returns-in-Works c =
     let next : ℕ = c.in-Next.next in
     let went : c.read_modes-read.result.answer ≡ Walk.Next next = c.in-Next.is in
     let judged : (flag : Bool) → c.args.judged ≡ flag → (v : Tried) → v ≡ judge flag pattern → on_tried v c.args.at next ≡ on_modes modes c.args.at (judge c.args.judged) = λ flag. λ e. λ v. λ q. tile-judged modes c.args.at (judge c.args.judged) c.read_modes-read.result.answer pattern read_as next went v (q ∙ ap (λ (t : Bool). judge t pattern) (sym e)) in
-    let ruled : (w : Tried) → c.tile_rule.result ≡ w →    on_tried w c.args.at next ≡ on_modes modes c.args.at (judge c.args.judged) = λ w. λ e. judged true c.if-judged.true w (sym e ∙ c.tile_rule.ensures) in
+    let ruled : (w : Tried) → c.tile_rule.result ≡ w → on_tried w c.args.at next ≡ on_modes modes c.args.at (judge c.args.judged) = λ w. λ e. judged true c.if-judged.true w (sym e ∙ c.tile_rule.ensures) in
     ruled _ c.in-Works.is
 
 pub returns-in-Leaves : goal.returns-in-Leaves
@@ -65,7 +64,7 @@ returns-in-Leaves c =
     let next : ℕ = c.in-Next.next in
     let went : c.read_modes-read.result.answer ≡ Walk.Next next = c.in-Next.is in
     let judged : (flag : Bool) → c.args.judged ≡ flag → (v : Tried) → v ≡ judge flag pattern → on_tried v c.args.at next ≡ on_modes modes c.args.at (judge c.args.judged) = λ flag. λ e. λ v. λ q. tile-judged modes c.args.at (judge c.args.judged) c.read_modes-read.result.answer pattern read_as next went v (q ∙ ap (λ (t : Bool). judge t pattern) (sym e)) in
-    let ruled : (w : Tried) → c.tile_rule.result ≡ w →    on_tried w c.args.at next ≡ on_modes modes c.args.at (judge c.args.judged) = λ w. λ e. judged true c.if-judged.true w (sym e ∙ c.tile_rule.ensures) in
+    let ruled : (w : Tried) → c.tile_rule.result ≡ w → on_tried w c.args.at next ≡ on_modes modes c.args.at (judge c.args.judged) = λ w. λ e. judged true c.if-judged.true w (sym e ∙ c.tile_rule.ensures) in
     ap Walk.Refused c.leaves.ensures ∙ ruled _ c.in-Leaves.is
 
 pub returns-in-Misses : goal.returns-in-Misses
@@ -77,7 +76,7 @@ returns-in-Misses c =
     let next : ℕ = c.in-Next.next in
     let went : c.read_modes-read.result.answer ≡ Walk.Next next = c.in-Next.is in
     let judged : (flag : Bool) → c.args.judged ≡ flag → (v : Tried) → v ≡ judge flag pattern → on_tried v c.args.at next ≡ on_modes modes c.args.at (judge c.args.judged) = λ flag. λ e. λ v. λ q. tile-judged modes c.args.at (judge c.args.judged) c.read_modes-read.result.answer pattern read_as next went v (q ∙ ap (λ (t : Bool). judge t pattern) (sym e)) in
-    let ruled : (w : Tried) → c.tile_rule.result ≡ w →    on_tried w c.args.at next ≡ on_modes modes c.args.at (judge c.args.judged) = λ w. λ e. judged true c.if-judged.true w (sym e ∙ c.tile_rule.ensures) in
+    let ruled : (w : Tried) → c.tile_rule.result ≡ w → on_tried w c.args.at next ≡ on_modes modes c.args.at (judge c.args.judged) = λ w. λ e. judged true c.if-judged.true w (sym e ∙ c.tile_rule.ensures) in
     ap Walk.Refused c.misses.ensures ∙ ruled _ c.in-Misses.is
 
 pub returns-else-judged : goal.returns-else-judged
