@@ -22,29 +22,25 @@ use std::fmt::Write;
 const HEAD: &str = "\
 -- The second program's answers, held against the definitions: each equation is computed by the checker.
 -- Written by second/tests/page.rs, which also tests that this page says what the second program answers.
-use Prim.Native.Nat.{ℕ}
-use mathlib.Core.Path.{_≡_, refl}
-use mathlib.Core.List.{List, [], _∷_}
-use lib.ListN.{replicate}
-use lib.IntN.{pos, negℤ}
-use Rattle·meaning.specs.declared.Number.{Number}
-use Rattle·meaning.specs.declared.Signed.{Signed}
-use Rattle·meaning.specs.declared.Tried.{Tried}
-use Rattle·meaning.specs.declared.Verdict.{Verdict}
-use Rattle·meaning.specs.declared.Written.{Written}
-use Rattle·meaning.specs.declared.Answer.{Answer}
-use Rattle·meaning.specs.declared.StartAnswer.{StartAnswer}
-use Rattle·meaning.specs.Refusals.{refusal}
-use Rattle·meaning.specs.Numbers.{numberAt, signedAt}
-use Rattle·meaning.specs.Boxes.{side, children, longestHalved}
-use Rattle·meaning.specs.Images.{image}
-use Rattle·meaning.specs.Files.{good}
-use Rattle·meaning.specs.Plants.{plantOf, plantJudged, plantRead, plantLeft, stepOf}
-use Rattle·meaning.specs.Rules.{rule}
-use Rattle·meaning.specs.Tables.{rulesOf, checked, makerLeft, controlled}
-use Rattle·meaning.specs.Starts.{startChecked, startLeft, startControlled}
-use Rattle·meaning.specs.Sheets.{sheetOf, sheetValues, sheetRead, sheetLeft, madeLeft}
-use Rattle·meaning.specs.Computing.{computing}
+use Rattle.std.specs.Prelude.{ℕ, ◌≡◌, refl, List, [], ◌∷◌, replicate, pos, neg_ℤ}
+use Rattle.meaning.specs.declared.Number.{Number}
+use Rattle.meaning.specs.declared.Signed.{Signed}
+use Rattle.meaning.specs.declared.Tried.{Tried}
+use Rattle.meaning.specs.declared.Verdict.{Verdict}
+use Rattle.meaning.specs.declared.Written.{Written}
+use Rattle.meaning.specs.declared.Answer.{Answer}
+use Rattle.meaning.specs.declared.StartAnswer.{StartAnswer}
+use Rattle.meaning.specs.Refusals.{refusal}
+use Rattle.meaning.specs.Numbers.{number_at, signed_at}
+use Rattle.meaning.specs.Boxes.{side, children, longest_halved}
+use Rattle.meaning.specs.Images.{image}
+use Rattle.meaning.specs.Files.{good}
+use Rattle.meaning.specs.Plants.{plant_of, plant_judged, plant_read, plant_left, step_of}
+use Rattle.meaning.specs.Rules.{rule}
+use Rattle.meaning.specs.Tables.{rules_of, checked, maker_left, controlled}
+use Rattle.meaning.specs.Starts.{start_checked, start_left, start_controlled}
+use Rattle.meaning.specs.Sheets.{sheet_of, sheet_values, sheet_read, sheet_left, made_left}
+use Rattle.meaning.specs.Computing.{computing}
 
 -- a lent buffer of m bytes, none of them 0
 abbrev lent : ℕ → List ℕ
@@ -65,7 +61,7 @@ fn bytes(items: &[u8]) -> String {
 }
 
 fn whole(value: i128) -> String {
-    if value < 0 { format!("negℤ (pos {})", -value) } else { format!("pos {value}") }
+    if value < 0 { format!("neg_ℤ (pos {})", -value) } else { format!("pos {value}") }
 }
 
 fn wholes(values: &[i128]) -> String {
@@ -173,46 +169,46 @@ impl Page {
             Ok((value, next)) => format!("Number.Value {value} {next}"),
             Err(_) => "Number.Broken".into(),
         };
-        self.equation(&format!("numberAt ({}) {place}", bytes(file)), &plain);
+        self.equation(&format!("number_at ({}) {place}", bytes(file)), &plain);
         let signed = match read_signed(file, place) {
             Ok((value, next)) => format!("Signed.Value ({}) {next}", whole(value.into())),
             Err(_) => "Signed.Broken".into(),
         };
-        self.equation(&format!("signedAt ({}) {place}", bytes(file)), &signed);
+        self.equation(&format!("signed_at ({}) {place}", bytes(file)), &signed);
     }
 
     fn plant(&mut self, file: &[u8]) {
         let answer = read_plant(file);
-        self.equation(&format!("plantRead ({}) .verdict", bytes(file)), &verdict(&answer));
+        self.equation(&format!("(plant_read ({})).verdict", bytes(file)), &verdict(&answer));
         if let Ok(plant) = answer {
-            self.equation(&format!("plantJudged ({})", bytes(file)), &format!("good (plantOf ({}))", wholes(&plant_numbers(&plant))));
+            self.equation(&format!("plant_judged ({})", bytes(file)), &format!("good (plant_of ({}))", wholes(&plant_numbers(&plant))));
         }
     }
 
     fn write_plant(&mut self, fields: &[Field], n: usize, length: usize) {
         let mut buffer = marked(length);
         let answer = write_plant(&plant_values(fields, n), &mut buffer);
-        self.equation(&format!("plantLeft (plantOf ({})) (lent {length})", wholes(&field_values(fields))), &left(&answer, &buffer));
+        self.equation(&format!("plant_left (plant_of ({})) (lent {length})", wholes(&field_values(fields))), &left(&answer, &buffer));
     }
 
     fn sheet(&mut self, file: &[u8]) {
         let answer = read_sheet(file);
-        self.equation(&format!("sheetRead ({}) .verdict", bytes(file)), &verdict(&answer));
+        self.equation(&format!("(sheet_read ({})).verdict", bytes(file)), &verdict(&answer));
         if let Ok(sheet) = answer {
-            self.equation(&format!("sheetValues (sheetRead ({}) .sheet)", bytes(file)), &wholes(&sheet_numbers(&sheet)));
+            self.equation(&format!("sheet_values (sheet_read ({})).sheet", bytes(file)), &wholes(&sheet_numbers(&sheet)));
         }
     }
 
     fn write_sheet(&mut self, fields: &[Field], n: usize, length: usize) {
         let mut buffer = marked(length);
         let answer = write_sheet(&sheet_values(fields, n), &mut buffer);
-        self.equation(&format!("sheetLeft (sheetOf ({})) (lent {length})", wholes(&field_values(fields))), &left(&answer, &buffer));
+        self.equation(&format!("sheet_left (sheet_of ({})) (lent {length})", wholes(&field_values(fields))), &left(&answer, &buffer));
     }
 
     fn sheet_to_plant(&mut self, file: &[u8], length: usize) {
         let mut buffer = marked(length);
         let answer = sheet_to_plant(file, &mut buffer);
-        self.equation(&format!("madeLeft ({}) (lent {length})", bytes(file)), &left(&answer, &buffer));
+        self.equation(&format!("made_left ({}) (lent {length})", bytes(file)), &left(&answer, &buffer));
     }
 
     fn check(&mut self, plant: &[u8], table: &[u8]) {
@@ -226,7 +222,7 @@ impl Page {
     fn make_of(&mut self, form: u64, plant: &[u8], length: usize) -> Vec<u8> {
         let mut buffer = marked(length);
         let answer = make(plant, form, &mut buffer);
-        self.equation(&format!("makerLeft ({}) {form} (lent {length})", bytes(plant)), &left(&answer, &buffer));
+        self.equation(&format!("maker_left ({}) {form} (lent {length})", bytes(plant)), &left(&answer, &buffer));
         buffer[..answer.unwrap_or(0)].to_vec()
     }
 
@@ -249,7 +245,7 @@ impl Page {
 
     fn image(&mut self, fields: &[Field], mode: usize, from: &Box) {
         let plant = read_plant(&file(fields)).expect("a plant");
-        let left = format!("image (stepOf (plantOf ({})) {mode}) ({})", wholes(&field_values(fields)), boxed(from));
+        let left = format!("image (step_of (plant_of ({})) {mode}) ({})", wholes(&field_values(fields)), boxed(from));
         self.equation(&left, &boxed(&image(&plant, mode, from)));
     }
 
@@ -260,7 +256,7 @@ impl Page {
 
     fn halve(&mut self, of: &Box) {
         let halves: Vec<Box> = of.halve().into_iter().flatten().collect();
-        self.equation(&format!("longestHalved ({})", boxed(of)), &list(&halves, |half| format!("({})", boxed(half))));
+        self.equation(&format!("longest_halved ({})", boxed(of)), &list(&halves, |half| format!("({})", boxed(half))));
     }
 
     fn rule(&mut self, fields: &[Field], of: &Box, pattern: &[u8]) {
@@ -271,7 +267,7 @@ impl Page {
             Err(refusal) => format!("Tried.Misses {}", refusal.step),
         };
         let modes = list(pattern, |mode| mode.to_string());
-        self.equation(&format!("rule (rulesOf {FORM} (plantOf ({}))) ({}) ({modes})", wholes(&field_values(fields)), boxed(of)), &right);
+        self.equation(&format!("rule (rules_of {FORM} (plant_of ({}))) ({}) ({modes})", wholes(&field_values(fields)), boxed(of)), &right);
     }
 }
 

@@ -31,14 +31,14 @@ fn number<T>(answer: &Result<T, Refusal>) -> u8 {
 
 fn check(plant: &[u8], start: &[u8]) -> Said {
     let answer = start_check(plant, start);
-    let left = format!("startChecked ({}) ({})", bytes(plant), bytes(start));
+    let left = format!("start_checked ({}) ({})", bytes(plant), bytes(start));
     Said { number: number(&answer), left, right: verdict(&answer) }
 }
 
 fn make(plant: &[u8], chain: &[u8], length: usize) -> Said {
     let mut buffer = marked(length);
     let answer = start_make_into(plant, chain, FORM, &mut buffer);
-    let lent = format!("startLeft ({}) ({}) {FORM} (lent {length})", bytes(plant), bytes(chain));
+    let lent = format!("start_left ({}) ({}) {FORM} (lent {length})", bytes(plant), bytes(chain));
     Said { number: number(&answer), left: lent, right: left(&answer, &buffer) }
 }
 
@@ -53,7 +53,7 @@ fn call(plant: &[u8], start: &[u8], state: StartState, reading: [i64; 4]) -> Sai
         Err(refusal) => format!("StartAnswer.{}", refused(refusal)),
     };
     let reading = wholes(&reading.map(i128::from));
-    let left = format!("startControlled ({}) ({}) ({}) ({reading})", bytes(plant), bytes(start), standing(&state));
+    let left = format!("start_controlled ({}) ({}) ({}) ({reading})", bytes(plant), bytes(start), standing(&state));
     Said { number: number(&answer), left, right }
 }
 
