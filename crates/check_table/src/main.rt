@@ -4,6 +4,8 @@
 
 #![tactic(auto)]
 
+ghost use Rattle.std.specs.Prelude.{◌^◌, ◌<◌};
+
 use desk::{papers, tellings};
 use meaning::Verdict;
 use std::env::Env;
@@ -28,9 +30,11 @@ fn check_table(rt: &(impl Env + Files), out: Stdout, err: Stderr, plant: &[u8]) 
     }
 }
 
-// The start file that argument 3 names, for a plant's file.
-fn check_start(rt: &(impl Env + Files), out: Stdout, err: Stderr, plant: &[u8]) {
-    let mut start = [0u8; papers::START];
+// The start file that argument 3 names, for a plant's file. ROOM is papers::START, a parameter since the check does not follow an array of so many zeros.
+fn check_start<const ROOM: usize>(rt: &(impl Env + Files), out: Stdout, err: Stderr, plant: &[u8])
+    requires { ROOM < 2 ^ 63 }
+{
+    let mut start = [0u8; ROOM];
     let read = papers::read_whole(rt, err, 3, &mut start);
     if read.is_read {
         let length = read.length;
@@ -53,7 +57,7 @@ fn main(rt: HostRuntime) {
         let read = papers::read(&rt, rt.stderr(), 2, &mut plant);
         if read.is_read {
             let length = read.length;
-            check_start(&rt, rt.stdout(), rt.stderr(), &plant[..length]);
+            check_start::<{ papers::START }>(&rt, rt.stdout(), rt.stderr(), &plant[..length]);
         }
         return;
     }

@@ -1,13 +1,14 @@
-// The program's arguments: files that they name, read whole into a lent buffer, and words. Relies on std for input and output. Leaves out what a file
-// says. What goes wrong is told on standard error: the file's name and why. A buffer is longer than any right file of its kind, by as many bytes as settle
-// what is said of one that goes on behind it; so every file is judged, however long. A start file's lengths may reach as far as they like, so that no number
-// of bytes settles what is said of it: who reads one asks whether it was read whole.
+// The program's arguments: files that they name, read whole into a lent buffer, and words. Relies on std for input and output, on page tellings for
+// standard error. Leaves out what a file says. What goes wrong is told there: the file's name and why. A buffer is longer than any right file of its kind,
+// by as many bytes as settle what is said of one that goes on behind it; so every file is judged, however long. A start file's lengths may reach as far as
+// they like, so that no number of bytes settles what is said of it: who reads one asks whether it was read whole.
 ghost use Rattle.std.specs.Prelude.{◌≤◌, length};
 ghost use Rattle.io.specs.Counts.{IsPrefixLen};
 
+use crate::tellings;
 use std::env::{Env, FillError};
 use std::fs::File;
-use std::io::{Cursor, Print, Read, Stderr, Write};
+use std::io::{Cursor, Read, Stderr, Write};
 use std::rt::Files;
 use std::{io, str};
 
@@ -63,7 +64,8 @@ fn argument(rt: &impl Env, i: usize, buf: &mut [u8]) -> usize
     }
 }
 
-// Why a call failed, in the system's words, at the start of buf; how many bytes. std puts the error's number behind them in brackets, which is left out.
+// Why a call failed, in the system's words, at the start of buf, which is all zeros; how many bytes. std puts the error's number behind them in brackets:
+// that is left out, with the blank before it.
 fn reason(error: io::Error, buf: &mut [u8]) -> usize
     ensures { result ≤ length buf.new }
 {
@@ -73,7 +75,7 @@ fn reason(error: io::Error, buf: &mut [u8]) -> usize
         .iter()
         .position(|letter| *letter == b'(' || *letter == 0)
     {
-        Some(at) if at > 0 && buf[at] == b'(' => at - 1,
+        Some(at) if buf[at] == b'(' => at.saturating_sub(1),
         Some(at) => at,
         None => buf.len(),
     }
@@ -83,10 +85,10 @@ fn reason(error: io::Error, buf: &mut [u8]) -> usize
 fn fail(err: Stderr, what: &[u8], error: io::Error) {
     let mut text = [0u8; 128];
     let n = reason(error, &mut text);
-    let _ = Print::write_all(&err, what);
-    let _ = Print::write_all(&err, b": ");
-    let _ = Print::write_all(&err, &text[..n]);
-    let _ = Print::write_all(&err, b"\n");
+    tellings::warn(err, what);
+    tellings::warn(err, b": ");
+    tellings::warn(err, &text[..n]);
+    tellings::warn(err, b"\n");
 }
 
 // The file of that name. A name is text in std: one that is none names no file.
@@ -174,7 +176,7 @@ pub fn read_whole(rt: &(impl Env + Files), err: Stderr, i: usize, buf: &mut [u8]
 {
     let read = read(rt, err, i, buf);
     if read.is_read && !read.is_whole {
-        let _ = Print::write_all(&err, b"longer than any such file can be\n");
+        tellings::warn(err, b"longer than any such file can be\n");
         return NOT_READ;
     }
     read

@@ -81,12 +81,17 @@ fn tell_row(out: Stdout, number: u8) {
 
 // How a program is called, to standard error.
 pub fn usage(err: Stderr, words: &[u8]) {
-    let _ = Print::write_all(&err, b"usage: ");
-    let _ = Print::write_all(&err, words);
-    let _ = Print::write_all(&err, b"\n");
+    warn(err, b"usage: ");
+    warn(err, words);
+    warn(err, b"\n");
+}
+
+// Words to standard error. A program that cannot write goes on, here and on standard output: there is nobody left to tell.
+pub fn warn(err: Stderr, words: &[u8]) {
+    let _ = err.write_all(words);
 }
 
 // Words to standard output.
 pub fn say(out: Stdout, words: &[u8]) {
-    let _ = Print::write_all(&out, words);
+    let _ = out.write_all(words);
 }

@@ -8,6 +8,8 @@ mod boxes;
 mod listings;
 mod starts;
 
+ghost use Rattle.std.specs.Prelude.{◌^◌, ◌<◌};
+
 use desk::papers::Word;
 use desk::{papers, tellings};
 use std::env::Env;
@@ -15,16 +17,17 @@ use std::io::{Stderr, Stdin, Stdout};
 use std::rt::Files;
 
 // The table of that form, for the plant's file on standard input.
-fn list_table(input: Stdin, out: Stdout, form: usize) {
+fn list_table(mut input: Stdin, out: Stdout, form: usize) {
     let mut plant = [0u8; papers::PLANT];
-    let mut file = input;
-    let length = papers::read_full(&mut file, &mut plant);
+    let length = papers::read_full(&mut input, &mut plant);
     listings::list(out, &plant[..length], form);
 }
 
-// The start file that argument 3 names, for a plant's file.
-fn list_start(rt: &(impl Env + Files), out: Stdout, err: Stderr, plant: &[u8]) {
-    let mut start = [0u8; papers::START];
+// The start file that argument 3 names, for a plant's file. ROOM is papers::START, a parameter since the check does not follow an array of so many zeros.
+fn list_start<const ROOM: usize>(rt: &(impl Env + Files), out: Stdout, err: Stderr, plant: &[u8])
+    requires { ROOM < 2 ^ 63 }
+{
+    let mut start = [0u8; ROOM];
     let read = papers::read_whole(rt, err, 3, &mut start);
     if read.is_read {
         let length = read.length;
@@ -38,7 +41,7 @@ fn list_files(rt: &(impl Env + Files), out: Stdout, err: Stderr) {
     let read = papers::read(rt, err, 2, &mut plant);
     if read.is_read {
         let length = read.length;
-        list_start(rt, out, err, &plant[..length]);
+        list_start::<{ papers::START }>(rt, out, err, &plant[..length]);
     }
 }
 
