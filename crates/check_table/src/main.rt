@@ -4,55 +4,65 @@
 
 #![tactic(auto)]
 
+ghost use Rattle.std.specs.Prelude.{◌^◌, ◌<◌};
+
 use desk::{papers, tellings};
 use meaning::Verdict;
+use std::env::Env;
+use std::io::{Stderr, Stdout};
+use std::rt::Files;
 use tables::{checks, start_checks};
 
-fn tell(verdict: Verdict) {
+fn tell(out: Stdout, verdict: Verdict) {
     match verdict {
-        Verdict::Accepted => tellings::say(b"accepted\n"),
-        Verdict::Refused(e) => tellings::tell(e),
+        Verdict::Accepted => tellings::say(out, b"accepted\n"),
+        Verdict::Refused(e) => tellings::tell(out, e),
     }
 }
 
 // The table that argument 2 names, for a plant's file.
-fn check_table(plant: &[u8]) {
+fn check_table(rt: &(impl Env + Files), out: Stdout, err: Stderr, plant: &[u8]) {
     let mut table = [0u8; papers::TABLE];
-    let read = papers::read(2, &mut table);
+    let read = papers::read(rt, err, 2, &mut table);
     if read.is_read {
         let length = read.length;
-        tell(checks::check(plant, &table[..length]));
+        tell(out, checks::check(plant, &table[..length]));
     }
 }
 
-// The start file that argument 3 names, for a plant's file.
-fn check_start(plant: &[u8]) {
-    let mut start = [0u8; papers::START];
-    let read = papers::read_whole(3, &mut start);
+// The start file that argument 3 names, for a plant's file. ROOM is papers::START, a parameter since the check does not follow an array of so many zeros.
+fn check_start<const ROOM: usize>(rt: &(impl Env + Files), out: Stdout, err: Stderr, plant: &[u8])
+    requires { ROOM < 2 ^ 63 }
+{
+    let mut start = [0u8; ROOM];
+    let read = papers::read_whole(rt, err, 3, &mut start);
     if read.is_read {
         let length = read.length;
-        tell(start_checks::start_check(plant, &start[..length]));
+        tell(out, start_checks::start_check(plant, &start[..length]));
     }
 }
 
-fn main() {
-    let given = os::arg_count();
+fn main(rt: HostRuntime) {
+    let given = papers::given(&rt);
     let mut plant = [0u8; papers::PLANT];
     if given == 3 {
-        let read = papers::read(1, &mut plant);
+        let read = papers::read(&rt, rt.stderr(), 1, &mut plant);
         if read.is_read {
             let length = read.length;
-            check_table(&plant[..length]);
+            check_table(&rt, rt.stdout(), rt.stderr(), &plant[..length]);
         }
         return;
     }
-    if given == 4 && papers::says_start() {
-        let read = papers::read(2, &mut plant);
+    if given == 4 && papers::says_start(&rt) {
+        let read = papers::read(&rt, rt.stderr(), 2, &mut plant);
         if read.is_read {
             let length = read.length;
-            check_start(&plant[..length]);
+            check_start::<{ papers::START }>(&rt, rt.stdout(), rt.stderr(), &plant[..length]);
         }
         return;
     }
-    tellings::usage(b"check_table PLANT TABLE | check_table start PLANT START");
+    tellings::usage(
+        rt.stderr(),
+        b"check_table PLANT TABLE | check_table start PLANT START",
+    );
 }

@@ -7,6 +7,7 @@ use desk::tellings;
 use figures::texts;
 use files::{numbers, plants};
 use meaning::{Number, Outline, Written};
+use std::io::Stdout;
 use tables::makes;
 
 // How far a walk has come: the place in the table, the tiles passed, their longest pattern.
@@ -73,7 +74,15 @@ fn larger(a: usize, b: usize) -> usize {
 }
 
 // The line of a tile of k modes at `place`, where it is shown; the place behind the tile.
-fn tile_line(shown: bool, n: usize, table: &[u8], place: usize, k: usize, b: Bx) -> usize {
+fn tile_line(
+    out: Stdout,
+    shown: bool,
+    n: usize,
+    table: &[u8],
+    place: usize,
+    k: usize,
+    b: Bx,
+) -> usize {
     let mut room = [0u8; 128];
     let line: &mut [u8] = &mut room;
     let past_sides = put_sides(line, 0, n, b);
@@ -81,15 +90,24 @@ fn tile_line(shown: bool, n: usize, table: &[u8], place: usize, k: usize, b: Bx)
     let modes = put_modes(line, past_colon, table, place, k);
     let end = numbers::put_byte(line, modes.at, b'\n');
     if shown {
-        tellings::show(line, end);
+        tellings::show(out, line, end);
     }
     modes.place
 }
 
 // A tile of k modes at `place`.
-fn tile(shown: bool, n: usize, table: &[u8], place: usize, k: usize, b: Bx, t: Tally) -> Tally {
+fn tile(
+    out: Stdout,
+    shown: bool,
+    n: usize,
+    table: &[u8],
+    place: usize,
+    k: usize,
+    b: Bx,
+    t: Tally,
+) -> Tally {
     Tally {
-        place: tile_line(shown, n, table, place, k, b),
+        place: tile_line(out, shown, n, table, place, k, b),
         tiles: std::num::wrapping_add_usize(t.tiles, 1),
         longest: larger(t.longest, k),
     }
@@ -113,12 +131,21 @@ fn past_lengths(form: usize, table: &[u8], at: usize, children: usize) -> usize 
 }
 
 // The tree at the tally's place, of a table of that form, over box b with depth d left.
-fn tree(shown: bool, form: usize, n: usize, table: &[u8], d: usize, b: Bx, t: Tally) -> Tally {
+fn tree(
+    out: Stdout,
+    shown: bool,
+    form: usize,
+    n: usize,
+    table: &[u8],
+    d: usize,
+    b: Bx,
+    t: Tally,
+) -> Tally {
     let Number::Value(k, next) = numbers::number(table, t.place) else {
         return t;
     };
     if 0 < k {
-        return tile(shown, n, table, next, k, b, t);
+        return tile(out, shown, n, table, next, k, b, t);
     }
     if d == 0 {
         return t;
@@ -132,31 +159,31 @@ fn tree(shown: bool, form: usize, n: usize, table: &[u8], d: usize, b: Bx, t: Ta
     let mut c: usize = 0;
     while c < count {
         let child = boxes::child(form, n, b, c);
-        past = tree(shown, form, n, table, d - 1, child, past);
+        past = tree(out, shown, form, n, table, d - 1, child, past);
         c += 1;
     }
     past
 }
 
 // Tiles and longest pattern, each behind a blank, and the line's end; the line is told.
-fn show_tally(line: &mut [u8], at: usize, t: Tally) {
+fn show_tally(out: Stdout, line: &mut [u8], at: usize, t: Tally) {
     let past_tiles = put_number(line, at, t.tiles);
     let past_longest = put_number(line, past_tiles, t.longest);
     let end = numbers::put_byte(line, past_longest, b'\n');
-    tellings::show(line, end);
+    tellings::show(out, line, end);
 }
 
 // The header of a table: n, tiles, longest pattern.
-fn show_header(n: usize, t: Tally) {
+fn show_header(out: Stdout, n: usize, t: Tally) {
     let mut room = [0u8; 80];
     let line: &mut [u8] = &mut room;
     let past_word = texts::put(line, 0, b"table");
     let past_n = put_number(line, past_word, n);
-    show_tally(line, past_n, t);
+    show_tally(out, line, past_n, t);
 }
 
 // The header of a start file's box: its index, its edges, a colon, tiles, longest pattern.
-fn show_box(n: usize, i: usize, b: Bx, t: Tally) {
+fn show_box(out: Stdout, n: usize, i: usize, b: Bx, t: Tally) {
     let mut room = [0u8; 160];
     let line: &mut [u8] = &mut room;
     let past_word = texts::put(line, 0, b"box");
@@ -164,7 +191,7 @@ fn show_box(n: usize, i: usize, b: Bx, t: Tally) {
     let past_blank = numbers::put_byte(line, past_index, b' ');
     let past_sides = put_sides(line, past_blank, n, b);
     let past_colon = numbers::put_byte(line, past_sides, b':');
-    show_tally(line, past_colon, t);
+    show_tally(out, line, past_colon, t);
 }
 
 // How deep the splits of a form may go in a plant of depth d: where one side is halved at a time, n times as deep. No plant has a d above 6: one
@@ -180,7 +207,7 @@ fn depth(form: usize, n: usize, d: usize) -> usize {
 }
 
 // The walk of a whole table over its box, by the table's own form. The tree stands behind form and n, a byte each.
-fn walk(shown: bool, n: usize, d: usize, table: &[u8], root: Bx) -> Tally {
+fn walk(out: Stdout, shown: bool, n: usize, d: usize, table: &[u8], root: Bx) -> Tally {
     let start = Tally {
         place: 2,
         tiles: 0,
@@ -189,11 +216,11 @@ fn walk(shown: bool, n: usize, d: usize, table: &[u8], root: Bx) -> Tally {
     let Number::Value(form, _) = numbers::number(table, 0) else {
         return start;
     };
-    tree(shown, form, n, table, depth(form, n, d), root, start)
+    tree(out, shown, form, n, table, depth(form, n, d), root, start)
 }
 
 // The first `length` bytes of a table's buffer, made for that plant.
-fn show_table(p: Outline, buf: &[u8], length: usize) {
+fn show_table(out: Stdout, p: Outline, buf: &[u8], length: usize) {
     if buf.len() < length {
         return;
     }
@@ -201,26 +228,26 @@ fn show_table(p: Outline, buf: &[u8], length: usize) {
     let lo = p.rlo;
     let hi = p.rhi;
     let root = Bx { lo, hi };
-    show_header(p.n, walk(false, p.n, p.d, table, root));
-    walk(true, p.n, p.d, table, root);
+    show_header(out, p.n, walk(out, false, p.n, p.d, table, root));
+    walk(out, true, p.n, p.d, table, root);
 }
 
 // The table of box i of a start file.
-pub fn show_part(n: usize, d: usize, i: usize, table: &[u8], root: Bx) {
-    show_box(n, i, root, walk(false, n, d, table, root));
-    walk(true, n, d, table, root);
+pub fn show_part(out: Stdout, n: usize, d: usize, i: usize, table: &[u8], root: Bx) {
+    show_box(out, n, i, root, walk(out, false, n, d, table, root));
+    walk(out, true, n, d, table, root);
 }
 
 // The listing of a plant's table of that form, or the refusal. No table has more bytes than there is room for.
-pub fn list(plant: &[u8], form: usize) {
+pub fn list(out: Stdout, plant: &[u8], form: usize) {
     let mut room = [0u8; 58_965];
     let table: &mut [u8] = &mut room;
     match makes::make(plant, form, table) {
-        Written::Refused(e) => tellings::tell_place(e),
+        Written::Refused(e) => tellings::tell_place(out, e),
         Written::Length(length) => {
             let read = plants::judge_plant(plant);
             let p = read.outline;
-            show_table(p, table, length);
+            show_table(out, p, table, length);
         }
     }
 }

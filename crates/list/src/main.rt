@@ -8,51 +8,58 @@ mod boxes;
 mod listings;
 mod starts;
 
+ghost use Rattle.std.specs.Prelude.{◌^◌, ◌<◌};
+
 use desk::papers::Word;
 use desk::{papers, tellings};
+use std::env::Env;
+use std::io::{Stderr, Stdin, Stdout};
+use std::rt::Files;
 
 // The table of that form, for the plant's file on standard input.
-fn list_table(form: usize) {
+fn list_table(mut input: Stdin, out: Stdout, form: usize) {
     let mut plant = [0u8; papers::PLANT];
-    let length = io::read_full(libc::STDIN_FILENO, &mut plant);
-    listings::list(&plant[..length], form);
+    let length = papers::read_full(&mut input, &mut plant);
+    listings::list(out, &plant[..length], form);
 }
 
-// The start file that argument 3 names, for a plant's file.
-fn list_start(plant: &[u8]) {
-    let mut start = [0u8; papers::START];
-    let read = papers::read_whole(3, &mut start);
+// The start file that argument 3 names, for a plant's file. ROOM is papers::START, a parameter since the check does not follow an array of so many zeros.
+fn list_start<const ROOM: usize>(rt: &(impl Env + Files), out: Stdout, err: Stderr, plant: &[u8])
+    requires { ROOM < 2 ^ 63 }
+{
+    let mut start = [0u8; ROOM];
+    let read = papers::read_whole(rt, err, 3, &mut start);
     if read.is_read {
         let length = read.length;
-        starts::list(plant, &start[..length]);
+        starts::list(out, plant, &start[..length]);
     }
 }
 
 // The start file, for the plant's file that argument 2 names.
-fn list_files() {
+fn list_files(rt: &(impl Env + Files), out: Stdout, err: Stderr) {
     let mut plant = [0u8; papers::PLANT];
-    let read = papers::read(2, &mut plant);
+    let read = papers::read(rt, err, 2, &mut plant);
     if read.is_read {
         let length = read.length;
-        list_start(&plant[..length]);
+        list_start::<{ papers::START }>(rt, out, err, &plant[..length]);
     }
 }
 
-fn main() {
-    let given = os::arg_count();
+fn main(rt: HostRuntime) {
+    let given = papers::given(&rt);
     if given == 1 {
-        list_table(1);
+        list_table(rt.stdin(), rt.stdout(), 1);
         return;
     }
     if given == 2 {
-        if let Word::Number(form) = papers::number(1) {
-            list_table(form);
+        if let Word::Number(form) = papers::number(&rt, 1) {
+            list_table(rt.stdin(), rt.stdout(), form);
             return;
         }
     }
-    if given == 4 && papers::says_start() {
-        list_files();
+    if given == 4 && papers::says_start(&rt) {
+        list_files(&rt, rt.stdout(), rt.stderr());
         return;
     }
-    tellings::usage(b"list [FORM] < PLANT | list start PLANT START");
+    tellings::usage(rt.stderr(), b"list [FORM] < PLANT | list start PLANT START");
 }

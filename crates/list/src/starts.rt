@@ -5,6 +5,7 @@ use crate::{boxes, listings};
 use desk::tellings;
 use files::{numbers, plants};
 use meaning::{Number, Outline, Signed, Verdict};
+use std::io::Stdout;
 use tables::start_checks;
 
 // A box of the chain, and the place behind its edges.
@@ -52,7 +53,7 @@ fn past_boxes(n: usize, m: usize, start: &[u8], at: usize) -> usize {
 }
 
 // The table of box i, whose length stands at a place, and the place behind it.
-fn show_part(p: Outline, i: usize, start: &[u8], at: usize, b: Bx) -> usize {
+fn show_part(out: Stdout, p: Outline, i: usize, start: &[u8], at: usize, b: Bx) -> usize {
     let Number::Value(size, first) = numbers::number(start, at) else {
         return at;
     };
@@ -63,29 +64,36 @@ fn show_part(p: Outline, i: usize, start: &[u8], at: usize, b: Bx) -> usize {
     if rest.len() < size {
         return at;
     }
-    listings::show_part(p.n, p.d, i, &rest[..size], b);
+    listings::show_part(out, p.n, p.d, i, &rest[..size], b);
     first + size
 }
 
 // R's table, and those of the m boxes whose edges stand at a place.
-fn show_parts(p: Outline, m: usize, start: &[u8], at: usize) {
+fn show_parts(out: Stdout, p: Outline, m: usize, start: &[u8], at: usize) {
     let lo = p.rlo;
     let hi = p.rhi;
     let mut edges_at = at;
-    let mut part_at = show_part(p, 0, start, past_boxes(p.n, m, start, at), Bx { lo, hi });
+    let mut part_at = show_part(
+        out,
+        p,
+        0,
+        start,
+        past_boxes(p.n, m, start, at),
+        Bx { lo, hi },
+    );
     let mut i: usize = 0;
     while i < m {
         let edges = read_box(p.n, start, edges_at);
         edges_at = edges.next;
         i += 1;
-        part_at = show_part(p, i, start, part_at, edges.b);
+        part_at = show_part(out, p, i, start, part_at, edges.b);
     }
 }
 
 // The listing of a start file for a plant's file, or its refusal.
-pub fn list(plant: &[u8], start: &[u8]) {
+pub fn list(out: Stdout, plant: &[u8], start: &[u8]) {
     match start_checks::start_check(plant, start) {
-        Verdict::Refused(e) => tellings::tell_place(e),
+        Verdict::Refused(e) => tellings::tell_place(out, e),
         Verdict::Accepted => {
             let Number::Value(_, past_form) = numbers::number(start, 0) else {
                 return;
@@ -94,7 +102,7 @@ pub fn list(plant: &[u8], start: &[u8]) {
                 return;
             };
             let read = plants::judge_plant(plant);
-            show_parts(read.outline, m, start, next);
+            show_parts(out, read.outline, m, start, next);
         }
     }
 }
