@@ -1,11 +1,9 @@
 -- The whole numbers that a sheet makes of its floats, by what each shows (document 01, "The sheet" and row 14): 0 with the nearest whole number exactly where
 -- the float is finite and the plant can hold it, and else 14 with which number of the plant file it is; and a sheet's reader shows 14 exactly with the
 -- first that does. Relies on pages Nearest and Firsts, and on pages Faults and Told for that nothing else is told by 14, and nothing by 0.
-use Rattle.std.specs.Prelude.{ℕ, ◌≤◌, ◌<◌, ◌≡◌, refl, Bool, true, false, List, [], ◌∷◌, map, ◌↔◌, T, length, get_or, ℤ, pos, nat_abs, ◌*ℤ◌, Float}
+use Rattle.std.specs.Prelude.{ℕ, ◌<◌, ◌≡◌, refl, Bool, true, false, List, [], ◌∷◌, map, ◌↔◌, length, get_or, ℤ}
 use Rattle.std.proofs.Common.{sym, ap, arith}
 use Rattle.std.proofs.Math.Logic.Iff
-use Rattle.std.specs.Float.Ieee as F
-use Rattle.std.specs.Float.{binary64}
 use Rattle.laws.specs.Guards.{guard}
 use Rattle.laws.specs.Lists.{all, first_false}
 use Rattle.laws.specs.Tests.{never}
@@ -22,29 +20,10 @@ use Rattle.meaning.specs.Sheets as S
 use Rattle.meaning.specs.Sheets.{finite, whole_of, units, units_of, sheet_form, sheet_of, made_numbers, is_near, near_value, root_sheet, safe_sheet, bands_sheet, sheet_related, sheet_read, sheet_read_of}
 use Rattle.promises.specs.Sheets.Faults.{sheet-values-told}
 use Rattle.promises.specs.Files.Firsts.{first-exactly}
-use Rattle.promises.specs.Sheets.Nearest.{Nearest, near-exactly}
 use Rattle.promises.specs.Sheets.SheetNear.{near-is}
 use Rattle.promises.specs.Paper.Shows.{shows, whole-exactly, verdict-exactly, refused-some}
 use Rattle.promises.specs.Files.Telling.{not-told}
 use Rattle.promises.specs.Paper.Told.{sheet-some}
-
--- ---- of a float that binary64 holds, 0 with the nearest whole number where the plant can hold it, and else 14 with which number it is
-
-module _ (which limit k : ℕ) (x : Float) (held : T (F.fits binary64 x)) where
-  pub near-shown : (v : ℤ) → (whole_shown which (whole_of limit k x) ≡ shows 0 0 0 (v ∷ []))
-      ↔ ((finite x ≡ true) × Nearest units (pos k *ℤ units_of x) v × (nat_abs v ≤ limit))
-  near-shown v = Iff.trans (whole-exactly which (whole_of limit k x) (Whole.Near v)) (near-exactly limit k x v held)
-
-  pub out-shown : (whole_shown which (whole_of limit k x) ≡ shows 14 which 0 [])
-      ↔ ((v : ℤ) → finite x ≡ true → Nearest units (pos k *ℤ units_of x) v → nat_abs v ≤ limit → ⊥)
-  out-shown = Iff.trans (whole-exactly which (whole_of limit k x) Whole.Out) (
-    λ e v a b c. let q = (near-exactly limit k x v held).1 (a, b, c) in never cc,
-    λ h. go (whole_of limit k x) (λ v q. let w = (near-exactly limit k x v held).0 q in h v w.0 w.1 w.2),
-  )
-    where
-      go : (w : Whole) → ((v : ℤ) → w ≡ Whole.Near v → ⊥) → w ≡ Whole.Out
-      go Whole.Out h = refl
-      go (Whole.Near v) h = absurd (h v refl)
 
 -- of a sheet: 14 with the first number, in plant order, that shows 14, where its values are read to the end, R lies in S and each band is wide enough
 

@@ -44,8 +44,8 @@ use Rattle.promises.specs.Tables.Patterns.{Lands, works-exactly, staying, landin
 use Rattle.promises.specs.Tables.PlantRules.{judged-sizes, checked-as, controlled-as}
 use Rattle.promises.specs.Tables.Promise.{promise}
 use Rattle.promises.specs.Tables.TableForms.{form-known}
-use Rattle.promises.specs.Paper.Shows.{shows, refusing, no_mode, same-refusal, Some, number-exactly, signed-exactly, tried-exactly, written-exactly, walk-exactly, verdict-exactly, answer-exactly, accepted-some, refused-some, mode-some, call-some}
-use Rattle.promises.specs.Paper.Told.{checker-some, controller-some}
+use Rattle.promises.specs.Paper.Shows.{shows, refusing, no_mode, same-refusal, Some, number-exactly, signed-exactly, tried-exactly, written-exactly, walk-exactly, verdict-exactly, accepted-some, refused-some}
+use Rattle.promises.specs.Paper.Told.{checker-some}
 
 -- ---- S1: 0 with the value and the place behind it exactly where the number's bytes stand there, and else 1 there
 
@@ -155,17 +155,6 @@ promise-shown plant table a run =
     let p = (promise plant table ((checked-exactly plant table).1 ((accepted-shown plant table).0 a))).1 in
     let w = p.answered run in
     (w.0, w.1, ap answer_shown w.2, w.3)
-
--- of any call: what is shown says which answer it is
-module _ (plant table : List ℕ) (st : State) (x : List ℤ) where
-  pub mode-answered-shown : (u : ℕ) (then : State)
-      → (answer_shown (controlled plant table st x) ≡ shows 0 0 0 (pos u ∷ pos then.place ∷ pos then.left ∷ [])) ↔ (controlled plant table st x ≡ Answer.Mode u then)
-  mode-answered-shown u then = answer-exactly (controlled plant table st x) (Answer.Mode u then) (controller-some plant table st x) (mode-some u then)
-
-  -- a refused one returns idle, with no mode
-  pub call-refused-shown : (e : Refusal) → Some e
-      → (answer_shown (controlled plant table st x) ≡ refusing e no_mode) ↔ (controlled plant table st x ≡ Answer.Refused e)
-  call-refused-shown e s = answer-exactly (controlled plant table st x) (Answer.Refused e) (controller-some plant table st x) (call-some e s)
 
 -- ---- S6 and S8 in their parts, which show what they pass on
 

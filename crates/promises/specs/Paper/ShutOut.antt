@@ -19,10 +19,10 @@ use Rattle.meaning.specs.Files.{good}
 use Rattle.meaning.specs.Plants.{Plant, plant_of, plant_judged, root_of}
 use Rattle.meaning.specs.Refusals.{leaves, no_table}
 use Rattle.meaning.specs.Runs.{start, sample}
-use Rattle.meaning.specs.Tables.{rules_of, checked, safe_in, starts_in, TableRun}
+use Rattle.meaning.specs.Tables.{rules_of, checked, starts_in, TableRun}
 use Rattle.meaning.specs.Trees as Y
 use Rattle.meaning.specs.Trees.{tile}
-use Rattle.promises.specs.Paper.AsStated.{Checker, Maker, Controller, Laid, AcceptsWorking, KeepsPromise, Tells, DefinedTable, Makes, Answers}
+use Rattle.promises.specs.Paper.AsStated.{Checker, Maker, Controller, Laid, AcceptsWorking, Tells, DefinedTable, Makes, Answers}
 use Rattle.promises.specs.Tables.Checked.{Tiled, checked-exactly}
 use Rattle.promises.specs.Tables.Made.{made-exactly}
 use Rattle.promises.specs.Tables.Patterns as S
@@ -50,7 +50,7 @@ unfolding computing
 accepted₁ = refl
 
 -- a reading of one count
-abbrev just : ℕ → List ℤ
+abbrev pub just : ℕ → List ℤ
 just x = pos x ∷ []
 
 -- ---- a checker that refuses all tables: demand 3, last sentence, at line 1's table
@@ -72,7 +72,7 @@ laid₄ = record {
 }
 
 -- From 225 mode 1 leads to 232, and the controller is idle again: 10·232 − (9·225 + 300) = −5.
-run₄ : TableRun P table₄ idle (just 232)
+pub run₄ : TableRun P table₄ idle (just 232)
 unfolding computing
 run₄ = sample {x = just 225} {u = 1} (start refl) refl refl
 
@@ -80,18 +80,10 @@ run₄' : TableRun P' table₄ idle (just 232)
 unfolding computing
 run₄' = sample {x = just 225} {u = 1} (start refl) refl refl
 
--- which P's S does not hold
-pub leaves-safe : (most : ℕ) → Promised P table₄ most → ⊥
-unfolding computing
-leaves-safe most h = let e : safe_in P (just 232) ≡ true = h.in-safe run₄ in never e
-
 -- and which the S of P' holds, but not its R
 pub misses-root : (most : ℕ) → Promised P' table₄ most → ⊥
 unfolding computing
 misses-root most h = let e : starts_in P' (just 232) ≡ true = h.in-root run₄' in never e
-
-pub accepts-all : (check : Checker) → ((plant table : List ℕ) → check plant table ≡ Verdict.Accepted) → KeepsPromise check → ⊥
-accepts-all check all demand = let w = demand P table₄ (all P table₄) in leaves-safe _ w.1
 
 -- ---- a maker that always says 9, or writes nothing: demand 2, existence and bytes, at line 1
 

@@ -3,7 +3,7 @@
 -- controller the plant's own refusal, or, the plant being good, the table's: the checker 1, 2, 6, 7 and 8, the controller 1, 2, 6, 11 and 12. Places and steps are
 -- as page Telling says. And what is shown is 0 exactly where it is accepted, written, answered. Of all inputs. Relies on pages Faults, WalkTold and Made; that each
 -- of these numbers is told of some input is page EachTold. Which refusal it is the definitions say.
-use Rattle.std.specs.Prelude.{ℕ, zero, suc, ◌≤◌, ◌≡◌, Bool, true, false, List, [], ◌∷◌, ◌↔◌, leb, eqb, length, ℤ}
+use Rattle.std.specs.Prelude.{ℕ, ◌≤◌, ◌≡◌, Bool, true, false, List, [], ◌∷◌, ◌↔◌, leb, eqb, length, ℤ}
 use Rattle.std.proofs.Math.Path.{refl}
 use Rattle.std.proofs.Common.{ap, arith}
 use Rattle.std.proofs.lemmas.List.{length-map}
@@ -14,14 +14,13 @@ use Rattle.laws.specs.Tabs.{length-tab}
 use Rattle.laws.specs.Tests.{never}
 use Rattle.meaning.specs.declared.Sheet.{Sheet}
 use Rattle.meaning.specs.declared.Refusal.{Refusal}
-use Rattle.meaning.specs.declared.Found.{Found}
 use Rattle.meaning.specs.declared.Walk.{Walk}
 use Rattle.meaning.specs.declared.Verdict.{Verdict}
 use Rattle.meaning.specs.declared.Written.{Written}
 use Rattle.meaning.specs.declared.State.{State}
 use Rattle.meaning.specs.declared.Answer.{Answer}
 use Rattle.meaning.specs.Refusals.{Shown, bad_state, short, verdict_shown, written_shown, answer_shown}
-use Rattle.meaning.specs.Boxes.{Side, side, side_at, sides_of, fits}
+use Rattle.meaning.specs.Boxes.{Side, side, fits}
 use Rattle.meaning.specs.Buffers.{left, refused_with}
 use Rattle.meaning.specs.Files.{Judged, good, bad, file_judged}
 use Rattle.meaning.specs.Plants as P
@@ -33,8 +32,7 @@ use Rattle.meaning.specs.Tables as T
 use Rattle.meaning.specs.Tables.{form_of, reading_of, rules_of, on_plant, checked, made, maker_left, controlled}
 use Rattle.meaning.specs.Verdicts as W
 use Rattle.meaning.specs.Verdicts.{walk, header, table_end, verdict}
-use Rattle.meaning.specs.Control as C
-use Rattle.meaning.specs.Control.{state_at, mode_at, on_found, find, can_run, inside, state_call, call}
+use Rattle.meaning.specs.Control.{inside}
 use Rattle.promises.specs.Tables.Boxes.{points, points-fit}
 use Rattle.promises.specs.Sheets.Faults.{lies-size, dimension-in, plant_numbers, plant-told, plant_value_numbers, plant-file-told, sheet_numbers, sheet-told, sheet_value_numbers, sheet-file-told}
 use Rattle.promises.specs.Files.Judged.{judged-sound}
@@ -43,7 +41,7 @@ use Rattle.promises.specs.Files.PlantFiles.{plant_file}
 use Rattle.promises.specs.Sheets.SheetFiles.{sheet_file}
 use Rattle.promises.specs.Paper.Shows.{refusing, no_mode, Some}
 use Rattle.promises.specs.Files.Telling.{one_of, are_of, Place, TellingBy, Telling, SheetTelling, guard-keeps, told_more, not-told}
-use Rattle.promises.specs.Tables.WalkTold.{number-keeps, FoundTells, WalkTells, walk-keeps, table-told, header-tells, walk-tells, find-tells, rule-tells}
+use Rattle.promises.specs.Tables.WalkTold.{WalkTells, walk-keeps, table-told, header-tells, walk-tells, rule-tells}
 
 -- ---- the numbers, besides those of a plant and of a sheet (page Faults); those of checker and controller are about the table
 
@@ -93,35 +91,14 @@ module _ (r : Rules) (s : List ℕ) where
   AnswerTells (Answer.Mode u then) = Unit {0}
   AnswerTells (Answer.Refused e) = Telling controller_numbers (length s) e
 
-  state-told : Telling controller_numbers (length s) bad_state
+  pub state-told : Telling controller_numbers (length s) bad_state
   state-told = record { number = refl; place = refl; step = refl }
-
-  mode-tells : (place left : ℕ) → AnswerTells (mode_at s place left)
-  mode-tells place zero = state-told
-  mode-tells place (suc m) = number-keeps AnswerTells s place (λ u next. Answer.Mode u (state_at next m)) state-told (λ u next l. tt)
-
-  found-tells : (f : Found) → FoundTells controller_numbers (length s) f → AnswerTells (on_found s f)
-  found-tells (Found.Refused e) h = h
-  found-tells (Found.Tile from k) h = mode-tells from k
 
   -- R and S have at most four dimensions
   module _ (few : (x : r.Reading) → (length (r.fits r.root x) ≤ 4) × (length (r.fits r.safe x) ≤ 4)) (x : r.Reading) where
-    inside-tells : (b : r.Box) (rest : Unit {0} → Answer) → length (r.fits b x) ≤ 4 → AnswerTells (rest tt) → AnswerTells (inside r b x rest)
+    pub inside-tells : (b : r.Box) (rest : Unit {0} → Answer) → length (r.fits b x) ≤ 4 → AnswerTells (rest tt) → AnswerTells (inside r b x rest)
     inside-tells b rest l h =
         guard-keeps AnswerTells (holds r b x) rest (λ e. record { number = refl; place = dimension-in (r.fits b x) l e; step = refl }) (λ _. h)
-
-    state-tells : (at place left : ℕ) → at ≤ length s → AnswerTells (state_call r s at place left x)
-    state-tells at place zero l =
-        guard-keeps AnswerTells (eqb place 0) _ (λ _. state-told)
-        (λ _. inside-tells r.root _ (few x).0 (found-tells (find r r.D s at r.root x) (find-tells controller_numbers s refl refl r x r.D at r.root l)))
-    state-tells at place (suc m) l =
-        guard-keeps AnswerTells (can_run r.K r.N s place (suc m)) _ (λ _. state-told) (λ _. inside-tells r.safe _ (few x).1 (mode-tells place (suc m)))
-
-    pub call-tells : (st : State) → AnswerTells (call r s st x)
-    unfolding C.call
-    call-tells st =
-        walk-keeps controller_numbers (length s) AnswerTells (header r.form r.n s) Answer.Refused _ (header-tells controller_numbers s refl refl refl r.form r.n) (λ e t. t)
-        (λ at l. state-tells at st.place st.left l)
 
 -- a box of at most four sides has as many tests for a reading
 pub fits-size : (n : ℕ) → n ≤ 4 → (b : List Side) → length b ≤ 4 → (x : List ℤ) → length (fits b (reading_of n x)) ≤ 4
@@ -147,23 +124,6 @@ checker-told plant table e = go (plant_judged plant) refl
     go : (j : Judged Plant) → plant_judged plant ≡ j → on_plant j Verdict.Refused (λ p. verdict (rules_of (form_of table) p) table) ≡ Verdict.Refused e → Told plant table checker_numbers e
     go (bad f) q a = let z : f ≡ e = cc in let w = rw z at q in of-plant w (plant-told plant e w)
     go (good p) q a = of-table p q (of (rules_of (form_of table) p) (verdict (rules_of (form_of table) p) table) (verdict-tells (rules_of (form_of table) p) table (judged-sound plant p q).ranges.k-high) a)
-
-pub controller-told : (plant table : List ℕ) (st : State) (x : List ℤ) (e : Refusal) → controlled plant table st x ≡ Answer.Refused e
-    → Told plant table controller_numbers e
-unfolding T.controlled
-controller-told plant table st x e = go (plant_judged plant) refl
-  where
-    of : (r : Rules) (v : Answer) → AnswerTells r table v → v ≡ Answer.Refused e → Telling controller_numbers (length table) e
-    of r (Answer.Mode u then) h a = never cc
-    of r (Answer.Refused f) h a = let z : f ≡ e = cc in rw z at h
-
-    go : (j : Judged Plant) → plant_judged plant ≡ j → on_plant j Answer.Refused (λ p. call (rules_of (form_of table) p) table st x) ≡ Answer.Refused e → Told plant table controller_numbers e
-    go (bad f) q a = let z : f ≡ e = cc in let w = rw z at q in of-plant w (plant-told plant e w)
-    go (good p) q a =
-        let n = (judged-sound plant p q).ranges.n-high in
-        let sides : (lo hi : List ℤ) → length (sides_of p.n lo hi) ≤ 4 = λ lo hi. omega (arith, length-tab (side_at lo hi) p.n 0) in
-        of-table p q (of (rules_of (form_of table) p) (call (rules_of (form_of table) p) table st x) (call-tells (rules_of (form_of table) p) table
-        (λ y. (fits-size p.n n (root_of p) (sides p.rlo p.rhi) y, fits-size p.n n (safe_of p) (sides p.slo p.shi) y)) x st) a)
 
 -- ---- writers into a lent buffer: 10 besides
 
@@ -246,7 +206,7 @@ module _ (Tells : Refusal → Type 0) (some : (e : Refusal) → Tells e → Some
       let t = h e refl in
       record { zero-exactly = (λ z. absurd (some e t z), λ w. let z = w.1 in never cc); or-told = λ _. (e, refl, t) }
 
-  answer-shows : (a : Answer) → ((e : Refusal) → a ≡ Answer.Refused e → Tells e) → Showing ((u : ℕ) × (then : State) × (a ≡ Answer.Mode u then)) Tells no_mode (answer_shown a)
+  pub answer-shows : (a : Answer) → ((e : Refusal) → a ≡ Answer.Refused e → Tells e) → Showing ((u : ℕ) × (then : State) × (a ≡ Answer.Mode u then)) Tells no_mode (answer_shown a)
   answer-shows (Answer.Mode u then) h = record { zero-exactly = (λ _. (u, then, refl), λ _. refl); or-told = λ z. absurd (z refl) }
   answer-shows (Answer.Refused e) h =
       let t = h e refl in
@@ -256,15 +216,12 @@ module _ (Tells : Refusal → Type 0) (some : (e : Refusal) → Tells e → Some
 telling-some : {column : List Place} (numbers : List ℕ) (size : ℕ) → one_of numbers 0 ≡ false → (e : Refusal) → TellingBy column numbers size e → Some e
 telling-some numbers size h e t = not-told t 0 h
 
-told-some : (plant table numbers : List ℕ) → one_of numbers 0 ≡ false → (e : Refusal) → Told plant table numbers e → Some e
+pub told-some : (plant table numbers : List ℕ) → one_of numbers 0 ≡ false → (e : Refusal) → Told plant table numbers e → Some e
 told-some plant table numbers h e (of-plant q t) = not-told t 0 refl
 told-some plant table numbers h e (of-table p q t) = not-told t 0 h
 
 pub checker-some : (plant table : List ℕ) (e : Refusal) → checked plant table ≡ Verdict.Refused e → Some e
 checker-some plant table e q = told-some plant table checker_numbers refl e (checker-told plant table e q)
-
-pub controller-some : (plant table : List ℕ) (st : State) (x : List ℤ) (e : Refusal) → controlled plant table st x ≡ Answer.Refused e → Some e
-controller-some plant table st x e q = told-some plant table controller_numbers refl e (controller-told plant table st x e q)
 
 pub plant-shows : (plant : List ℕ) → Showing ((plant_read plant).verdict ≡ Verdict.Accepted) (Telling plant_numbers (length plant)) [] (verdict_shown (plant_read plant).verdict)
 plant-shows plant = verdict-shows (Telling plant_numbers (length plant)) (telling-some plant_numbers (length plant) refl) (plant_read plant).verdict (go (plant_judged plant) refl)
@@ -300,12 +257,6 @@ maker-shows plant form buf =
 pub checker-shows : (plant table : List ℕ)
     → Showing (checked plant table ≡ Verdict.Accepted) (Told plant table checker_numbers) [] (verdict_shown (checked plant table))
 checker-shows plant table = verdict-shows (Told plant table checker_numbers) (told-some plant table checker_numbers refl) (checked plant table) (checker-told plant table)
-
-pub controller-shows : (plant table : List ℕ) (st : State) (x : List ℤ)
-    → Showing ((u : ℕ) × (then : State) × (controlled plant table st x ≡ Answer.Mode u then)) (Told plant table controller_numbers) no_mode
-    (answer_shown (controlled plant table st x))
-controller-shows plant table st x =
-    answer-shows (Told plant table controller_numbers) (told-some plant table controller_numbers refl) (controlled plant table st x) (controller-told plant table st x)
 
 -- the writers of values: places are those of the file that they would be
 pub plant-writer-shows : (p : Plant) (buf : List ℕ)

@@ -2,9 +2,9 @@
 -- the nearest one, halves away from zero. Said without fractions: what is divided by u stands beside u times the whole number.
 -- Relies on lib.Ieee for which floats a format holds; every result of f64 is one.
 use Prim.Native.Nat.{ℕ, zero, suc, ◌+◌, ◌-◌, ◌*◌, ◌/◌, ◌%◌, ◌^◌, ◌≤◌, ◌<◌}
-use Rattle.std.specs.Prelude.{◌≡◌, Bool, true, false, ◌&&◌, cond, ◌↔◌, T, eqb, ltb, leb, ℤ, negsuc, ◌+ℤ◌, ◌-ℤ◌, ◌*ℤ◌, Float}
+use Rattle.std.specs.Prelude.{◌≡◌, Bool, true, false, ◌&&◌, cond, T, eqb, ltb, leb, ℤ, negsuc, ◌+ℤ◌, ◌-ℤ◌, ◌*ℤ◌, Float}
 use Rattle.std.proofs.Math.Path.{refl, ap}
-use Rattle.std.proofs.Common.{sym, ◌∙◌, subst, le_of_suc-le-suc, lt_of_not-le, lt_irrefl, lt_of_lt_of_le, div-one, mul-one, zero-mul, mul_assoc, mul_left_comm, mul_comm, add-mul, mod-lt, div-add-mod', arith, leb→le, leb-true, le-leb, pow-add, pow_pos}
+use Rattle.std.proofs.Common.{sym, ◌∙◌, le_of_suc-le-suc, lt_of_not-le, lt_irrefl, lt_of_lt_of_le, div-one, mul-one, zero-mul, mul_assoc, mul_left_comm, mul_comm, add-mul, mod-lt, div-add-mod', arith, leb→le, leb-true, pow-add}
 use Rattle.std.proofs.Math.Nat.{div-eq_of_lt}
 use Rattle.std.proofs.Math.Pow.{pow-lt}
 use Rattle.std.proofs.lemmas.Nat.{shl-shr}
@@ -15,7 +15,6 @@ use Rattle.std.specs.Float.Ieee.{up, down, fits}
 use Rattle.std.specs.Float.Ieee.Digits.{back}
 use Rattle.std.specs.Float.Ieee.Exact.{HasValue}
 use Rattle.std.specs.Float.Ieee.Fits.{down_pos, and_l, and_r}
-use Rattle.std.specs.Float.Ieee.Nearest.{div_same}
 use Rattle.laws.specs.Integers.{P, N, zarith, sub, neg, abs, apart, abs_neg, mul-neg, mul-add, abs-sub, abs-mul}
 use Rattle.laws.specs.Tests.{never}
 use Rattle.meaning.specs.declared.Whole.{Whole}
@@ -33,7 +32,7 @@ pub signed-size : (s : Bool) (a : ℕ) → nat_abs (signed_by s a) ≡ a
 signed-size false a = refl
 signed-size true a = abs_neg (pos a)
 
-signed-times : (s : Bool) (k a : ℕ) → pos k *ℤ signed_by s a ≡ signed_by s (k * a)
+pub signed-times : (s : Bool) (k a : ℕ) → pos k *ℤ signed_by s a ≡ signed_by s (k * a)
 signed-times false k a = refl
 signed-times true k a = mul-neg (pos k) (pos a)
 
@@ -86,7 +85,7 @@ crossed k n d a u h =
     rw (add-mul (2 * (k * n)) d (2 * u), add-mul (2 * (k * a)) u (2 * d)) (omega arith)
 
 -- no farther than a half, a half counted up
-half_up : (t u : ℕ) → 0 < u → (2 * (u * ((2 * t + u) / (2 * u))) ≤ 2 * t + u) × (2 * t < 2 * (u * ((2 * t + u) / (2 * u))) + u)
+pub half_up : (t u : ℕ) → 0 < u → (2 * (u * ((2 * t + u) / (2 * u))) ≤ 2 * t + u) × (2 * t < 2 * (u * ((2 * t + u) / (2 * u))) + u)
 half_up t u p =
     let v = (2 * t + u) / (2 * u) in
     let w : v * (2 * u) + (2 * t + u) % (2 * u) ≡ 2 * t + u = div-add-mod' (2 * t + u) (2 * u) in
@@ -97,7 +96,7 @@ half_up t u p =
     parts : (z uv r : ℕ) → z ≡ 2 * uv → z + r ≡ 2 * t + u → r < 2 * u → (2 * uv ≤ 2 * t + u) × (2 * t < 2 * uv + u)
     parts z uv r e w m = (omega arith, omega arith)
 
-signed-nearest : (s : Bool) (u t v : ℕ) → 0 < u → 2 * (u * v) ≤ 2 * t + u → 2 * t < 2 * (u * v) + u → Nearest u (signed_by s t) (signed_by s v)
+pub signed-nearest : (s : Bool) (u t v : ℕ) → 0 < u → 2 * (u * v) ≤ 2 * t + u → 2 * t < 2 * (u * v) + u → Nearest u (signed_by s t) (signed_by s v)
 signed-nearest s u t v p h l = record {
   half = rw (signed-times s u v, signed-gap s (u * v) t) (omega arith);
   away = λ e. rw (signed-size s t, signed-size s v) (up-side (u * v) (rw (signed-times s u v, signed-gap s (u * v) t) at e) h l);
@@ -106,17 +105,9 @@ signed-nearest s u t v p h l = record {
     up-side : (uv : ℕ) → 2 * (uv - t + (t - uv)) ≡ u → 2 * uv ≤ 2 * t + u → 2 * t < 2 * uv + u → t < uv
     up-side uv e h l = omega arith
 
-nearest-is : (s : Bool) (k m : ℕ) (e : ℤ) (u a : ℕ) → 0 < u → m * up e * u ≡ a * down e → Nearest u (pos k *ℤ signed_by s a) (signed_by s (nearest k m e))
-nearest-is s k m e u a p h =
-    let w = half_up (k * a) u p in
-    let d : 0 < 2 * down e = omega (arith, down_pos e) in
-    let q : nearest k m e ≡ (2 * (k * a) + u) / (2 * u) =
-    div_same (2 * (k * (m * up e)) + down e) (2 * down e) (2 * (k * a) + u) (2 * u) d (omega arith) (crossed k (m * up e) (down e) a u h) in
-    rw (signed-times s k a, q) (signed-nearest s u (k * a) ((2 * (k * a) + u) / (2 * u)) p w.0 w.1)
-
 -- ---- what `whole_of` answers
 
-out-near : {A : Type 0} {v : ℤ} → Whole.Out ≡ Whole.Near v → A
+pub out-near : {A : Type 0} {v : ℤ} → Whole.Out ≡ Whole.Near v → A
 out-near e = never (cc)
 
 pub limited-was : (limit : ℕ) (w v : ℤ) → limited_to limit w ≡ Whole.Near v → (w ≡ v) × (nat_abs v ≤ limit)
@@ -132,15 +123,6 @@ unfolding S.whole_of
 whole-limit limit k nan v h = out-near h
 whole-limit limit k (inf s) v h = out-near h
 whole-limit limit k (fin s m e) v h = (limited-was limit (signed_by s (nearest k m e)) v h).1
-
--- and of a float that binary64 holds the whole number nearest k times it
-pub whole-nearest : (limit k : ℕ) (x : Float) (v : ℤ) → T (fits binary64 x) → whole_of limit k x ≡ Whole.Near v → Nearest units (pos k *ℤ units_of x) v
-unfolding S.whole_of S.units_of
-whole-nearest limit k nan v t h = out-near h
-whole-nearest limit k (inf s) v t h = out-near h
-whole-nearest limit k (fin s m e) v t h =
-    let size = m * up e * units / down e in
-    subst (Nearest units (pos k *ℤ signed_by s size)) (limited-was limit (signed_by s (nearest k m e)) v h).0 (nearest-is s k m e units size (pow_pos 1074) (units-exact s m e t))
 
 -- ---- no whole number is nearer, and there is one nearest
 
@@ -215,17 +197,3 @@ module _ (u : ℕ) (z : ℤ) where
           absurd (one_side p v w a (n.away a) b (m.away b) (omega (arith, spread v w)))
 
 -- ---- so the number is told exactly: it is the nearest one of a finite float, and within the limit
-
-pub near-exactly : (limit k : ℕ) (x : Float) (v : ℤ) → T (fits binary64 x)
-    → (whole_of limit k x ≡ Whole.Near v) ↔ ((finite x ≡ true) × Nearest units (pos k *ℤ units_of x) v × (nat_abs v ≤ limit))
-unfolding S.whole_of S.units_of S.finite
-near-exactly limit k nan v t = (λ h. out-near h, λ w. never w.0)
-near-exactly limit k (inf s) v t = (λ h. out-near h, λ w. never w.0)
-near-exactly limit k (fin s m e) v t = (
-  λ h. (refl, whole-nearest limit k (fin s m e) v t h, whole-limit limit k (fin s m e) v h),
-  λ w.
-      let size = m * up e * units / down e in
-      let here = nearest-is s k m e units size (pow_pos 1074) (units-exact s m e t) in
-      let q : signed_by s (nearest k m e) ≡ v = one-nearest units (pos k *ℤ signed_by s size) (pow_pos 1074) v (signed_by s (nearest k m e)) w.1 here in
-      rw (q, le-leb (nat_abs v) limit w.2) refl,
-)

@@ -2,9 +2,9 @@
 -- count are finite, time is above 0, and loss, exchanges and p are not below 0. The order is lib.Ieee's, in which minus zero equals 0: it may be a loss, an
 -- exchange or p, and is no time. Relies on pages Forms and Framed; the whole numbers are page SheetSound. What is made of the floats is left out.
 use Prim.Native.Nat.{ℕ, zero, suc, ◌+◌, ◌-◌, ◌*◌, ◌≤◌, ◌<◌}
-use Rattle.std.specs.Prelude.{◌≡◌, refl, Bool, true, false, not, List, get_or, ℤ, pos, nat_abs, Float}
+use Rattle.std.specs.Prelude.{◌≡◌, refl, Bool, true, false, not, List, ℤ, pos, nat_abs, Float}
 use Rattle.std.proofs.Math.Path.{sym, ap}
-use Rattle.std.proofs.Common.{◌∙◌, subst, get_or-drop, drop-drop}
+use Rattle.std.proofs.Common.{◌∙◌, get_or-drop, drop-drop}
 use native.Mathlib.Omega.{arith}
 use Rattle.std.proofs.Math.ListN.{drop}
 use Rattle.std.specs.Float.Ieee as Ieee
@@ -16,17 +16,12 @@ use Rattle.laws.specs.Tests.{never, first, second}
 use Rattle.meaning.specs.declared.Emitter.{Emitter}
 use Rattle.meaning.specs.declared.Room.{Room}
 use Rattle.meaning.specs.declared.Sheet.{Sheet}
-use Rattle.meaning.specs.Files.{Form, end, values_of, good}
-use Rattle.meaning.specs.Plants as P
-use Rattle.meaning.specs.Plants.{counted, from, times, bands}
+use Rattle.meaning.specs.Files.{Form}
+use Rattle.meaning.specs.Plants.{counted, from, times}
 use Rattle.meaning.specs.Sheets as S
 use Rattle.meaning.specs.Sheets.{finite, zero_f, float_of, floating, any_float, not_below, above, emitter_form, room_form, sheet_form, no_room, emitter_of, emitter_size, room_of, rooms_of, sheet_of, room_at, exchange_at, sheet_judged}
-use Rattle.promises.specs.Files.Files.{file-writes}
 use Rattle.promises.specs.Files.Forms as F
 use Rattle.promises.specs.Files.Forms.{Right, values-right, times-right}
-use Rattle.promises.specs.Files.Framed.{bands-right, framed}
-use Rattle.promises.specs.Files.Related.{good-sheet}
-use Rattle.promises.specs.Sheets.SheetShapes.{floats_form, rooms-padded}
 
 -- ---- the sentences
 
@@ -70,18 +65,18 @@ not-true true e = never e
 not-true false e = refl
 
 -- it passed its field's tests
-record Passed (ok : Float → Bool) (x : Float) : Type 0 where
-  is_finite : finite x ≡ true
-  is_ok : ok x ≡ true
+pub record Passed (ok : Float → Bool) (x : Float) : Type 0 where
+  pub is_finite : finite x ≡ true
+  pub is_ok : ok x ≡ true
 
 not-below : (x : Float) → Passed not_below x → lt x zero_f ≡ false
 not-below x h = not-true (lt x zero_f) h.is_ok
 
 module _ (vs : List ℤ) where
-  abbrev float_in : ℕ → Float
+  abbrev pub float_in : ℕ → Float
   float_in i = float_of (at vs i)
 
-  floating-right : (ok : Float → Bool) (rest : Form) (i : ℕ) → Right (floating ok rest) vs i → Passed ok (float_in i) × Right rest vs (i + 1)
+  pub floating-right : (ok : Float → Bool) (rest : Form) (i : ℕ) → Right (floating ok rest) vs i → Passed ok (float_in i) × Right rest vs (i + 1)
   unfolding F.Right
   floating-right ok rest i h =
       let x = float_in i in
@@ -116,10 +111,10 @@ module _ (vs : List ℤ) where
 
   module _ (n : ℕ) (some : 1 ≤ n) where
     -- how many values the room has
-    abbrev room_size : ℕ → ℕ
+    abbrev pub room_size : ℕ → ℕ
     room_size i = n + 1 + emitter_size (nat_abs (at (drop i vs) n))
 
-    room-right : (rest : Form) (i : ℕ) → Right (room_form n rest) vs i → PhysicalRoom n (room_of n (drop i vs)) × Right rest vs (i + room_size i)
+    pub room-right : (rest : Form) (i : ℕ) → Right (room_form n rest) vs i → PhysicalRoom n (room_of n (drop i vs)) × Right rest vs (i + room_size i)
     unfolding S.room_form
     room-right rest i h =
         let ws = drop i vs in
@@ -144,39 +139,3 @@ module _ (vs : List ℤ) where
           },
           rw size c.1,
         )
-
-    rooms-right : (m i : ℕ) → Right (times m (room_form n) end) vs i → (k : ℕ) → k < m → PhysicalRoom n (get_or (rooms_of n m (drop i vs)) k no_room)
-    unfolding P.times S.rooms_of
-    rooms-right zero i h k l = absurd (omega arith)
-    rooms-right (suc m) i h zero l = (room-right (times m (room_form n) end) i h).0
-    rooms-right (suc m) i h (suc k) l = rw (drop-drop (room_size i) i vs) (rooms-right m (i + room_size i) (room-right (times m (room_form n) end) i h).1 k (omega arith))
-
--- ---- the whole form
-
-right-physical : (vs : List ℤ) → Right sheet_form vs 0 → Physical (sheet_of vs)
-unfolding S.sheet_form S.sheet_of
-right-physical vs h =
-    let n = nat_abs (at vs 1) in
-    let w = framed 1 1_000 (λ form n r. bands n (floats_form n)) vs h in
-    let behind = (bands-right vs n (floats_form n) (6 + 4 * n) w.behind).1 in
-    let e : 6 + 4 * n + 2 * n ≡ 6 + 6 * n = omega arith in
-    let t = floating-right vs above (floating any_float (times n (room_form n) end)) (6 + 6 * n) (rw e at behind) in
-    let o = floating-right vs any_float (times n (room_form n) end) (6 + 6 * n + 1) t.1 in
-    let d : 7 + 6 * n ≡ 6 + 6 * n + 1 = omega arith in
-    let f : 8 + 6 * n ≡ 6 + 6 * n + 1 + 1 = omega arith in
-    record {
-      time-finite = t.0.is_finite;
-      time-above = t.0.is_ok;
-      outside-finite = rw d o.0.is_finite;
-      rooms = λ i l.
-          subst (PhysicalRoom n) (sym (rooms-padded n (drop (8 + 6 * n) vs) i l))
-          (rw f (rooms-right vs n w.ranges.n-low n (6 + 6 * n + 1 + 1) o.1 i l));
-    }
-
--- row 13: of every sheet that was judged good
-pub judged-physical : (s : List ℕ) (h : Sheet) → sheet_judged s ≡ good h → Physical h
-unfolding S.sheet_judged
-judged-physical s h e =
-    let g = good-sheet (values_of sheet_form s) h e in
-    let w = file-writes sheet_form s g.was in
-    subst Physical g.sheet (right-physical g.values (values-right sheet_form s 0 g.values g.next w.0))

@@ -2,7 +2,7 @@
 -- exact one than a half. From a reading of counts within ± M, what the exact row with a band allows, the whole row allows with the band wider by
 -- the ceiling of (n·M + 1)/2 at each end. Any row, so the entries may differ from mode to mode. What a sheet's rows are is page SheetSteps.
 -- Relies on laws' page Integers.
-use Rattle.std.specs.Prelude.{ℕ, suc, ◌+◌, ◌*◌, ◌≤◌, ◌<◌, ◌≡◌, refl, true, length, ℤ, neg_ℤ, nat_abs, ◌+ℤ◌, ◌-ℤ◌, ◌*ℤ◌, ◌≤ℤ◌}
+use Rattle.std.specs.Prelude.{ℕ, suc, ◌+◌, ◌*◌, ◌≤◌, ◌<◌, ◌≡◌, refl, length, ℤ, neg_ℤ, nat_abs, ◌+ℤ◌, ◌-ℤ◌, ◌*ℤ◌, ◌≤ℤ◌}
 use Rattle.std.proofs.Math.Path.{sym, ap}
 use Rattle.std.proofs.Common.{◌∙◌, mul-le-mul_right, mul_comm}
 use mathlib.Core.List.{List, [], ◌∷◌}
@@ -11,8 +11,7 @@ use native.Mathlib.Omega.{arith}
 use Rattle.std.proofs.Math.IntN.{pos, *ℤ_comm}
 use Rattle.laws.specs.Every as E
 use Rattle.laws.specs.Every.{Every}
-use Rattle.laws.specs.Integers.{P, N, zarith, add, sub, mul, neg, abs, mul-add, mul-neg, mul_assoc, abs-add, abs-mul}
-use Rattle.laws.specs.Tests.{orders, ordered}
+use Rattle.laws.specs.Integers.{P, N, zarith, add, sub, mul, neg, mul-add, mul-neg, mul_assoc, abs-add, abs-mul}
 use Rattle.meaning.specs.Images as I
 use Rattle.meaning.specs.Images.{Row, dot, reached}
 
@@ -63,7 +62,7 @@ module _ (u : ℕ) where
   -- ---- what is allowed
 
   -- a factor above 0 taken away
-  cancel : 0 < u → (a b : ℤ) → (pos u *ℤ a) ≤ℤ (pos u *ℤ b) → a ≤ℤ b
+  pub cancel : 0 < u → (a b : ℤ) → (pos u *ℤ a) ≤ℤ (pos u *ℤ b) → a ≤ℤ b
   cancel p a b h =
       let l : u * (P a + N b) < u * suc (P b + N a) = omega (zarith, mul (pos u) a, mul (pos u) b) in
       let k = lt_of_mul-lt-mul_left u l in
@@ -78,17 +77,17 @@ module _ (u : ℕ) where
 
   module _ (positive : 0 < u) (M wider : ℕ) (cs es : List ℤ) (b f : ℤ) (near : Halves cs es) (near-offset : Close 1 b f)
       (enough : length cs * M + 1 ≤ 2 * wider) (q : ℕ) (x : List ℤ) (few : Every (λ z. nat_abs z ≤ M) x) where
-    gap : ℤ
+    pub gap : ℤ
     gap = pos u *ℤ (dot cs x +ℤ b) -ℤ (dot es x +ℤ f)
 
-    gap-size : nat_abs gap ≤ u * wider
+    pub gap-size : nat_abs gap ≤ u * wider
     unfolding gap
     gap-size =
         let h = close-sum (length cs * M) 1 (dot cs x) (dot es x) b f (dot-close M cs es x near few) near-offset in
         omega (arith, mul-le-mul_left u enough)
 
     -- what the whole row leaves, times u, is what the exact row leaves and the gap
-    residue : (y : ℤ) → pos u *ℤ (pos q *ℤ y -ℤ (dot cs x +ℤ b)) ≡ pos (q * u) *ℤ y -ℤ (dot es x +ℤ f) -ℤ gap
+    pub residue : (y : ℤ) → pos u *ℤ (pos q *ℤ y -ℤ (dot cs x +ℤ b)) ≡ pos (q * u) *ℤ y -ℤ (dot es x +ℤ f) -ℤ gap
     unfolding gap
     residue y =
         let d = dot cs x +ℤ b in
@@ -98,16 +97,3 @@ module _ (u : ℕ) where
         let w = pos (q * u) *ℤ y in
         let v = pos u *ℤ d in
         mul-add (pos u) t (neg_ℤ d) ∙ rw (s, mul-neg (pos u) d) (omega (zarith, add w (neg_ℤ v), neg v, sub w e, sub v e, sub (w -ℤ e) (v -ℤ e)))
-
-    pub widened : (low high y : ℤ) → reached (q * u) x (exactly es f low high) y ≡ true → reached q x (widely wider cs b low high) y ≡ true
-    widened low high y r =
-        let z = pos (q * u) *ℤ y -ℤ (dot es x +ℤ f) in
-        let t = pos q *ℤ y -ℤ (dot cs x +ℤ b) in
-        let k = orders (pos u *ℤ low) z z (pos u *ℤ high) r in
-        let c = residue y in
-        let l : (pos u *ℤ (low -ℤ pos wider)) ≤ℤ (pos u *ℤ t) =
-        rw (mul-add (pos u) low (neg_ℤ (pos wider)), mul-neg (pos u) (pos wider), c)
-        (omega (zarith, k, sub z gap, add (pos u *ℤ low) (neg_ℤ (pos (u * wider))), neg (pos (u * wider)), gap-size, abs gap)) in
-        let h : (pos u *ℤ t) ≤ℤ (pos u *ℤ (high +ℤ pos wider)) =
-        rw (mul-add (pos u) high (pos wider), c) (omega (zarith, k, sub z gap, add (pos u *ℤ high) (pos (u * wider)), gap-size, abs gap)) in
-        ordered (cancel positive (low -ℤ pos wider) t l) (cancel positive t (high +ℤ pos wider) h)

@@ -3,39 +3,31 @@
 -- as page Rows says. And what is shown is 0 exactly where it is accepted, written, answered. Of all inputs. Relies on document 01's page Told for each table, and on
 -- ChainTold and Maker. Which refusal it is the definitions say.
 use Prim.Native.Nat.{ℕ, zero, suc, ◌+◌, ◌≤◌}
-use Rattle.std.specs.Prelude.{◌≡◌, Bool, true, false, List, [], ◌∷◌, eqb, ℤ, pos, length}
+use Rattle.std.specs.Prelude.{◌≡◌, true, false, List, [], ◌∷◌, eqb, ℤ, pos, length}
 use Rattle.std.proofs.Math.Path.{refl}
 use Rattle.std.proofs.Common.{arith}
 use Rattle.laws.specs.Every as E
-use Rattle.laws.specs.Guards.{choose}
-use Rattle.laws.specs.Tabs.{length-tab}
 use Rattle.laws.specs.Tests.{never}
 use Rattle.meaning.specs.declared.Refusal.{Refusal}
 use Rattle.meaning.specs.declared.Verdict.{Verdict}
 use Rattle.meaning.specs.declared.Written.{Written}
-use Rattle.meaning.specs.declared.State.{State}
-use Rattle.meaning.specs.declared.Answer.{Answer}
 use Rattle.meaning.specs.declared.StartState.{StartState}
 use Rattle.meaning.specs.declared.StartAnswer.{StartAnswer}
-use Rattle.meaning.specs.Boxes.{Side, side_at, fits}
-use Rattle.meaning.specs.Control.{idle, call}
 use Rattle.meaning.specs.Files.{good, values_at}
 use Rattle.meaning.specs.Plants.{Plant, plant_judged, root_of, safe_of}
-use Rattle.meaning.specs.Refusals.{broken, unfit, bad_state, moved, verdict_shown, written_shown, start_answer_shown}
-use Rattle.meaning.specs.Rules.{Rules, holds}
+use Rattle.meaning.specs.Refusals.{broken, unfit, moved, verdict_shown, written_shown, start_answer_shown}
+use Rattle.meaning.specs.Rules.{Rules}
 use Rattle.meaning.specs.Starts as S
 use Rattle.meaning.specs.Starts.{chain_form, above, on_start, box_rules, part, tables_at, start_checked, start_made, start_left, is_idle, answer_in, on_part, call_in, chosen_call, can_index, start_call, start_controlled}
-use Rattle.meaning.specs.Tables.{reading_of, form_of, on_plant}
+use Rattle.meaning.specs.Tables.{form_of, on_plant}
 use Rattle.meaning.specs.Verdicts.{table_end}
-use Rattle.promises.specs.Sheets.Faults.{dimension-in, plant-told}
+use Rattle.promises.specs.Sheets.Faults.{plant-told}
 use Rattle.promises.specs.Files.Judged.{judged-sound}
 use Rattle.promises.specs.Paper.Shows.{Some}
-use Rattle.promises.specs.Files.Sound.{Sound}
 use Rattle.promises.specs.Files.Telling.{one_of, are_of, Telling, guard-keeps, told_more}
-use Rattle.promises.specs.Paper.Told.{checker_numbers, controller_numbers, end-tells, AnswerTells, call-tells, fits-size, left-refused, Showing, verdict-shows, written-shows}
+use Rattle.promises.specs.Paper.Told.{checker_numbers, controller_numbers, end-tells, left-refused, Showing, verdict-shows, written-shows}
 use Rattle.promises.specs.Tables.WalkTold.{walk-keeps}
 use Rattle.promises.specs.Starts.Before.{plant-keeps, chain-keeps}
-use Rattle.promises.specs.Starts.Chains.{box_of, box-size}
 use Rattle.promises.specs.Starts.ChainTold.{early_numbers, chain-told, chain-inside, held-told}
 use Rattle.promises.specs.Starts.Maker.{start-made-told, start-made-exactly}
 use Rattle.promises.specs.Starts.Parts.{part-size, length-keeps}
@@ -58,7 +50,7 @@ abbrev VerdictIs : (Refusal → Type 0) → Verdict → Type 0
 VerdictIs T Verdict.Accepted = Unit {0}
 VerdictIs T (Verdict.Refused e) = T e
 
-abbrev AnswerIs : (Refusal → Type 0) → StartAnswer → Type 0
+abbrev pub AnswerIs : (Refusal → Type 0) → StartAnswer → Type 0
 AnswerIs T (StartAnswer.Mode u then) = Unit {0}
 AnswerIs T (StartAnswer.Refused e) = T e
 
@@ -67,12 +59,12 @@ module _ {T U : Refusal → Type 0} (h : (e : Refusal) → T e → U e) where
   verdict-more Verdict.Accepted t = t
   verdict-more (Verdict.Refused e) t = h e t
 
-  answer-more : (a : StartAnswer) → AnswerIs T a → AnswerIs U a
+  pub answer-more : (a : StartAnswer) → AnswerIs T a → AnswerIs U a
   answer-more (StartAnswer.Mode u then) t = t
   answer-more (StartAnswer.Refused e) t = h e t
 
 -- plant, chain and 15 come first
-begin-keeps : {A : Type 0} (P : A → Type 0) (refuse : Refusal → A) (plant start numbers : List ℕ) → are_of numbers early_numbers ≡ true
+pub begin-keeps : {A : Type 0} (P : A → Type 0) (refuse : Refusal → A) (plant start numbers : List ℕ) → are_of numbers early_numbers ≡ true
     → ((e : Refusal) → StartTold plant start numbers e → P (refuse e)) → (rest : Plant → List ℤ → ℕ → A)
     → ((p : Plant) → plant_judged plant ≡ good p → (vs : List ℤ) (next : ℕ) → next ≤ length start → P (rest p vs next))
     → P (on_plant (plant_judged plant) refuse λ p. on_start p start refuse (rest p))
@@ -104,7 +96,7 @@ module _ (s : List ℕ) where
       let in-file = place_in first size h in
       told_more (moved_told (length s) t first (in-file, ((λ p z. in-file p (omega arith)), (in-file, (in-file, (in-file, tt)))))) start_checker_numbers refl
 
-  controller-moved : (first size : ℕ) → first + size ≤ length s → (e : Refusal) → Telling controller_numbers (length (part s first size)) e
+  pub controller-moved : (first size : ℕ) → first + size ≤ length s → (e : Refusal) → Telling controller_numbers (length (part s first size)) e
       → StartTelling start_controller_numbers (length s) (moved first e)
   unfolding E.Every
   controller-moved first size h e t =
@@ -128,46 +120,16 @@ module _ (s : List ℕ) where
         (λ _. tables-tell m (suc i) (first + size) h)))
 
   -- one of them, by the controller
-  abbrev Answers : StartAnswer → Type 0
+  abbrev pub Answers : StartAnswer → Type 0
   Answers = AnswerIs (StartTelling start_controller_numbers (length s))
 
-  part-keeps : (rest : ℕ → ℕ → StartAnswer) → ((first size : ℕ) → first + size ≤ length s → Answers (rest first size))
+  pub part-keeps : (rest : ℕ → ℕ → StartAnswer) → ((first size : ℕ) → first + size ≤ length s → Answers (rest first size))
       → (i at : ℕ) → at ≤ length s → Answers (on_part i s at StartAnswer.Refused rest)
   unfolding S.on_part
   part-keeps rest h zero at l = length-keeps Answers s at StartAnswer.Refused rest (broken-told start_controller_numbers refl at l) (unfit-told start_controller_numbers refl at l) h
   part-keeps rest h (suc i) at l =
       length-keeps Answers s at StartAnswer.Refused _ (broken-told start_controller_numbers refl at l) (unfit-told start_controller_numbers refl at l)
       (λ first size k. part-keeps rest h i (first + size) k)
-
-  answer-tells : (r : Rules) (i first size : ℕ) → first + size ≤ length s → (a : Answer) → AnswerTells r (part s first size) a → Answers (answer_in i first a)
-  answer-tells r i first size h (Answer.Mode u then) t = tt
-  answer-tells r i first size h (Answer.Refused e) t = controller-moved first size h e t
-
-  module _ (p : Plant) (sound : Sound p) (vs : List ℤ) (at : ℕ) (inside : at ≤ length s) (x : List ℤ) where
-    few : (b : List Side) → length b ≡ p.n → (y : List ℤ) → length (fits b (reading_of p.n y)) ≤ 4
-    few b e y = fits-size p.n sound.ranges.n-high b (omega (arith, sound.ranges.n-high)) y
-
-    call-in-tells : (i : ℕ) (st : State) → Answers (call_in p vs s at i st x)
-    call-in-tells i st =
-        part-keeps _ (λ first size h. let t = part s first size in let r = box_rules p vs i (form_of t) in answer-tells r i first size h (call r t st x) (call-tells r t
-        (λ y. (few (box_of p vs i) (box-size p vs i) y, few (safe_of p) (length-tab (side_at p.slo p.shi) p.n 0) y)) x st)) i at inside
-
-    state-told : StartTelling start_controller_numbers (length s) bad_state
-    state-told = record { number = refl; place = refl; step = refl }
-
-    idle-tells : Answers (chosen_call p vs s at x)
-    idle-tells =
-        let b = box_of p vs (above vs) in
-        guard-keeps Answers (holds (box_rules p vs (above vs) 1) b x) _
-        (λ e. record { number = refl; place = dimension-in (fits b (reading_of p.n x)) (few b (box-size p vs (above vs)) x) e; step = refl })
-        (λ _. call-in-tells _ idle)
-
-    start-call-tells : (st : StartState) → Answers (start_call p vs s at st x)
-    start-call-tells st = guard-keeps Answers (can_index p vs s at st.index st.state) _ (λ _. state-told) (λ _. go (is_idle st.state))
-      where
-        go : (t : Bool) → Answers (choose t (λ _. chosen_call p vs s at x) (λ _. call_in p vs s at st.index st.state x))
-        go true = idle-tells
-        go false = call-in-tells st.index st.state
 
 -- ---- the entry points
 
@@ -190,23 +152,9 @@ start-maker-told plant chain form buf =
     left-refused (StartTold plant chain start_maker_numbers) (start_made plant chain form) (λ e q. start-more start_maker_numbers refl (start-made-told plant chain form e q))
     (λ bytes q. let g = ((start-made-exactly plant chain form bytes).0 q).given in of-start g.p g.judged (record { number = refl; place = refl; step = refl })) buf
 
-pub start-controller-told : (plant start : List ℕ) (st : StartState) (x : List ℤ) (e : Refusal) → start_controlled plant start st x ≡ StartAnswer.Refused e
-    → StartTold plant start start_controller_numbers e
-unfolding S.start_controlled
-start-controller-told plant start st x e q = of (start_controlled plant start st x) q tells
-  where
-    of : (a : StartAnswer) → a ≡ StartAnswer.Refused e → AnswerIs (StartTold plant start start_controller_numbers) a → StartTold plant start start_controller_numbers e
-    of (StartAnswer.Mode u then) q t = never cc
-    of (StartAnswer.Refused f) q t = let z : f ≡ e = cc in rw z at t
-
-    tells : AnswerIs (StartTold plant start start_controller_numbers) (start_controlled plant start st x)
-    tells =
-        begin-keeps (AnswerIs (StartTold plant start start_controller_numbers)) StartAnswer.Refused plant start start_controller_numbers refl (λ e t. t) (λ p vs next. start_call p vs start next st x)
-        (λ p j vs next l. answer-more (λ e t. of-start p j t) (start_call p vs start next st x) (start-call-tells start p (judged-sound plant p j) vs next l x st))
-
 -- ---- what each shows: 0 exactly where it is done, and else a refusal as above, with these values
 
-start-some : (plant file numbers : List ℕ) → one_of numbers 0 ≡ false → (e : Refusal) → StartTold plant file numbers e → Some e
+pub start-some : (plant file numbers : List ℕ) → one_of numbers 0 ≡ false → (e : Refusal) → StartTold plant file numbers e → Some e
 start-some plant file numbers h e t = start-not-told 0 refl h t
 
 pub start-checker-shows : (plant start : List ℕ)
@@ -223,16 +171,9 @@ start-maker-shows plant chain form buf =
 abbrev pub no_start_mode : List ℤ
 no_start_mode = pos 65_535 ∷ pos 0 ∷ pos 0 ∷ pos 0 ∷ []
 
-start-answer-shows : (Tells : Refusal → Type 0) → ((e : Refusal) → Tells e → Some e) → (a : StartAnswer) → ((e : Refusal) → a ≡ StartAnswer.Refused e → Tells e)
+pub start-answer-shows : (Tells : Refusal → Type 0) → ((e : Refusal) → Tells e → Some e) → (a : StartAnswer) → ((e : Refusal) → a ≡ StartAnswer.Refused e → Tells e)
     → Showing ((u : ℕ) × (then : StartState) × (a ≡ StartAnswer.Mode u then)) Tells no_start_mode (start_answer_shown a)
 start-answer-shows Tells some (StartAnswer.Mode u then) h = record { zero-exactly = (λ _. (u, then, refl), λ _. refl); or-told = λ z. absurd (z refl) }
 start-answer-shows Tells some (StartAnswer.Refused e) h =
     let t = h e refl in
     record { zero-exactly = (λ z. absurd (some e t z), λ w. let z = w.2 in never cc); or-told = λ _. (e, refl, t) }
-
-pub start-controller-shows : (plant start : List ℕ) (st : StartState) (x : List ℤ)
-    → Showing ((u : ℕ) × (then : StartState) × (start_controlled plant start st x ≡ StartAnswer.Mode u then)) (StartTold plant start start_controller_numbers)
-    no_start_mode (start_answer_shown (start_controlled plant start st x))
-start-controller-shows plant start st x =
-    start-answer-shows (StartTold plant start start_controller_numbers) (start-some plant start start_controller_numbers refl) (start_controlled plant start st x)
-    (start-controller-told plant start st x)

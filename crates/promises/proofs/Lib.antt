@@ -1,0 +1,9 @@
+pub mod Nearest
+pub mod Results
+pub mod SheetFloats
+pub mod SheetSteps
+pub mod Shown
+pub mod ShutOut
+pub mod StartsTold
+pub mod Told
+pub mod Widening
