@@ -123,7 +123,7 @@ safe_in plant x = on_plant (plant_judged plant) (λ _. false) λ p. holds (rules
 abbrev pub may_follow : List ℕ → ℕ → List ℤ → List ℤ → Bool
 may_follow plant u x y = on_plant (plant_judged plant) (λ _. false) λ p. (rules_of 1 p).follows u x y
 
--- a call CallGives a mode and the next state
+-- a call gives a mode and the next state
 abbrev pub CallGives : List ℕ → List ℕ → State → List ℤ → ℕ → State → Type 0
 CallGives plant table st x u then = controlled plant table st x ≡ Answer.Mode u then
 

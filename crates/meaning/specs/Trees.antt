@@ -54,7 +54,7 @@ unfoldable pub AllBelow : ℕ → List ℕ → Type 0
 AllBelow N [] = Unit {0}
 AllBelow N (u ∷ us) = (u < N) × AllBelow N us
 
--- a pattern has 1..K modes, each AllBelow N
+-- a pattern has 1..K modes, each below N
 pub record Pattern (K N : ℕ) (us : List ℕ) : Type 0 where
   pub some : 1 ≤ length us
   pub few : length us ≤ K

@@ -43,7 +43,7 @@ fn largest_edge(h: Sheet) -> usize
     most
 }
 
-// The ceiling of (typeof.n.M + 1)/2: each of n entries of A is up to a half off, times a reading of up to M, and b up to a half.
+// The ceiling of (n·M + 1)/2: each of n entries of A is up to a half off, times a reading of up to M, and b up to a half.
 fn widening(h: Sheet) -> usize
     requires { Sized h }
     ensures { result ≡ S.widening h }

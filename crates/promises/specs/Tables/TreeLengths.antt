@@ -193,7 +193,7 @@ sided-same form n b z = every_map (Child b) (λ a. length a ≡ n) (λ a k. with
 
 -- ---- document 01's rules, whatever is tiled and wherever patterns end
 
--- modes AllBelow 2^(7·(c + 1)) take c + 1 bytes each at the most
+-- modes below 2^(7·(c + 1)) take c + 1 bytes each at the most
 modes-length : (c N : ℕ) (us : List ℕ) → N ≤ 2 ^ (7 * suc c) → AllBelow N us → length (modes_bytes us) ≤ length us * suc c
 unfolding T.AllBelow T.modes_bytes
 modes-length c N [] l h = omega arith

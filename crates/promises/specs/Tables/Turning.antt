@@ -135,7 +135,7 @@ spread v w box s =
       second-side = omega (arith, s.first-side, s.second-side, row2-is a d, row2-is b c);
     }
 
--- a box that lies in R has at most 64 counts in its first side, and none of them is AllBelow 1000
+-- a box that lies in R has at most 64 counts in its first side, and none of them is below 1000
 in-root : (a b c d : ℤ) → within (side a b ∷ side c d ∷ []) (root_of p) ≡ true → (pos 1000 ≤ℤ a) × (b ≤ℤ pos 1063)
 unfolding computing
 in-root a b c d e = orders (pos 1000) a b (pos 1063) (first (le_z (pos 1000) a && le_z b (pos 1063)) (le_z (pos 1000) c && le_z d (pos 1063) && true) e)
@@ -288,7 +288,7 @@ module _ (form a c : ℕ) (low-a : 1000 ≤ a) (high-a : a ≤ 1063) (low-c : 10
   to6 : image (step_of p 0) p5 ≡ p0
   to6 = moves (pos (13 * c - 3 * a)) (pos (4 * c - a)) (pos a) (pos c) (omega arith) (omega arith)
 
-  -- AllBelow 1000, or beyond 1063
+  -- below 1000, or beyond 1063
   under : (m : ℕ) (y : ℤ) → within (point (negsuc m) y) (root_of p) ≡ true → ⊥
   under m y e = let h = in-root (negsuc m) (negsuc m) y y e in omega (zarith, h)
 
