@@ -101,7 +101,7 @@ pub tree-grown-requires : goal.tree-grown-requires
 tree-grown-requires t c =
     let box : List Side = box_of c.args.f.n c.args.b in
     let in-box : (j : ℕ) → j < c.count-count.result → j < length (children_by c.args.f.form box) = λ j h. let e = c.count-count.ensures in rw (← e) h in
-    let z = c.if-d-eq0.false in
+    let deep = c.if-d-eq0.false in
     let less = c.requires.0 in
     (omega arith, (c.requires.0, rw c.child-child.ensures (small-children c.args.f.form edge_limit box c.loop-c.c (in-box _ c.loop-c-test.true) c.requires.1)))
 
@@ -173,8 +173,8 @@ returns t c =
     let modes : List ℕ = c.first-size.new.us in
     let pattern : pattern_by c.first-size.result modes ≡ first_pattern rules box = c.first-size.ensures.pattern ∙ shortest-is frame bands coef c.args.limits.now c.args.marks.now c.requires.0 c.args.f.k 0 box in
     let whole : Option (List ℕ) = trees_bytes rules (c.args.d - 1) (children_by c.args.f.form box) in
-    let goes : (a : Grown) (out : List ℕ) → Wrote whole c.put_number-place.new.buf c.put_number-place.result a out → Wrote (tree_bytes rules c.args.d box) c.args.buf.now c.args.at a out = λ a. λ out. λ w. node-split frame bands coef c.args.d box c.first-size.result modes pattern c.args.buf.now c.args.at c.if-size-ne0.false c.if-d-eq0.false (λ z. c.if-count-eq0.false (c.count-count.ensures ∙ z)) c.put_number-place.result c.put_number-place.new.buf c.put_number-place.ensures a out w in
+    let goes-on : (a : Grown) (out : List ℕ) → Wrote whole c.put_number-place.new.buf c.put_number-place.result a out → Wrote (tree_bytes rules c.args.d box) c.args.buf.now c.args.at a out = λ a. λ out. λ w. node-split frame bands coef c.args.d box c.first-size.result modes pattern c.args.buf.now c.args.at c.if-size-ne0.false c.if-d-eq0.false (λ z. c.if-count-eq0.false (c.count-count.ensures ∙ z)) c.put_number-place.result c.put_number-place.new.buf c.put_number-place.ensures a out w in
     let l = c.loop-c in
     let n = c.count-count.ensures in
     let h = c.loop-c-test.false in
-    goes (Grown.Next l.place) l.buf (grow-done rules (c.args.d - 1) (children_by c.args.f.form box) l.c c.put_number-place.new.buf c.put_number-place.result whole l.place l.buf l.invariant.1 (rw (← n) h))
+    goes-on (Grown.Next l.place) l.buf (grow-done rules (c.args.d - 1) (children_by c.args.f.form box) l.c c.put_number-place.new.buf c.put_number-place.result whole l.place l.buf l.invariant.1 (rw (← n) h))

@@ -114,11 +114,11 @@ returns-in-Refused c =
     let frame : Frame = frame_from c.args.f c.args.edges.now in
     let bytes : List ℕ = c.args.table.now in
     let here : List Side = box_of c.args.f.n c.loop-k.here in
-    let told : c.args.f.form ≡ 2 = c.if-f-ne2.false in
+    let of-form-2 : c.args.f.form ≡ 2 = c.if-f-ne2.false in
     let size : ℕ = c.in-Value.k in
     let behind : ℕ = c.in-Value.next in
     let number : number_at bytes c.loop-k.place ≡ Number.Value size behind = sym c.number.ensures ∙ c.in-Value.is in
-    let refuses : (r : Refusal) → c.place_of.result ≡ Walk.Refused r → Found.Refused r ≡ find (rules_in frame [] []) c.args.d bytes c.args.at (box_of c.args.f.n c.args.b) c.args.x = λ r. λ g. told-refused frame told c.args.x c.loop-k.left bytes c.loop-k.place behind size number c.if-k-gt0.false here c.half_of-half.result c.half_of-half.ensures c.if-half-eq1.false c.if-left-eq0.false c.place_of.result c.place_of.ensures r g ∙ c.loop-k.invariant.2 in
+    let refuses : (r : Refusal) → c.place_of.result ≡ Walk.Refused r → Found.Refused r ≡ find (rules_in frame [] []) c.args.d bytes c.args.at (box_of c.args.f.n c.args.b) c.args.x = λ r. λ g. told-refused frame of-form-2 c.args.x c.loop-k.left bytes c.loop-k.place behind size number c.if-k-gt0.false here c.half_of-half.result c.half_of-half.ensures c.if-half-eq1.false c.if-left-eq0.false c.place_of.result c.place_of.ensures r g ∙ c.loop-k.invariant.2 in
     refuses c.in-Refused.e c.in-Refused.is
 
 pub overflow_sub-left : goal.overflow_sub-left
@@ -132,12 +132,12 @@ loop-k-preserved c =
     let frame : Frame = frame_from c.args.f c.args.edges.now in
     let bytes : List ℕ = c.args.table.now in
     let here : List Side = box_of c.args.f.n c.loop-k.here in
-    let told : c.args.f.form ≡ 2 = c.if-f-ne2.false in
+    let lengths-told : c.args.f.form ≡ 2 = c.if-f-ne2.false in
     let size : ℕ = c.in-Value.k in
     let behind : ℕ = c.in-Value.next in
     let number : number_at bytes c.loop-k.place ≡ Number.Value size behind = sym c.number.ensures ∙ c.in-Value.is in
     let small : (c.half_of-half.result.count ≡ 1 → ⊥) → Small edge_limit (box_of c.args.f.n c.half_of-half.result.kid) = λ some. let h = c.half_of-half.ensures in rw (h.kid_is some) (small-children 1 edge_limit here c.half_of-half.result.number (omega (arith, h.inside, h.many some)) c.loop-k.invariant.0) in
-    let goes : (p : ℕ) → c.place_of.result ≡ Walk.Next p → find (rules_in frame [] []) (c.loop-k.left - 1) bytes p (box_of c.args.f.n c.half_of-half.result.kid) c.args.x ≡ find (rules_in frame [] []) c.args.d bytes c.args.at (box_of c.args.f.n c.args.b) c.args.x = λ p. λ g. told_child frame told c.args.x c.loop-k.left bytes c.loop-k.place behind size number c.if-k-gt0.false here c.half_of-half.result c.half_of-half.ensures c.if-half-eq1.false c.if-left-eq0.false c.place_of.result c.place_of.ensures p g ∙ c.loop-k.invariant.2 in
+    let goes : (p : ℕ) → c.place_of.result ≡ Walk.Next p → find (rules_in frame [] []) (c.loop-k.left - 1) bytes p (box_of c.args.f.n c.half_of-half.result.kid) c.args.x ≡ find (rules_in frame [] []) c.args.d bytes c.args.at (box_of c.args.f.n c.args.b) c.args.x = λ p. λ g. told_child frame lengths-told c.args.x c.loop-k.left bytes c.loop-k.place behind size number c.if-k-gt0.false here c.half_of-half.result c.half_of-half.ensures c.if-half-eq1.false c.if-left-eq0.false c.place_of.result c.place_of.ensures p g ∙ c.loop-k.invariant.2 in
     let h = c.half_of-half.ensures in
     let some = c.if-half-eq1.false in
     (small some, h.held, goes c.in-Next.m c.in-Next.is)
