@@ -7,16 +7,15 @@
 ghost use Rattle.std.specs.Prelude.{◌^◌, ◌<◌};
 
 use desk::{papers, tellings};
-use meaning::Verdict;
 use std::env::Env;
 use std::io::{Stderr, Stdout};
 use std::rt::Files;
 use tables::{checks, start_checks};
 
-fn tell(out: Stdout, verdict: Verdict) {
+fn tell(out: Stdout, verdict: Result<(), Refusal>) {
     match verdict {
-        Verdict::Accepted => tellings::say(out, b"accepted\n"),
-        Verdict::Refused(e) => tellings::tell(out, e),
+        Ok(()) => tellings::say(out, b"accepted\n"),
+        Err(e) => tellings::tell(out, e),
     }
 }
 

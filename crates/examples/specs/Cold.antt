@@ -1,9 +1,7 @@
 -- Start files worked out by hand from document 02, request 2026-03.
-use Rattle.std.specs.Prelude.{ℕ, zero, suc, ◌≡◌, refl, true, List, [], ◌∷◌, ◌++◌, replicate, take, ℤ, pos, neg_ℤ}
-use Rattle.meaning.specs.declared.Verdict.{Verdict}
+use Rattle.std.specs.Prelude.{ℕ, zero, suc, ◌≡◌, refl, true, List, [], ◌∷◌, ◌++◌, replicate, take, ℤ, pos, neg_ℤ, Ok, Err}
+use Rattle.meaning.specs.Answers.{Verdict, StartAnswer}
 use Rattle.meaning.specs.declared.StartState.{StartState}
-use Rattle.meaning.specs.declared.StartAnswer.{StartAnswer}
-use Rattle.meaning.specs.declared.Written.{Written}
 use Rattle.meaning.specs.Buffers.{refused_with}
 use Rattle.meaning.specs.Refusals.{broken, wrong_form, unfit, bad_table, no_table, short, outside, bad_state, not_held, refusal}
 use Rattle.meaning.specs.Files.{Judged, good, bad, file_of}
@@ -36,17 +34,17 @@ start =
     ∷ 0x07 ∷ 0x01 ∷ 0x01 ∷ 0x00 ∷ 0x01 ∷ 0x01 ∷ 0x01 ∷ 0x00
     ∷ 0x07 ∷ 0x01 ∷ 0x01 ∷ 0x00 ∷ 0x01 ∷ 0x01 ∷ 0x01 ∷ 0x00 ∷ []
 
-made : (start_made P chain 1 ≡ good start) × (start_checked P start ≡ Verdict.Accepted)
+made : (start_made P chain 1 ≡ good start) × (start_checked P start ≡ Ok tt)
 unfolding computing
 made = (refl, refl)
 
 abbrev told : StartState → ℕ → StartAnswer
 told st x = start_controlled P start st (pos x ∷ [])
 
-called : (told start_idle 190 ≡ StartAnswer.Mode 1 start_idle) × (told start_idle 230 ≡ StartAnswer.Mode 0 start_idle)
-    × (told start_idle 195 ≡ StartAnswer.Mode 1 start_idle) × (told start_idle 189 ≡ StartAnswer.Refused (outside 0))
-    × (told (state 2 5 1) 200 ≡ StartAnswer.Refused bad_state) × (told (state 1 0 0) 100 ≡ StartAnswer.Refused bad_state)
-    × (told (state 0 5 0) 100 ≡ StartAnswer.Refused bad_state) × (told (state 1 4 1) 190 ≡ StartAnswer.Mode 1 start_idle)
+called : (told start_idle 190 ≡ Ok (1, start_idle)) × (told start_idle 230 ≡ Ok (0, start_idle))
+    × (told start_idle 195 ≡ Ok (1, start_idle)) × (told start_idle 189 ≡ Err (outside 0))
+    × (told (state 2 5 1) 200 ≡ Err bad_state) × (told (state 1 0 0) 100 ≡ Err bad_state)
+    × (told (state 0 5 0) 100 ≡ Err bad_state) × (told (state 1 4 1) 190 ≡ Ok (1, start_idle))
 unfolding computing
 called = (refl, refl, refl, refl, refl, refl, refl, refl)
 
@@ -77,9 +75,9 @@ cold_told st x = start_controlled cold cold_start st (pos x ∷ [])
 
 -- From 160 in four samples, the sum of the longest patterns: 198 lies in R, and is met in mid-pattern. From 208 on R's table is run, one tile of the modes
 -- 0, 1: 195..225 leads to 185..212, and that back into R.
-home : (cold_told start_idle 160 ≡ StartAnswer.Mode 1 (state 2 5 1)) × (cold_told (state 2 5 1) 174 ≡ StartAnswer.Mode 1 start_idle)
-    × (cold_told start_idle 187 ≡ StartAnswer.Mode 1 (state 1 5 1)) × (cold_told (state 1 5 1) 198 ≡ StartAnswer.Mode 1 start_idle)
-    × (cold_told start_idle 208 ≡ StartAnswer.Mode 0 (state 0 4 1))
+home : (cold_told start_idle 160 ≡ Ok (1, state 2 5 1)) × (cold_told (state 2 5 1) 174 ≡ Ok (1, start_idle))
+    × (cold_told start_idle 187 ≡ Ok (1, state 1 5 1)) × (cold_told (state 1 5 1) 198 ≡ Ok (1, start_idle))
+    × (cold_told start_idle 208 ≡ Ok (0, state 0 4 1))
 unfolding computing
 home = (refl, refl, refl, refl, refl)
 
@@ -97,15 +95,15 @@ judged s = start_checked P s
 abbrev spoilt : ℕ → List ℕ → List ℕ
 spoilt m behind = take m start ++ behind
 
-faults : (judged (spoilt 6 []) ≡ Verdict.Refused (broken 6)) × (judged (spoilt 21 []) ≡ Verdict.Refused (unfit 14))
-    × (judged (spoilt 6 (6 ∷ 1 ∷ 1 ∷ 0 ∷ 1 ∷ 1 ∷ 1 ∷ [])) ≡ Verdict.Refused (broken 13)) × (judged (spoilt 6 (7 ∷ 4 ∷ 1 ∷ 0 ∷ 1 ∷ 1 ∷ 1 ∷ 0 ∷ [])) ≡ Verdict.Refused (refusal 2 7 0))
-    × (judged (spoilt 14 (7 ∷ 1 ∷ 2 ∷ 0 ∷ 1 ∷ 1 ∷ 1 ∷ 0 ∷ [])) ≡ Verdict.Refused (bad_table 16)) × (judged (spoilt 6 (8 ∷ 1 ∷ 1 ∷ 0 ∷ 1 ∷ 1 ∷ 1 ∷ 0 ∷ 7 ∷ [])) ≡ Verdict.Refused (unfit 6))
-    × (judged (start ++ 0 ∷ []) ≡ Verdict.Refused (unfit 22))
+faults : (judged (spoilt 6 []) ≡ Err (broken 6)) × (judged (spoilt 21 []) ≡ Err (unfit 14))
+    × (judged (spoilt 6 (6 ∷ 1 ∷ 1 ∷ 0 ∷ 1 ∷ 1 ∷ 1 ∷ [])) ≡ Err (broken 13)) × (judged (spoilt 6 (7 ∷ 4 ∷ 1 ∷ 0 ∷ 1 ∷ 1 ∷ 1 ∷ 0 ∷ [])) ≡ Err (refusal 2 7 0))
+    × (judged (spoilt 14 (7 ∷ 1 ∷ 2 ∷ 0 ∷ 1 ∷ 1 ∷ 1 ∷ 0 ∷ [])) ≡ Err (bad_table 16)) × (judged (spoilt 6 (8 ∷ 1 ∷ 1 ∷ 0 ∷ 1 ∷ 1 ∷ 1 ∷ 0 ∷ 7 ∷ [])) ≡ Err (unfit 6))
+    × (judged (start ++ 0 ∷ []) ≡ Err (unfit 22))
 unfolding computing
 faults = (refl, refl, refl, refl, refl, refl, refl)
 
 -- mode 1 on 211..230 leads to 219 and up to 237, out of S: 7, at the tile's byte in the start file
-left-safe : judged (spoilt 14 (7 ∷ 1 ∷ 1 ∷ 0 ∷ 1 ∷ 1 ∷ 1 ∷ 1 ∷ [])) ≡ Verdict.Refused (refusal 7 20 1)
+left-safe : judged (spoilt 14 (7 ∷ 1 ∷ 1 ∷ 0 ∷ 1 ∷ 1 ∷ 1 ∷ 1 ∷ [])) ≡ Err (refusal 7 20 1)
 unfolding computing
 left-safe = refl
 
@@ -113,7 +111,7 @@ left-safe = refl
 abbrev cold_head : List ℕ
 cold_head = file_of (chain_form 1) (pos 1 ∷ pos 1 ∷ pos 180 ∷ pos 225 ∷ []) ++ 5 ∷ 1 ∷ 1 ∷ 2 ∷ 0 ∷ 1 ∷ []
 
-missing : start_checked cold (cold_head ++ 4 ∷ 1 ∷ 1 ∷ 1 ∷ 1 ∷ []) ≡ Verdict.Refused (refusal 8 15 1)
+missing : start_checked cold (cold_head ++ 4 ∷ 1 ∷ 1 ∷ 1 ∷ 1 ∷ []) ≡ Err (refusal 8 15 1)
 unfolding computing
 missing = refl
 
@@ -122,8 +120,8 @@ unfoldable same : ℕ → List ℤ
 same zero = []
 same (suc m) = pos 195 ∷ pos 225 ∷ same m
 
-equal-boxes : (start_controlled P (start_from (start_made P (file_of (chain_form 1) (pos 1 ∷ pos 8 ∷ same 8)) 1)) (state 8 4 1) (pos 200 ∷ []) ≡ StartAnswer.Mode 1 start_idle)
-    × (start_controlled P (start_from (start_made P (file_of (chain_form 1) (pos 1 ∷ pos 8 ∷ same 8)) 1)) (state 9 4 1) (pos 200 ∷ []) ≡ StartAnswer.Refused bad_state)
+equal-boxes : (start_controlled P (start_from (start_made P (file_of (chain_form 1) (pos 1 ∷ pos 8 ∷ same 8)) 1)) (state 8 4 1) (pos 200 ∷ []) ≡ Ok (1, start_idle))
+    × (start_controlled P (start_from (start_made P (file_of (chain_form 1) (pos 1 ∷ pos 8 ∷ same 8)) 1)) (state 9 4 1) (pos 200 ∷ []) ≡ Err bad_state)
 unfolding computing same
 equal-boxes = (refl, refl)
 
@@ -132,6 +130,6 @@ lent-short : start_left P chain 1 (replicate 21 0xAA) ≡ refused_with short (re
 unfolding computing
 lent-short = refl
 
-lent-long : start_left P chain 1 (replicate 23 0xAA) ≡ record { answer = Written.Length 22; buffer = start ++ 0xAA ∷ [] }
+lent-long : start_left P chain 1 (replicate 23 0xAA) ≡ record { answer = Ok 22; buffer = start ++ 0xAA ∷ [] }
 unfolding computing
 lent-long = refl

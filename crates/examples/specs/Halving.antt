@@ -1,9 +1,6 @@
 -- Lines worked out by hand from request 2026-06 and its readings: the longest side halved alone, ties to the lowest dimension, longest by counts; form 3 of P's
 -- table; the form told to the maker; what is refused where; plants that have a table of one form and none of the other.
-use Rattle.std.specs.Prelude.{ℕ, ◌≡◌, refl, List, [], ◌∷◌, ◌++◌, pos, neg_ℤ}
-use Rattle.meaning.specs.declared.Answer.{Answer}
-use Rattle.meaning.specs.declared.Verdict.{Verdict}
-use Rattle.meaning.specs.declared.StartAnswer.{StartAnswer}
+use Rattle.std.specs.Prelude.{ℕ, ◌≡◌, refl, List, [], ◌∷◌, ◌++◌, pos, neg_ℤ, Ok, Err}
 use Rattle.meaning.specs.Refusals.{broken, wrong_form, unfit, bad_table, no_table, not_held, moved}
 use Rattle.meaning.specs.Starts.{start_checked, start_made, start_controlled, start_idle}
 use Rattle.meaning.specs.Boxes.{side, longest_halved}
@@ -34,8 +31,8 @@ abbrev behind : List ℕ
 behind = 0x01 ∷ 0x00 ∷ 0x01 ∷ 0x01 ∷ 0x01 ∷ 0x00 ∷ []
 
 tables : (made P 1 ≡ good (0x01 ∷ behind)) × (made P 3 ≡ good (0x03 ∷ behind)) × (made P 4 ≡ bad wrong_form) × (made P 0 ≡ bad wrong_form)
-    × (checked P (0x03 ∷ behind) ≡ Verdict.Accepted) × (checked P (0x04 ∷ behind) ≡ Verdict.Refused wrong_form) × (checked P [] ≡ Verdict.Refused (broken 0))
-    × (controlled P (0x03 ∷ behind) idle (pos 195 ∷ []) ≡ Answer.Mode 1 idle) × (controlled P (0x03 ∷ behind) idle (pos 225 ∷ []) ≡ Answer.Mode 0 idle)
+    × (checked P (0x03 ∷ behind) ≡ Ok tt) × (checked P (0x04 ∷ behind) ≡ Err wrong_form) × (checked P [] ≡ Err (broken 0))
+    × (controlled P (0x03 ∷ behind) idle (pos 195 ∷ []) ≡ Ok (1, idle)) × (controlled P (0x03 ∷ behind) idle (pos 225 ∷ []) ≡ Ok (0, idle))
 unfolding computing
 tables = (refl, refl, refl, refl, refl, refl, refl, refl, refl)
 
@@ -47,10 +44,10 @@ still =
     ∷ pos 0 ∷ pos 0 ∷ pos 0 ∷ pos 0 ∷ pos 1 ∷ pos 0 ∷ pos 0 ∷ pos 0 ∷ pos 1 ∷ pos 0 ∷ []
     )
 
-depths : (checked still (0x01 ∷ 0x02 ∷ 0x00 ∷ 0x01 ∷ 0x00 ∷ 0x01 ∷ 0x00 ∷ 0x01 ∷ 0x00 ∷ 0x01 ∷ 0x00 ∷ []) ≡ Verdict.Accepted)
-    × (checked still (0x03 ∷ 0x02 ∷ 0x00 ∷ 0x00 ∷ 0x01 ∷ 0x00 ∷ 0x01 ∷ 0x00 ∷ 0x01 ∷ 0x00 ∷ []) ≡ Verdict.Accepted)
-    × (checked still (0x03 ∷ 0x02 ∷ 0x00 ∷ 0x00 ∷ 0x00 ∷ 0x01 ∷ 0x00 ∷ []) ≡ Verdict.Refused (bad_table 4))
-    × (checked still (0x01 ∷ 0x02 ∷ 0x00 ∷ 0x00 ∷ []) ≡ Verdict.Refused (bad_table 3))
+depths : (checked still (0x01 ∷ 0x02 ∷ 0x00 ∷ 0x01 ∷ 0x00 ∷ 0x01 ∷ 0x00 ∷ 0x01 ∷ 0x00 ∷ 0x01 ∷ 0x00 ∷ []) ≡ Ok tt)
+    × (checked still (0x03 ∷ 0x02 ∷ 0x00 ∷ 0x00 ∷ 0x01 ∷ 0x00 ∷ 0x01 ∷ 0x00 ∷ 0x01 ∷ 0x00 ∷ []) ≡ Ok tt)
+    × (checked still (0x03 ∷ 0x02 ∷ 0x00 ∷ 0x00 ∷ 0x00 ∷ 0x01 ∷ 0x00 ∷ []) ≡ Err (bad_table 4))
+    × (checked still (0x01 ∷ 0x02 ∷ 0x00 ∷ 0x00 ∷ []) ≡ Err (bad_table 3))
 unfolding computing
 depths = (refl, refl, refl, refl)
 
@@ -80,11 +77,11 @@ either = (refl, refl, refl, refl)
 abbrev single : List ℕ
 single = file_of plant_form (pos 1 ∷ pos 1 ∷ pos 1 ∷ pos 1 ∷ pos 1 ∷ pos 1 ∷ pos 7 ∷ pos 7 ∷ pos 7 ∷ pos 7 ∷ pos 0 ∷ pos 0 ∷ pos 1 ∷ pos 0 ∷ [])
 
-refused : (controlled P (0x04 ∷ behind) idle (pos 195 ∷ []) ≡ Answer.Refused wrong_form)
-    × (controlled P (0x04 ∷ behind) (record { place = 4; left = 1 }) (pos 195 ∷ []) ≡ Answer.Refused wrong_form)
-    × (controlled P (0x03 ∷ behind) (record { place = 4; left = 1 }) (pos 230 ∷ []) ≡ Answer.Mode 1 idle)
-    × (checked single (0x03 ∷ 0x01 ∷ 0x00 ∷ 0x01 ∷ 0x00 ∷ 0x01 ∷ 0x00 ∷ []) ≡ Verdict.Refused (bad_table 2))
-    × (checked single (0x03 ∷ 0x01 ∷ 0x01 ∷ 0x00 ∷ []) ≡ Verdict.Accepted)
+refused : (controlled P (0x04 ∷ behind) idle (pos 195 ∷ []) ≡ Err wrong_form)
+    × (controlled P (0x04 ∷ behind) (record { place = 4; left = 1 }) (pos 195 ∷ []) ≡ Err wrong_form)
+    × (controlled P (0x03 ∷ behind) (record { place = 4; left = 1 }) (pos 230 ∷ []) ≡ Ok (1, idle))
+    × (checked single (0x03 ∷ 0x01 ∷ 0x00 ∷ 0x01 ∷ 0x00 ∷ 0x01 ∷ 0x00 ∷ []) ≡ Err (bad_table 2))
+    × (checked single (0x03 ∷ 0x01 ∷ 0x01 ∷ 0x00 ∷ []) ≡ Ok tt)
 unfolding computing
 refused = (refl, refl, refl, refl, refl)
 
@@ -95,11 +92,11 @@ chain = 0x01 ∷ 0x01 ∷ 0xFC ∷ 0x02 ∷ 0xCC ∷ 0x03 ∷ []
 abbrev start : ℕ → ℕ → List ℕ
 start one two = chain ++ (0x07 ∷ one ∷ behind) ++ (0x07 ∷ two ∷ behind)
 
-starts : (start_checked P (start 3 1) ≡ Verdict.Accepted) × (start_checked P (start 3 4) ≡ Verdict.Refused (moved 15 wrong_form))
+starts : (start_checked P (start 3 1) ≡ Ok tt) × (start_checked P (start 3 4) ≡ Err (moved 15 wrong_form))
     × (start_made P chain 3 ≡ good (start 3 3)) × (start_made P chain 1 ≡ good (start 1 1)) × (start_made P chain 4 ≡ bad wrong_form)
     × (start_made P (0x01 ∷ 0x09 ∷ []) 4 ≡ bad (unfit 1)) × (start_made P (0x01 ∷ 0x01 ∷ 0xFA ∷ 0x02 ∷ 0xCC ∷ 0x03 ∷ []) 4 ≡ bad (not_held 1))
-    × (start_controlled P (start 3 1) start_idle (pos 190 ∷ []) ≡ StartAnswer.Mode 1 start_idle)
-    × (start_controlled P (start 3 1) start_idle (pos 225 ∷ []) ≡ StartAnswer.Mode 0 start_idle)
-    × (start_controlled P (start 3 4) start_idle (pos 190 ∷ []) ≡ StartAnswer.Refused (moved 15 wrong_form))
+    × (start_controlled P (start 3 1) start_idle (pos 190 ∷ []) ≡ Ok (1, start_idle))
+    × (start_controlled P (start 3 1) start_idle (pos 225 ∷ []) ≡ Ok (0, start_idle))
+    × (start_controlled P (start 3 4) start_idle (pos 190 ∷ []) ≡ Err (moved 15 wrong_form))
 unfolding computing
 starts = (refl, refl, refl, refl, refl, refl, refl, refl, refl, refl)

@@ -1,8 +1,6 @@
 -- Lines worked out by hand from request 2026-01 and its readings: form 2 of P's table, whose split tells that its first child has two bytes; what the checker
 -- says of wrong lengths, and a call; two levels of lengths; that a call reads no tile that it passes; and tables turned from one form into the other.
-use Rattle.std.specs.Prelude.{ℕ, ◌≡◌, refl, List, [], ◌∷◌, pos, neg_ℤ}
-use Rattle.meaning.specs.declared.Answer.{Answer}
-use Rattle.meaning.specs.declared.Verdict.{Verdict}
+use Rattle.std.specs.Prelude.{ℕ, ◌≡◌, refl, List, [], ◌∷◌, pos, neg_ℤ, Ok, Err}
 use Rattle.meaning.specs.Refusals.{broken, wrong_form, bad_table, leaves}
 use Rattle.meaning.specs.Files.{good, bad, file_of}
 use Rattle.meaning.specs.Plants.{plant_form}
@@ -22,28 +20,28 @@ P =
 abbrev table : List ℕ
 table = 0x02 ∷ 0x01 ∷ 0x00 ∷ 0x02 ∷ 0x01 ∷ 0x01 ∷ 0x01 ∷ 0x00 ∷ []
 
-tables : (made P 2 ≡ good table) × (checked P table ≡ Verdict.Accepted) × (made P 4 ≡ bad wrong_form)
-    × (controlled P table idle (pos 195 ∷ []) ≡ Answer.Mode 1 idle) × (controlled P table idle (pos 225 ∷ []) ≡ Answer.Mode 0 idle)
+tables : (made P 2 ≡ good table) × (checked P table ≡ Ok tt) × (made P 4 ≡ bad wrong_form)
+    × (controlled P table idle (pos 195 ∷ []) ≡ Ok (1, idle)) × (controlled P table idle (pos 225 ∷ []) ≡ Ok (0, idle))
 unfolding computing
 tables = (refl, refl, refl, refl, refl)
 
 -- a length off by one each way is 6 at the length, after its child: a fault inside the child comes before (the first tile with mode 0 leaves S at its step 1)
-lengths : (checked P (0x02 ∷ 0x01 ∷ 0x00 ∷ 0x01 ∷ 0x01 ∷ 0x01 ∷ 0x01 ∷ 0x00 ∷ []) ≡ Verdict.Refused (bad_table 3))
-    × (checked P (0x02 ∷ 0x01 ∷ 0x00 ∷ 0x03 ∷ 0x01 ∷ 0x01 ∷ 0x01 ∷ 0x00 ∷ []) ≡ Verdict.Refused (bad_table 3))
-    × (checked P (0x02 ∷ 0x01 ∷ 0x00 ∷ 0x03 ∷ 0x01 ∷ 0x00 ∷ 0x01 ∷ 0x00 ∷ []) ≡ Verdict.Refused (leaves 4 1))
-    × (checked P (0x02 ∷ 0x01 ∷ 0x00 ∷ 0x82 ∷ 0x00 ∷ 0x01 ∷ 0x01 ∷ 0x01 ∷ 0x00 ∷ []) ≡ Verdict.Refused (broken 3))
-    × (checked P (0x02 ∷ 0x01 ∷ 0x00 ∷ 0xE7 ∷ 0x07 ∷ 0x01 ∷ 0x01 ∷ 0x02 ∷ 0x00 ∷ []) ≡ Verdict.Refused (bad_table 3))
+lengths : (checked P (0x02 ∷ 0x01 ∷ 0x00 ∷ 0x01 ∷ 0x01 ∷ 0x01 ∷ 0x01 ∷ 0x00 ∷ []) ≡ Err (bad_table 3))
+    × (checked P (0x02 ∷ 0x01 ∷ 0x00 ∷ 0x03 ∷ 0x01 ∷ 0x01 ∷ 0x01 ∷ 0x00 ∷ []) ≡ Err (bad_table 3))
+    × (checked P (0x02 ∷ 0x01 ∷ 0x00 ∷ 0x03 ∷ 0x01 ∷ 0x00 ∷ 0x01 ∷ 0x00 ∷ []) ≡ Err (leaves 4 1))
+    × (checked P (0x02 ∷ 0x01 ∷ 0x00 ∷ 0x82 ∷ 0x00 ∷ 0x01 ∷ 0x01 ∷ 0x01 ∷ 0x00 ∷ []) ≡ Err (broken 3))
+    × (checked P (0x02 ∷ 0x01 ∷ 0x00 ∷ 0xE7 ∷ 0x07 ∷ 0x01 ∷ 0x01 ∷ 0x02 ∷ 0x00 ∷ []) ≡ Err (bad_table 3))
 unfolding computing
 lengths = (refl, refl, refl, refl, refl)
 
 -- A call goes where the lengths point: with a length of 3 the upper half is sought at 7, where the file's last byte, 0, is a split too deep; with 4 its child would
 -- begin at the file's end, which is not past it, and nothing stands there; with 5 it would end past the file. The lower half is found whatever the length, but
 -- where the first child would end past the file. The passed tile is not read.
-calls : (controlled P (0x02 ∷ 0x01 ∷ 0x00 ∷ 0x03 ∷ 0x01 ∷ 0x01 ∷ 0x01 ∷ 0x00 ∷ []) idle (pos 225 ∷ []) ≡ Answer.Refused (bad_table 7))
-    × (controlled P (0x02 ∷ 0x01 ∷ 0x00 ∷ 0x04 ∷ 0x01 ∷ 0x01 ∷ 0x01 ∷ 0x00 ∷ []) idle (pos 225 ∷ []) ≡ Answer.Refused (broken 8))
-    × (controlled P (0x02 ∷ 0x01 ∷ 0x00 ∷ 0x04 ∷ 0x01 ∷ 0x01 ∷ 0x01 ∷ 0x00 ∷ []) idle (pos 195 ∷ []) ≡ Answer.Mode 1 idle)
-    × (controlled P (0x02 ∷ 0x01 ∷ 0x00 ∷ 0x05 ∷ 0x01 ∷ 0x01 ∷ 0x01 ∷ 0x00 ∷ []) idle (pos 195 ∷ []) ≡ Answer.Refused (bad_table 3))
-    × (controlled P (0x02 ∷ 0x01 ∷ 0x00 ∷ 0x02 ∷ 0xFF ∷ 0xFF ∷ 0x01 ∷ 0x00 ∷ []) idle (pos 225 ∷ []) ≡ Answer.Mode 0 idle)
+calls : (controlled P (0x02 ∷ 0x01 ∷ 0x00 ∷ 0x03 ∷ 0x01 ∷ 0x01 ∷ 0x01 ∷ 0x00 ∷ []) idle (pos 225 ∷ []) ≡ Err (bad_table 7))
+    × (controlled P (0x02 ∷ 0x01 ∷ 0x00 ∷ 0x04 ∷ 0x01 ∷ 0x01 ∷ 0x01 ∷ 0x00 ∷ []) idle (pos 225 ∷ []) ≡ Err (broken 8))
+    × (controlled P (0x02 ∷ 0x01 ∷ 0x00 ∷ 0x04 ∷ 0x01 ∷ 0x01 ∷ 0x01 ∷ 0x00 ∷ []) idle (pos 195 ∷ []) ≡ Ok (1, idle))
+    × (controlled P (0x02 ∷ 0x01 ∷ 0x00 ∷ 0x05 ∷ 0x01 ∷ 0x01 ∷ 0x01 ∷ 0x00 ∷ []) idle (pos 195 ∷ []) ≡ Err (bad_table 3))
+    × (controlled P (0x02 ∷ 0x01 ∷ 0x00 ∷ 0x02 ∷ 0xFF ∷ 0xFF ∷ 0x01 ∷ 0x00 ∷ []) idle (pos 225 ∷ []) ≡ Ok (0, idle))
 unfolding computing
 calls = (refl, refl, refl, refl, refl)
 
@@ -54,10 +52,10 @@ still =
     pos 1 ∷ pos 1 ∷ pos 1 ∷ pos 1 ∷ pos 1 ∷ pos 2 ∷ pos 0 ∷ pos 3 ∷ pos 0 ∷ pos 3 ∷ pos 0 ∷ pos 0 ∷ pos 1 ∷ pos 0 ∷ []
     )
 
-nested : (checked still (0x02 ∷ 0x01 ∷ 0x00 ∷ 0x06 ∷ 0x00 ∷ 0x02 ∷ 0x01 ∷ 0x00 ∷ 0x01 ∷ 0x00 ∷ 0x01 ∷ 0x00 ∷ []) ≡ Verdict.Accepted)
-    × (checked still (0x02 ∷ 0x01 ∷ 0x00 ∷ 0x05 ∷ 0x00 ∷ 0x02 ∷ 0x01 ∷ 0x00 ∷ 0x01 ∷ 0x00 ∷ 0x01 ∷ 0x00 ∷ []) ≡ Verdict.Refused (bad_table 3))
-    × (checked still (0x02 ∷ 0x01 ∷ 0x00 ∷ 0x05 ∷ 0x00 ∷ 0x01 ∷ 0x01 ∷ 0x00 ∷ 0x01 ∷ 0x00 ∷ 0x01 ∷ 0x00 ∷ []) ≡ Verdict.Refused (bad_table 5))
-    × (checked still (0x02 ∷ 0x01 ∷ 0x00 ∷ 0x06 ∷ 0x00 ∷ 0x02 ∷ 0x00 ∷ []) ≡ Verdict.Refused (bad_table 6))
+nested : (checked still (0x02 ∷ 0x01 ∷ 0x00 ∷ 0x06 ∷ 0x00 ∷ 0x02 ∷ 0x01 ∷ 0x00 ∷ 0x01 ∷ 0x00 ∷ 0x01 ∷ 0x00 ∷ []) ≡ Ok tt)
+    × (checked still (0x02 ∷ 0x01 ∷ 0x00 ∷ 0x05 ∷ 0x00 ∷ 0x02 ∷ 0x01 ∷ 0x00 ∷ 0x01 ∷ 0x00 ∷ 0x01 ∷ 0x00 ∷ []) ≡ Err (bad_table 3))
+    × (checked still (0x02 ∷ 0x01 ∷ 0x00 ∷ 0x05 ∷ 0x00 ∷ 0x01 ∷ 0x01 ∷ 0x00 ∷ 0x01 ∷ 0x00 ∷ 0x01 ∷ 0x00 ∷ []) ≡ Err (bad_table 5))
+    × (checked still (0x02 ∷ 0x01 ∷ 0x00 ∷ 0x06 ∷ 0x00 ∷ 0x02 ∷ 0x00 ∷ []) ≡ Err (bad_table 6))
 unfolding computing
 nested = (refl, refl, refl, refl)
 

@@ -1,9 +1,8 @@
 -- Lines worked out by hand from request 2026-08 and its readings: N up to 256, modes of two bytes in a table, states inside one, and the modes left of a
 -- running state, all of them read.
-use Rattle.std.specs.Prelude.{ℕ, zero, suc, ◌≡◌, refl, List, [], ◌∷◌, ◌++◌, ℤ, pos, neg_ℤ}
-use Rattle.meaning.specs.declared.Answer.{Answer}
+use Rattle.std.specs.Prelude.{ℕ, zero, suc, ◌≡◌, refl, List, [], ◌∷◌, ◌++◌, ℤ, pos, neg_ℤ, Ok, Err}
+use Rattle.meaning.specs.Answers.{Answer}
 use Rattle.meaning.specs.declared.State.{State}
-use Rattle.meaning.specs.declared.Verdict.{Verdict}
 use Rattle.meaning.specs.Refusals.{broken, unfit, bad_table, bad_state}
 use Rattle.meaning.specs.Files.{good, file_of}
 use Rattle.meaning.specs.Plants.{plant_form, plant_read}
@@ -24,8 +23,8 @@ abbrev valves : ℕ → ℕ → ℕ → List ℕ
 valves a b d = file_of plant_form (front 129 a b d ++ cool 128 ++ pos 9 ∷ pos 300 ∷ [])
 
 -- N 256 is `80 02`; 257 is 3 at N
-ranges : ((plant_read (file_of plant_form (front 256 190 230 1 ++ cool 256))).verdict ≡ Verdict.Accepted)
-    × ((plant_read (file_of plant_form (front 257 190 230 1 ++ cool 257))).verdict ≡ Verdict.Refused (unfit 2))
+ranges : ((plant_read (file_of plant_form (front 256 190 230 1 ++ cool 256))).verdict ≡ Ok tt)
+    × ((plant_read (file_of plant_form (front 257 190 230 1 ++ cool 257))).verdict ≡ Err (unfit 2))
 unfolding computing cool
 ranges = (refl, refl)
 
@@ -33,8 +32,8 @@ ranges = (refl, refl)
 abbrev table : List ℕ
 table = 0x01 ∷ 0x01 ∷ 0x00 ∷ 0x01 ∷ 0x80 ∷ 0x01 ∷ 0x01 ∷ 0x00 ∷ []
 
-tables : (made (valves 190 230 1) 1 ≡ good table) × (checked (valves 190 230 1) table ≡ Verdict.Accepted)
-    × (checked (valves 190 230 1) (0x01 ∷ 0x01 ∷ 0x00 ∷ 0x01 ∷ 0x81 ∷ 0x01 ∷ 0x01 ∷ 0x00 ∷ []) ≡ Verdict.Refused (bad_table 4))
+tables : (made (valves 190 230 1) 1 ≡ good table) × (checked (valves 190 230 1) table ≡ Ok tt)
+    × (checked (valves 190 230 1) (0x01 ∷ 0x01 ∷ 0x00 ∷ 0x01 ∷ 0x81 ∷ 0x01 ∷ 0x01 ∷ 0x00 ∷ []) ≡ Err (bad_table 4))
 unfolding computing cool
 tables = (refl, refl, refl)
 
@@ -58,15 +57,15 @@ abbrev told : List ℕ → List ℕ → State → ℕ → Answer
 told plant table st x = controlled plant table st (pos x ∷ [])
 
 -- the state moves behind the number of a mode; a place inside one is read as it stands
-moves : (told (valves 180 240 1) pair idle 200 ≡ Answer.Mode 0 (at 4 1)) × (told (valves 180 240 1) pair (at 4 1) 186 ≡ Answer.Mode 128 idle)
-    × (told (valves 180 240 1) pair (at 3 2) 186 ≡ Answer.Mode 0 (at 4 1)) × (told (valves 180 240 1) pair (at 5 1) 186 ≡ Answer.Mode 1 idle)
-    × (told (valves 190 230 1) table idle 195 ≡ Answer.Mode 128 idle) × (told (valves 190 230 1) table idle 225 ≡ Answer.Mode 0 idle)
+moves : (told (valves 180 240 1) pair idle 200 ≡ Ok (0, at 4 1)) × (told (valves 180 240 1) pair (at 4 1) 186 ≡ Ok (128, idle))
+    × (told (valves 180 240 1) pair (at 3 2) 186 ≡ Ok (0, at 4 1)) × (told (valves 180 240 1) pair (at 5 1) 186 ≡ Ok (1, idle))
+    × (told (valves 190 230 1) table idle 195 ≡ Ok (128, idle)) × (told (valves 190 230 1) table idle 225 ≡ Ok (0, idle))
 unfolding computing cool
 moves = (refl, refl, refl, refl, refl, refl)
 
 -- 12: the modes left run off the table, a later one is broken, a later one is not below N; idle the walk tells 1 and 6 there
-twelve : (told (valves 180 240 1) pair (at 4 2) 186 ≡ Answer.Refused bad_state) × (told (valves 180 240 1) cut (at 3 2) 186 ≡ Answer.Refused bad_state)
-    × (told (valves 180 240 1) cut (at 3 1) 186 ≡ Answer.Mode 0 idle) × (told (valves 180 240 1) cut idle 200 ≡ Answer.Refused (broken 4))
-    × (told P' nine (at 3 2) 186 ≡ Answer.Refused bad_state) × (told P' nine (at 3 1) 186 ≡ Answer.Mode 0 idle) × (told P' nine idle 200 ≡ Answer.Refused (bad_table 4))
+twelve : (told (valves 180 240 1) pair (at 4 2) 186 ≡ Err bad_state) × (told (valves 180 240 1) cut (at 3 2) 186 ≡ Err bad_state)
+    × (told (valves 180 240 1) cut (at 3 1) 186 ≡ Ok (0, idle)) × (told (valves 180 240 1) cut idle 200 ≡ Err (broken 4))
+    × (told P' nine (at 3 2) 186 ≡ Err bad_state) × (told P' nine (at 3 1) 186 ≡ Ok (0, idle)) × (told P' nine idle 200 ≡ Err (bad_table 4))
 unfolding computing cool
 twelve = (refl, refl, refl, refl, refl, refl, refl)

@@ -1,13 +1,11 @@
 -- Lines worked out by hand from document 01, where the second program has no answer to compare with or the paper states the answer itself:
 -- what may follow, lines 10 and 12, a plant and a table with two faults, the largest float below one half, the sheet's own equation with its
 -- floats taken exactly, and heaters that fade (request 2026-02).
-use Rattle.std.specs.Prelude.{ℕ, ◌≡◌, refl, Bool, true, false, List, [], ◌∷◌, ◌++◌, ℤ, pos, neg_ℤ, Float}
+use Rattle.std.specs.Prelude.{ℕ, ◌≡◌, refl, Bool, true, false, List, [], ◌∷◌, ◌++◌, ℤ, pos, neg_ℤ, Float, Some, Ok, Err}
 use Rattle.std.specs.Float.{binary64}
 use Rattle.std.specs.Float.Ieee.{add, sub, of_bits}
-use Rattle.meaning.specs.declared.Verdict.{Verdict}
-use Rattle.meaning.specs.declared.Answer.{Answer}
+use Rattle.meaning.specs.Answers.{Verdict, Answer, Whole}
 use Rattle.meaning.specs.declared.Sheet.{Sheet}
-use Rattle.meaning.specs.declared.Whole.{Whole}
 use Rattle.meaning.specs.Refusals.{broken, unfit, narrow, outside, leaves, bad_result}
 use Rattle.meaning.specs.Files.{file_of}
 use Rattle.meaning.specs.Images.{follows}
@@ -33,29 +31,29 @@ abbrev idle_at : ℕ → Answer
 idle_at x = controlled P table₁ idle (pos x ∷ [])
 
 -- line 10
-line-10 : (idle_at 195 ≡ Answer.Mode 1 idle) × (idle_at 225 ≡ Answer.Mode 0 idle)
-    × (idle_at 194 ≡ Answer.Refused (outside 0)) × (idle_at 226 ≡ Answer.Refused (outside 0))
+line-10 : (idle_at 195 ≡ Ok (1, idle)) × (idle_at 225 ≡ Ok (0, idle))
+    × (idle_at 194 ≡ Err (outside 0)) × (idle_at 226 ≡ Err (outside 0))
 unfolding computing
 line-10 = (refl, refl, refl, refl)
 
 -- line 12
-line-12 : ((plant_read []).verdict ≡ Verdict.Refused (broken 0)) × ((plant_read (file_of plant_form (plant_p 3))).verdict ≡ Verdict.Refused (narrow 0 0))
+line-12 : ((plant_read []).verdict ≡ Err (broken 0)) × ((plant_read (file_of plant_form (plant_p 3))).verdict ≡ Err (narrow 0 0))
 unfolding computing
 line-12 = (refl, refl)
 
 -- bytes left over are told before the narrow band
-leftover-first : (plant_read (file_of plant_form (plant_p 3) ++ 0 ∷ [])).verdict ≡ Verdict.Refused (unfit 22)
+leftover-first : (plant_read (file_of plant_form (plant_p 3) ++ 0 ∷ [])).verdict ≡ Err (unfit 22)
 unfolding computing
 leftover-first = refl
 
 -- Images are tested where the tile stands: from 195..210 mode 0 leads to 185 and leaves S, which is told (7 at 3, step 1) before the node of 3
 -- modes behind it, one more than K (6 at 5).
-in_order : checked P (1 ∷ 1 ∷ 0 ∷ 1 ∷ 0 ∷ 3 ∷ []) ≡ Verdict.Refused (leaves 3 1)
+in_order : checked P (1 ∷ 1 ∷ 0 ∷ 1 ∷ 0 ∷ 3 ∷ []) ≡ Err (leaves 3 1)
 unfolding computing
 in_order = refl
 
 -- the largest f64 below one half, times 1, gives 0: with a half added in f64 it would be rounded to 1
-below_half : whole_of 20_000 1 (of_bits binary64 0x3FDF_FFFF_FFFF_FFFF) ≡ Whole.Near (pos 0)
+below_half : whole_of 20_000 1 (of_bits binary64 0x3FDF_FFFF_FFFF_FFFF) ≡ Some (pos 0)
 unfolding computing
 below_half = refl
 
@@ -91,7 +89,7 @@ exact = (refl, refl, refl, refl, refl, refl, refl, refl, refl, refl, refl, refl)
 -- ---- heaters that fade
 
 abbrev whole : ℕ → Whole
-whole v = Whole.Near (pos v)
+whole v = Some (pos v)
 
 -- line 13: the heater that is on takes its 0.125 off the diagonal, 8·0.75
 fading : (made_row heater₁₃ 0 0 ≡ whole 7 ∷ whole 80 ∷ []) × (made_row heater₁₃ 1 0 ≡ whole 6 ∷ whole 480 ∷ [])
@@ -142,7 +140,7 @@ diagonal_of a b c = sub binary64 one_f (add binary64 (add binary64 a b) c)
 abbrev bits : ℕ → Float
 bits v = of_bits binary64 v
 
-before-exchanges : whole_of 20_000 1 (diagonal_of (bits 0x3FF7_FFFF_FFFF_FFFE) (bits 0x3CA8_0000_0000_0000) (bits 0x3CA0_0000_0000_0000)) ≡ Whole.Near (neg_ℤ (pos 1))
+before-exchanges : whole_of 20_000 1 (diagonal_of (bits 0x3FF7_FFFF_FFFF_FFFE) (bits 0x3CA8_0000_0000_0000) (bits 0x3CA0_0000_0000_0000)) ≡ Some (neg_ℤ (pos 1))
 unfolding computing
 before-exchanges = refl
 
@@ -153,8 +151,8 @@ abbrev hot : ℕ → ℕ → Verdict
 hot p water =
     (sheet_read (file_of sheet_form (house 10 8 (pos 0x3FC0_0000_0000_0000 ∷ pos 0 ∷ pos 0 ∷ pos 0x3FC0_0000_0000_0000 ∷ pos 0 ∷ pos 1 ∷ pos p ∷ pos water ∷ [])))).verdict
 
-one-mode-out : (hot 0x40A7_7000_0000_0000 0x412E_8480_0000_0000 ≡ Verdict.Refused (bad_result 28))
-    × (hot 0x40A3_8800_0000_0000 0x412E_8480_0000_0000 ≡ Verdict.Refused (bad_result 29))
-    × (hot 0x40A3_8800_0000_0000 0x4044_0000_0000_0000 ≡ Verdict.Accepted)
+one-mode-out : (hot 0x40A7_7000_0000_0000 0x412E_8480_0000_0000 ≡ Err (bad_result 28))
+    × (hot 0x40A3_8800_0000_0000 0x412E_8480_0000_0000 ≡ Err (bad_result 29))
+    × (hot 0x40A3_8800_0000_0000 0x4044_0000_0000_0000 ≡ Ok tt)
 unfolding computing
 one-mode-out = (refl, refl, refl)

@@ -1,11 +1,10 @@
 -- What is answered and put into `out` of a controller's call, on a table and on a start file, and the state that it takes. Definitions alone.
-use Rattle.std.specs.Prelude.{ℕ, List, [], ◌∷◌, nat_abs}
+use Rattle.std.specs.Prelude.{ℕ, List, [], ◌∷◌, nat_abs, Ok, Err}
 use Rattle.laws.specs.Lists.{at}
+use Rattle.meaning.specs.Answers.{Answer, StartAnswer}
 use Rattle.meaning.specs.declared.State.{State}
 use Rattle.meaning.specs.declared.Refusal.{Refusal}
-use Rattle.meaning.specs.declared.Answer.{Answer}
 use Rattle.meaning.specs.declared.StartState.{StartState}
-use Rattle.meaning.specs.declared.StartAnswer.{StartAnswer}
 use Rattle.meaning.specs.Refusals.{Shown, refusal}
 
 -- the mode; and number, place, step, next place, next left
@@ -21,8 +20,8 @@ state_of place left = record { place = place; left = left }
 
 -- the refusal of an answer; of a mode, zeros
 abbrev pub refusal_of : Answer → Refusal
-refusal_of (Answer.Refused e) = e
-refusal_of (Answer.Mode u next) = refusal 0 0 0
+refusal_of (Err e) = e
+refusal_of (Ok (u, next)) = refusal 0 0 0
 
 -- the same of a start file: the next index stands before place and left
 abbrev pub numbers_and_state : Shown → List ℕ
@@ -32,5 +31,5 @@ abbrev pub start_state_of : ℕ → ℕ → ℕ → StartState
 start_state_of index place left = record { index = index; state = state_of place left }
 
 abbrev pub start_refusal_of : StartAnswer → Refusal
-start_refusal_of (StartAnswer.Refused e) = e
-start_refusal_of (StartAnswer.Mode u next) = refusal 0 0 0
+start_refusal_of (Err e) = e
+start_refusal_of (Ok (u, next)) = refusal 0 0 0

@@ -3,16 +3,16 @@ ghost use Rattle.std.specs.Prelude.{◌≡◌};
 ghost use Rattle.meaning.specs.Refusals.{answer_shown, start_answer_shown};
 ghost use Rattle.face.specs.Answers.{mode, number_and_state, refusal_of, numbers_and_state, start_refusal_of};
 
-use meaning::{Answer, Refusal, StartAnswer};
+use meaning::Refusal;
 
 // No mode: 255 is one.
 const NO_MODE: u64 = 65_535;
 
 // The refusal of an answer that is no mode; of a mode, zeros.
-fn refusal(a: Answer) -> Refusal
+fn refusal(a: Result<(usize, State), Refusal>) -> Refusal
     ensures { result ≡ refusal_of a }
 {
-    let Answer::Refused(e) = a else {
+    let Err(e) = a else {
         return Refusal {
             number: 0,
             place: 0,
@@ -23,11 +23,11 @@ fn refusal(a: Answer) -> Refusal
 }
 
 // The mode of a controller's answer, NO_MODE where it is refused; out holds number, place and step of the refusal, then the next state.
-pub fn answer(a: Answer, out: &mut [u64; 5]) -> u64
+pub fn answer(a: Result<(usize, State), Refusal>, out: &mut [u64; 5]) -> u64
     ensures mode { result ≡ mode (answer_shown a) }
     ensures state { out.new ≡ number_and_state (answer_shown a) }
 {
-    let Answer::Mode(u, next) = a else {
+    let Ok((u, next)) = a else {
         let e = refusal(a);
         let number = e.number as u64;
         let place = e.place as u64;
@@ -42,10 +42,10 @@ pub fn answer(a: Answer, out: &mut [u64; 5]) -> u64
 }
 
 // The same of a start controller's answer.
-fn start_refusal(a: StartAnswer) -> Refusal
+fn start_refusal(a: Result<(usize, StartState), Refusal>) -> Refusal
     ensures { result ≡ start_refusal_of a }
 {
-    let StartAnswer::Refused(e) = a else {
+    let Err(e) = a else {
         return Refusal {
             number: 0,
             place: 0,
@@ -56,11 +56,11 @@ fn start_refusal(a: StartAnswer) -> Refusal
 }
 
 // The mode of a start controller's answer, NO_MODE where it is refused; out holds number, place and step of the refusal, then the next state.
-pub fn start_answer(a: StartAnswer, out: &mut [u64; 6]) -> u64
+pub fn start_answer(a: Result<(usize, StartState), Refusal>, out: &mut [u64; 6]) -> u64
     ensures mode { result ≡ mode (start_answer_shown a) }
     ensures state { out.new ≡ numbers_and_state (start_answer_shown a) }
 {
-    let StartAnswer::Mode(u, next) = a else {
+    let Ok((u, next)) = a else {
         let e = start_refusal(a);
         let number = e.number as u64;
         let place = e.place as u64;

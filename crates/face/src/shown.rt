@@ -4,19 +4,18 @@ ghost use Rattle.std.specs.Prelude.{◌≡◌};
 ghost use Rattle.meaning.specs.Refusals.{verdict_shown, written_shown};
 ghost use Rattle.face.specs.Shown.{place_and_step, length_or_place};
 
-use meaning::{Verdict, Written};
 
 // The number of a verdict; out holds place and step.
-pub fn verdict(v: Verdict, out: &mut [u64; 2]) -> u64
+pub fn verdict(v: Result<(), Refusal>, out: &mut [u64; 2]) -> u64
     ensures number { result ≡ (verdict_shown v).number }
     ensures place { out.new ≡ place_and_step (verdict_shown v) }
 {
     match v {
-        Verdict::Accepted => {
+        Ok(()) => {
             *out = [0u64; 2];
             0
         }
-        Verdict::Refused(e) => {
+        Err(e) => {
             let number = e.number as u64;
             let place = e.place as u64;
             let step = e.step as u64;
@@ -27,15 +26,15 @@ pub fn verdict(v: Verdict, out: &mut [u64; 2]) -> u64
 }
 
 // The number of a writer's answer; out holds the length written, or place and step.
-pub fn written(w: Written, out: &mut [u64; 2]) -> u64
+pub fn written(w: Result<usize, Refusal>, out: &mut [u64; 2]) -> u64
     ensures number { result ≡ (written_shown w).number }
     ensures length { out.new ≡ length_or_place w }
 {
     match w {
-        Written::Length(m) => {
+        Ok(m) => {
             *out = [m as u64, 0];
             0
         }
-        Written::Refused(e) => verdict(Verdict::Refused(e), out),
+        Err(e) => verdict(Err(e), out),
     }
 }

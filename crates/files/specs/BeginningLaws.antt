@@ -1,12 +1,11 @@
 -- A beginning is what its numbers say, whatever stands behind them; and what is told of one that was read settles it. Relies on promises' page Bodies.
-use Rattle.std.specs.Prelude.{ℕ, ◌+◌, ◌*◌, ◌<◌, ◌≡◌, refl, ℤ}
+use Rattle.std.specs.Prelude.{ℕ, ◌+◌, ◌*◌, ◌<◌, ◌≡◌, refl, ℤ, Ok, Err}
 use Rattle.std.proofs.Common.{sym, ◌∙◌, arith}
 use Rattle.std.proofs.Math.Path.{ap}
 use mathlib.Core.List.{List, [], ◌++◌, append_assoc}
 use Rattle.laws.specs.Lists.{at}
 use Rattle.laws.specs.Tabs.{Filled}
-use Rattle.meaning.specs.declared.Walk.{Walk}
-use Rattle.meaning.specs.declared.Verdict.{Verdict}
+use Rattle.meaning.specs.Answers.{Walk, Verdict}
 use Rattle.meaning.specs.Files.{end, read, values_at}
 use Rattle.meaning.specs.Plants.{edges_of, band_of, column, edges_and_bands}
 use Rattle.promises.specs.Files.Bodies.{edge_same, band-same}
@@ -62,8 +61,8 @@ unfolding beginning_read values_at
 settled forms most s r t = go r.answer refl t
   where
     go : (w : Walk) → r.answer ≡ w → BegunAs forms most s r w → r ≡ beginning_read forms most s
-    go (Walk.Refused e) q u = u.0 ∙ sym (ap beginning_from (u.1 (λ form n m. end)))
-    go (Walk.Next next) q u = sym (ap beginning_from (u.0.holds (λ form n m. end) ∙ ends) ∙ taken)
+    go (Err e) q u = u.0 ∙ sym (ap beginning_from (u.1 (λ form n m. end)))
+    go (Ok next) q u = sym (ap beginning_from (u.0.holds (λ form n m. end) ∙ ends) ∙ taken)
       where
         b : Beginning
         b = r.beginning
@@ -73,8 +72,8 @@ settled forms most s r t = go r.answer refl t
 
         taken : beginning_from (read (beginning_numbers b ++ []) next) ≡ r
         taken =
-            ap (λ (x : Beginning). record { answer = Walk.Next next; related = relation x; beginning = x }) (beginning-back b u.0 [])
-            ∙ parts r (Walk.Next next) (relation b) q u.1
+            ap (λ (x : Beginning). record { answer = Ok next; related = relation x; beginning = x }) (beginning-back b u.0 [])
+            ∙ parts r (Ok next) (relation b) q u.1
 
 -- ---- a header and what stands behind it
 

@@ -1,13 +1,12 @@
 -- What plants and sheets begin with alike: a form in 1..forms, n, a number in 1..most, q, K, D, then R and S, then w of each dimension; as the code reads and writes
 -- it, with what is asked of R, S and w. `Begun` is a beginning that was read: the file goes on behind it, its arrays hold zeros beyond n, and those ranges
 -- that the code behind it relies on; all of document 01's are promises' `Sound`. Assumes nothing.
-use Rattle.std.specs.Prelude.{ℕ, ◌+◌, ◌*◌, ◌≤◌, ◌≡◌, refl, Bool, true, false, cond, List, [], ◌∷◌, ◌++◌, map, ltb, ℤ, pos, nat_abs}
+use Rattle.std.specs.Prelude.{ℕ, ◌+◌, ◌*◌, ◌≤◌, ◌≡◌, refl, Bool, true, false, cond, List, [], ◌∷◌, ◌++◌, map, ltb, ℤ, pos, nat_abs, Ok, Err}
 use Rattle.laws.specs.Guards.{guard}
 use Rattle.laws.specs.Lists.{at, tabs, all, first_false}
 use Rattle.laws.specs.Tabs.{Filled}
+use Rattle.meaning.specs.Answers.{Walk, Verdict}
 use Rattle.meaning.specs.declared.Refusal.{Refusal}
-use Rattle.meaning.specs.declared.Verdict.{Verdict}
-use Rattle.meaning.specs.declared.Walk.{Walk}
 use Rattle.meaning.specs.Refusals.{not_in_safe, narrow}
 use Rattle.meaning.specs.Files.{Form, end, Read, read, refused, values_at, Judged, good, bad}
 use Rattle.meaning.specs.Boxes.{Side, sides_of, lies}
@@ -62,12 +61,12 @@ beginning_of vs =
 -- ---- R lies within S, each band is wide enough: a verdict, which is told behind leftover bytes
 
 abbrev pub verdict_of : {A : Type 0} → Judged A → Verdict
-verdict_of (good a) = Verdict.Accepted
-verdict_of (bad e) = Verdict.Refused e
+verdict_of (good a) = Ok tt
+verdict_of (bad e) = Err e
 
 abbrev pub by_verdict : {A : Type 0} → Verdict → (Unit {0} → Judged A) → Judged A
-by_verdict Verdict.Accepted rest = rest tt
-by_verdict (Verdict.Refused e) rest = bad e
+by_verdict (Ok _) rest = rest tt
+by_verdict (Err e) rest = bad e
 
 modes-verdict : {A : Type 0} (q u : ℕ) (modes : List (List Side)) (rest : Unit {0} → Judged A)
     → wide_modes q u modes rest ≡ by_verdict (verdict_of {A = Unit {0}} (wide_modes q u modes λ _. good tt)) rest
@@ -105,11 +104,11 @@ related-by b rest = related-verdict b.q (sides_of b.n b.rlo b.rhi) (sides_of b.n
 
 -- the definition: the beginning with the place behind it, or the refusal and zeros
 abbrev pub no_beginning : Refusal → BeginningRead
-no_beginning e = record { answer = Walk.Refused e; related = Verdict.Accepted; beginning = beginning_of [] }
+no_beginning e = record { answer = Err e; related = Ok tt; beginning = beginning_of [] }
 
 abbrev pub beginning_from : Read (List ℤ) → BeginningRead
 beginning_from (refused e) = no_beginning e
-beginning_from (read vs next) = record { answer = Walk.Next next; related = relation (beginning_of vs); beginning = beginning_of vs }
+beginning_from (read vs next) = record { answer = Ok next; related = relation (beginning_of vs); beginning = beginning_of vs }
 
 unfoldable pub beginning_read : ℕ → ℕ → List ℕ → BeginningRead
 beginning_read forms most s = beginning_from (values_at (beginning_form forms most λ form n m. end) s 0)
@@ -135,8 +134,8 @@ pub record Begun (forms most : ℕ) (s : List ℕ) (b : Beginning) (next : ℕ) 
   pub holds : (rest : ℕ → ℕ → ℕ → Form) → values_at (beginning_form forms most rest) s 0 ≡ behind (beginning_numbers b) (values_at (rest b.form b.n b.m) s next)
 
 abbrev pub BegunAs : ℕ → ℕ → List ℕ → BeginningRead → Walk → Type 0
-BegunAs forms most s r (Walk.Next next) = Begun forms most s r.beginning next × (r.related ≡ relation r.beginning)
-BegunAs forms most s r (Walk.Refused e) = (r ≡ no_beginning e) × ((rest : ℕ → ℕ → ℕ → Form) → values_at (beginning_form forms most rest) s 0 ≡ refused e)
+BegunAs forms most s r (Ok next) = Begun forms most s r.beginning next × (r.related ≡ relation r.beginning)
+BegunAs forms most s r (Err e) = (r ≡ no_beginning e) × ((rest : ℕ → ℕ → ℕ → Form) → values_at (beginning_form forms most rest) s 0 ≡ refused e)
 
 -- whatever stands behind it
 abbrev pub BeginningTold : ℕ → ℕ → List ℕ → BeginningRead → Type 0
@@ -156,8 +155,8 @@ pub record BoundsRead (s : List ℕ) (h : Header) (from : ℕ) (b : Beginning) (
   pub band-sizes : EndsWithin band_limit h.n b.wlo b.whi
 
 abbrev pub BoundsAs : List ℕ → Header → ℕ → BeginningRead → Walk → Type 0
-BoundsAs s h from r (Walk.Next next) = BoundsRead s h from r.beginning next × (r.related ≡ relation r.beginning)
-BoundsAs s h from r (Walk.Refused e) = (r ≡ no_beginning e) × Fails (edges_and_bands h.n) s from e
+BoundsAs s h from r (Ok next) = BoundsRead s h from r.beginning next × (r.related ≡ relation r.beginning)
+BoundsAs s h from r (Err e) = (r ≡ no_beginning e) × Fails (edges_and_bands h.n) s from e
 
 abbrev pub BoundsTold : List ℕ → Header → ℕ → BeginningRead → Type 0
 BoundsTold s h from r = BoundsAs s h from r r.answer

@@ -2,8 +2,8 @@
 -- by leftover bytes, then by the beginning's verdict on R, S and w. Assumes nothing.
 use Rattle.std.specs.Prelude.{ℕ, ◌≡◌, List, ◌++◌, length, ℤ}
 use Rattle.std.proofs.Common.{sym, ap, ◌∙◌, ne_eqb, eq-eqb}
+use Rattle.meaning.specs.Answers.{Verdict}
 use Rattle.meaning.specs.declared.Refusal.{Refusal}
-use Rattle.meaning.specs.declared.Verdict.{Verdict}
 use Rattle.meaning.specs.Refusals.{unfit}
 use Rattle.meaning.specs.Files.{Form, Read, read, refused, ended, values_at, values_of, Judged, good, bad}
 use Rattle.files.specs.declared.beginnings.Beginning.{Beginning}

@@ -1,8 +1,8 @@
 -- R, S and w as the code reads them: the parts of the form that they are, with their values; zeros beyond n. Assumes nothing.
-use Rattle.std.specs.Prelude.{ℕ, ◌≤◌, ◌<◌, List, ℤ, nat_abs}
+use Rattle.std.specs.Prelude.{ℕ, ◌≤◌, ◌<◌, List, ℤ, nat_abs, Ok, Err}
 use Rattle.laws.specs.Lists.{at, tabs}
 use Rattle.laws.specs.Tabs.{Filled}
-use Rattle.meaning.specs.declared.Walk.{Walk}
+use Rattle.meaning.specs.Answers.{Walk}
 use Rattle.meaning.specs.Files.{Form}
 use Rattle.meaning.specs.Plants.{edge_limit, band_limit, span, times, edges_of, band_of}
 use Rattle.files.specs.declared.bounds.EdgeArrays.{EdgeArrays}
@@ -26,8 +26,8 @@ pub record EdgesRead (s : List ℕ) (from n : ℕ) (r : EdgeArrays) (next : ℕ)
   pub sizes : EndsWithin edge_limit n r.slo r.shi
 
 abbrev pub EdgesAs : List ℕ → ℕ → ℕ → EdgeArrays → Walk → Type 0
-EdgesAs s from n r (Walk.Next next) = EdgesRead s from n r next
-EdgesAs s from n r (Walk.Refused e) = Fails (times n edges_part) s from e
+EdgesAs s from n r (Ok next) = EdgesRead s from n r next
+EdgesAs s from n r (Err e) = Fails (times n edges_part) s from e
 
 abbrev pub EdgesTold : List ℕ → ℕ → ℕ → EdgeArrays → Type 0
 EdgesTold s from n r = EdgesAs s from n r r.answer
@@ -43,8 +43,8 @@ pub record BandsRead (s : List ℕ) (from n : ℕ) (r : BandArrays) (next : ℕ)
   pub sizes : BandSizes n r.wlo r.whi
 
 abbrev pub BandsAs : List ℕ → ℕ → ℕ → BandArrays → Walk → Type 0
-BandsAs s from n r (Walk.Next next) = BandsRead s from n r next
-BandsAs s from n r (Walk.Refused e) = Fails (times n (span band_limit)) s from e
+BandsAs s from n r (Ok next) = BandsRead s from n r next
+BandsAs s from n r (Err e) = Fails (times n (span band_limit)) s from e
 
 abbrev pub BandsTold : List ℕ → ℕ → ℕ → BandArrays → Type 0
 BandsTold s from n r = BandsAs s from n r r.answer

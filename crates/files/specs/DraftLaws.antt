@@ -8,8 +8,8 @@ use Rattle.std.proofs.Math.Seq.{take-append_seam}
 use Rattle.std.proofs.lemmas.List.Edits.{sets-eq}
 use borrow.Author.Tests.{lt-ltb, le-ltb}
 use Rattle.laws.specs.Writing.{Put, put-length}
+use Rattle.meaning.specs.Answers.{Verdict}
 use Rattle.meaning.specs.declared.Refusal.{Refusal}
-use Rattle.meaning.specs.declared.Verdict.{Verdict}
 use Rattle.meaning.specs.Buffers.{left}
 use Rattle.meaning.specs.Files.{Form, Read, refused, ended, values_at, values_of, file_of, Judged, good, bad, file_judged}
 use Rattle.meaning.specs.Plants.{headed}

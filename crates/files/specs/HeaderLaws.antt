@@ -1,11 +1,10 @@
 -- The header's numbers one after another: where one fails, the form is refused by its fault; where all are taken, their values stand in front of what
 -- follows. Assumes nothing.
-use Rattle.std.specs.Prelude.{ℕ, ◌*◌, ◌≤◌, ◌<◌, ◌≡◌, true, false, List, [], ◌∷◌, ◌++◌, ℤ, pos}
+use Rattle.std.specs.Prelude.{ℕ, ◌*◌, ◌≤◌, ◌<◌, ◌≡◌, true, false, List, [], ◌∷◌, ◌++◌, ℤ, pos, Some, None}
 use Rattle.std.proofs.Math.Path.{sym, ap}
 use Rattle.std.proofs.Common.{◌∙◌, arith, mul-le-mul, Fits, le-leb}
 use Rattle.std.specs.Int.{w64}
 use Rattle.std.proofs.lemmas.Bool.{lt-leb}
-use Rattle.meaning.specs.declared.Number.{Number}
 use Rattle.meaning.specs.declared.Refusal.{Refusal}
 use Rattle.meaning.specs.Refusals.{broken, wrong_form, unfit}
 use Rattle.meaning.specs.Numbers.{number_at}
@@ -43,15 +42,15 @@ pub record Reached (forms most : ℕ) (s : List ℕ) (more : Rest → Form) (vs 
   pub goes : (rest : Rest) → values_at (headed forms most rest) s 0 ≡ behind vs (values_at (more rest) s at)
 
 module _ (forms most : ℕ) (s : List ℕ) where
-  pub form-broken : number_at s 0 ≡ Number.Broken → (rest : Rest) → values_at (headed forms most rest) s 0 ≡ refused (broken 0)
+  pub form-broken : number_at s 0 ≡ None → (rest : Rest) → values_at (headed forms most rest) s 0 ≡ refused (broken 0)
   unfolding headed values_at
   form-broken e rest = simp e
 
-  pub form-wrong : (form a : ℕ) → number_at s 0 ≡ Number.Value form a → from 1 forms form ≡ false → (rest : Rest) → values_at (headed forms most rest) s 0 ≡ refused wrong_form
+  pub form-wrong : (form a : ℕ) → number_at s 0 ≡ Some (form, a) → from 1 forms form ≡ false → (rest : Rest) → values_at (headed forms most rest) s 0 ≡ refused wrong_form
   unfolding headed values_at
   form-wrong form a e n rest = simp (e, n)
 
-  pub form-reached : (form a : ℕ) → number_at s 0 ≡ Number.Value form a → from 1 forms form ≡ true → Reached forms most s (from-n most form) (pos form ∷ []) a
+  pub form-reached : (form a : ℕ) → number_at s 0 ≡ Some (form, a) → from 1 forms form ≡ true → Reached forms most s (from-n most form) (pos form ∷ []) a
   unfolding headed values_at behind
   form-reached form a e n = record { goes = λ rest. simp (e, n) }
 
@@ -68,10 +67,10 @@ module _ {forms most : ℕ} {s : List ℕ} {vs : List ℤ} {at : ℕ} where
   }
 
   module _ (least high : ℕ) (further : ℕ → Rest → Form) (w : Reached forms most s (λ rest. counted (from least high) λ v. further v rest) vs at) where
-    pub number-fails : counted_at s at least high ≡ Number.Broken → (rest : Rest) → values_at (headed forms most rest) s 0 ≡ refused (fault_at s at)
+    pub number-fails : counted_at s at least high ≡ None → (rest : Rest) → values_at (headed forms most rest) s 0 ≡ refused (fault_at s at)
     number-fails e rest = refused-there w rest (range-fails (λ v. further v rest) s at least high e)
 
-    pub number-reached : (v next : ℕ) → counted_at s at least high ≡ Number.Value v next → Reached forms most s (further v) (vs ++ (pos v ∷ [])) next
+    pub number-reached : (v next : ℕ) → counted_at s at least high ≡ Some (v, next) → Reached forms most s (further v) (vs ++ (pos v ∷ [])) next
     number-reached v next e = taken-there (pos v) next w (λ rest. range-holds (λ v. further v rest) s at least high v next e)
 
   -- too deep: D over 6, or n·D over 12
@@ -79,10 +78,10 @@ module _ {forms most : ℕ} {s : List ℕ} {vs : List ℤ} {at : ℕ} where
     deep : (d : ℕ) → 6 < d → depth n d ≡ false
     deep d h = simp (lt-leb _ _ h)
 
-    pub d-fails : counted_at s at 0 6 ≡ Number.Broken → (rest : Rest) → values_at (headed forms most rest) s 0 ≡ refused (fault_at s at)
+    pub d-fails : counted_at s at 0 6 ≡ None → (rest : Rest) → values_at (headed forms most rest) s 0 ≡ refused (fault_at s at)
     d-fails e rest = refused-there w rest (counted-fault (depth n) (λ d. rest form n m) s at 0 6 (λ v h. absurd (omega arith)) deep e)
 
-    module _ (d next : ℕ) (e : counted_at s at 0 6 ≡ Number.Value d next) where
+    module _ (d next : ℕ) (e : counted_at s at 0 6 ≡ Some (d, next)) where
       pub too-deep : 12 < n * d → (rest : Rest) → values_at (headed forms most rest) s 0 ≡ refused (unfit at)
       too-deep h rest =
           let c = counted-was s at 0 6 d next e in
@@ -94,8 +93,8 @@ module _ {forms most : ℕ} {s : List ℕ} {vs : List ℤ} {at : ℕ} where
           taken-there (pos d) next w (λ rest. taken-right (depth n) (λ d. rest form n m) s at d next c.number (simp (le-leb _ _ c.high, le-leb _ _ h)))
 
 -- what is known of the header's numbers
-pub headed-as : (forms most : ℕ) (s : List ℕ) (form a n b m c q f k g d next : ℕ) → from 1 forms form ≡ true → counted_at s a 1 4 ≡ Number.Value n b → counted_at s b 1 most ≡ Number.Value m c
-    → counted_at s c 1 10000 ≡ Number.Value q f → counted_at s f 1 6 ≡ Number.Value k g → counted_at s g 0 6 ≡ Number.Value d next
+pub headed-as : (forms most : ℕ) (s : List ℕ) (form a n b m c q f k g d next : ℕ) → from 1 forms form ≡ true → counted_at s a 1 4 ≡ Some (n, b) → counted_at s b 1 most ≡ Some (m, c)
+    → counted_at s c 1 10000 ≡ Some (q, f) → counted_at s f 1 6 ≡ Some (k, g) → counted_at s g 0 6 ≡ Some (d, next)
     → Reached forms most s (λ rest. rest form n m) (pos form ∷ pos n ∷ pos m ∷ pos q ∷ pos k ∷ pos d ∷ []) next
     → Headed forms most s (record { form = form; n = n; m = m; q = q; k = k; d = d }) next
 headed-as forms most s form a n b m c q f k g d next e₀ e₁ e₂ e₃ e₄ e₅ w =
@@ -120,7 +119,7 @@ headed-as forms most s form a n b m c q f k g d next e₀ e₁ e₂ e₃ e₄ e�
     }
 
 -- n·D is small
-pub small_product : (s : List ℕ) (a g n b d next : ℕ) → counted_at s a 1 4 ≡ Number.Value n b → counted_at s g 0 6 ≡ Number.Value d next → Fits w64 (n * d)
+pub small_product : (s : List ℕ) (a g n b d next : ℕ) → counted_at s a 1 4 ≡ Some (n, b) → counted_at s g 0 6 ≡ Some (d, next) → Fits w64 (n * d)
 small_product s a g n b d next e₁ e₅ =
     let l = mul-le-mul (counted-was s a 1 4 n b e₁).high (counted-was s g 0 6 d next e₅).high in
     record { fits = omega arith }

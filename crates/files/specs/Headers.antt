@@ -1,10 +1,9 @@
 -- The header of a plant or a sheet, as the code reads it: a form in 1..forms, n, a number in 1..most, q, K, D; or the refusal. Assumes nothing.
-use Rattle.std.specs.Prelude.{ℕ, ◌≤◌, ◌≡◌, List, [], ◌∷◌, ◌++◌, pos}
+use Rattle.std.specs.Prelude.{ℕ, ◌≤◌, ◌≡◌, List, [], ◌∷◌, ◌++◌, pos, Ok, Err}
 use Rattle.meaning.specs.Files.{Form, refused, values_at}
 use Rattle.meaning.specs.Numbers.{bytes_of}
 use Rattle.meaning.specs.Plants.{headed}
 use Rattle.files.specs.declared.headers.Header.{Header}
-use Rattle.files.specs.declared.headers.HeaderRead.{HeaderRead}
 use Rattle.files.specs.Parts.{behind}
 
 -- the header's numbers, and what is known of them
@@ -24,8 +23,8 @@ pub record Headed (forms most : ℕ) (s : List ℕ) (h : Header) (next : ℕ) : 
       → values_at (headed forms most rest) s 0 ≡ behind (pos h.form ∷ pos h.n ∷ pos h.m ∷ pos h.q ∷ pos h.k ∷ pos h.d ∷ []) (values_at (rest h.form h.n h.m) s next)
 
 abbrev pub HeaderTold : ℕ → ℕ → List ℕ → HeaderRead → Type 0
-HeaderTold forms most s (HeaderRead.Header h next) = Headed forms most s h next
-HeaderTold forms most s (HeaderRead.Refused e) = (rest : ℕ → ℕ → ℕ → Form) → values_at (headed forms most rest) s 0 ≡ refused e
+HeaderTold forms most s (Ok (h, next)) = Headed forms most s h next
+HeaderTold forms most s (Err e) = (rest : ℕ → ℕ → ℕ → Form) → values_at (headed forms most rest) s 0 ≡ refused e
 
 abbrev pub head_bytes : Header → List ℕ
 head_bytes h = bytes_of h.form ++ (bytes_of h.n ++ (bytes_of h.m ++ (bytes_of h.q ++ (bytes_of h.k ++ bytes_of h.d))))

@@ -1,11 +1,10 @@
 -- The modes of a plant's file as the code reads and writes them: what stands behind the bands of mode 0, in either form; what it is that bands and rows
 -- were read into two lent arrays, as far as these have room: lists of numbers that stand in the file and were stored; and what is to be said of the bands of
 -- all modes. Definitions alone.
-use Rattle.std.specs.Prelude.{ℕ, ◌+◌, ◌-◌, ◌*◌, ◌≤◌, ◌<◌, ◌≡◌, Bool, false, cond, List, ◌++◌, map, ltb, ℤ, length}
+use Rattle.std.specs.Prelude.{ℕ, ◌+◌, ◌-◌, ◌*◌, ◌≤◌, ◌<◌, ◌≡◌, Bool, false, cond, List, ◌++◌, map, ltb, ℤ, length, Ok, Err}
 use Rattle.std.proofs.lemmas.List.Edits.{sets}
 use Rattle.laws.specs.Lists.{tab, tabs, first_false}
-use Rattle.meaning.specs.declared.Verdict.{Verdict}
-use Rattle.meaning.specs.declared.Walk.{Walk}
+use Rattle.meaning.specs.Answers.{Walk, Verdict}
 use Rattle.meaning.specs.Refusals.{narrow}
 use Rattle.meaning.specs.Files.{Form, end, read, refused, values_at, Judged, good}
 use Rattle.meaning.specs.Boxes.{Side, sides_of}
@@ -64,16 +63,16 @@ pub record ModeHeld (s : List ℕ) (at n q u : ℕ) (bands₀ coef₀ bands coef
   pub first : thin ≡ first_false (map (wide q) (bands_from n ends 0))
 
 abbrev pub ModeAs : List ℕ → ℕ → ℕ → ℕ → ℕ → List ℤ → List ℤ → List ℤ → List ℤ → ℕ → Walk → Type 0
-ModeAs s at n q u bands₀ coef₀ bands coef thin (Walk.Next next) = ModeHeld s at n q u bands₀ coef₀ bands coef thin next
-ModeAs s at n q u bands₀ coef₀ bands coef thin (Walk.Refused e) = Fails (mode_form n) s at e
+ModeAs s at n q u bands₀ coef₀ bands coef thin (Ok next) = ModeHeld s at n q u bands₀ coef₀ bands coef thin next
+ModeAs s at n q u bands₀ coef₀ bands coef thin (Err e) = Fails (mode_form n) s at e
 
 abbrev pub ModeTold : List ℕ → ℕ → ℕ → ℕ → ℕ → List ℤ → List ℤ → List ℤ → List ℤ → ModeRead → Type 0
 ModeTold s at n q u bands₀ coef₀ bands coef r = ModeAs s at n q u bands₀ coef₀ bands coef r.thin r.answer
 
 -- what is to be said behind one mode more
 abbrev pub after_mode : Verdict → ℕ → ℕ → ℕ → Verdict
-after_mode (Verdict.Refused e) n u thin = Verdict.Refused e
-after_mode Verdict.Accepted n u thin = cond (ltb thin n) (Verdict.Refused (narrow u thin)) Verdict.Accepted
+after_mode (Err e) n u thin = Err e
+after_mode (Ok _) n u thin = cond (ltb thin n) (Err (narrow u thin)) (Ok tt)
 
 -- what is asked of R, S and the bands of the first m modes
 abbrev pub related_by : {A : Type 0} → Beginning → List ℤ → ℕ → (Unit {0} → Judged A) → Judged A
@@ -94,8 +93,8 @@ pub record FurtherTo (s : List ℕ) (b : Beginning) (at u : ℕ) (related told :
   pub verdict : (first : List ℤ) → length first ≡ 2 * b.n → related ≡ relation_by b first 1 → told ≡ relation_by b (first ++ ends) u
 
 abbrev pub FurtherAs : List ℕ → Beginning → ℕ → Verdict → Verdict → List ℤ → List ℤ → List ℤ → List ℤ → Walk → Type 0
-FurtherAs s b at related told bands₀ coef₀ bands coef (Walk.Next next) = FurtherTo s b at b.m related told bands₀ coef₀ bands coef next
-FurtherAs s b at related told bands₀ coef₀ bands coef (Walk.Refused e) = Fails (times (b.m - 1) (mode_form b.n)) s at e
+FurtherAs s b at related told bands₀ coef₀ bands coef (Ok next) = FurtherTo s b at b.m related told bands₀ coef₀ bands coef next
+FurtherAs s b at related told bands₀ coef₀ bands coef (Err e) = Fails (times (b.m - 1) (mode_form b.n)) s at e
 
 abbrev pub FurtherTold : List ℕ → Beginning → Verdict → ℕ → List ℤ → List ℤ → List ℤ → List ℤ → ModesRead → Type 0
 FurtherTold s b related at bands₀ coef₀ bands coef r = FurtherAs s b at related r.related bands₀ coef₀ bands coef r.answer
@@ -112,8 +111,8 @@ pub record ModesHeld (s : List ℕ) (b : Beginning) (at : ℕ) (bands₀ coef₀
   pub verdict : told ≡ relation_by b ends b.m
 
 abbrev pub ModesAs : List ℕ → Beginning → ℕ → List ℤ → List ℤ → List ℤ → List ℤ → Verdict → Walk → Type 0
-ModesAs s b at bands₀ coef₀ bands coef told (Walk.Next next) = ModesHeld s b at bands₀ coef₀ bands coef told next
-ModesAs s b at bands₀ coef₀ bands coef told (Walk.Refused e) = values_at (rest_form b.form b.n b.m) s at ≡ refused e
+ModesAs s b at bands₀ coef₀ bands coef told (Ok next) = ModesHeld s b at bands₀ coef₀ bands coef told next
+ModesAs s b at bands₀ coef₀ bands coef told (Err e) = values_at (rest_form b.form b.n b.m) s at ≡ refused e
 
 abbrev pub ModesTold : List ℕ → Beginning → ℕ → List ℤ → List ℤ → List ℤ → List ℤ → ModesRead → Type 0
 ModesTold s b at bands₀ coef₀ bands coef r = ModesAs s b at bands₀ coef₀ bands coef r.related r.answer

@@ -1,9 +1,8 @@
 -- A plant that is judged good has as many modes as its file says before it is judged. Relies on promises' pages Files and Related.
-use Rattle.std.specs.Prelude.{ℕ, ◌^◌, ◌≡◌, refl, true, cond, List, ◌∷◌, ltb, ℤ, nat_abs}
+use Rattle.std.specs.Prelude.{ℕ, ◌^◌, ◌≡◌, refl, true, cond, List, ◌∷◌, ltb, ℤ, nat_abs, Some, None}
 use Rattle.std.proofs.Common.{ap, ◌∙◌}
 use Rattle.laws.specs.Lists.{at}
 use Rattle.laws.specs.Standing.{Stands}
-use Rattle.meaning.specs.declared.Number.{Number}
 use Rattle.meaning.specs.Numbers.{number_at, bytes_of}
 use Rattle.meaning.specs.Files.{values_of, good}
 use Rattle.meaning.specs.Plants.{headed, plant_form, Plant, plant_of, plant_judged}
@@ -15,8 +14,8 @@ use Rattle.files.specs.Plants.{modes_told}
 given : {A B : Type 0} → A → (A → B) → B
 given a rest = rest a
 
-number-was : (v i next : ℕ) (s : List ℕ) → Stands s i (bytes_of v) next → ltb v (2 ^ 35) ≡ true → number_at s i ≡ Number.Value v next
-number-was v i next s t e = number-back v i next s t ∙ ap (λ b. cond b (Number.Value v next) Number.Broken) e
+number-was : (v i next : ℕ) (s : List ℕ) → Stands s i (bytes_of v) next → ltb v (2 ^ 35) ≡ true → number_at s i ≡ Some (v, next)
+number-was v i next s t e = number-back v i next s t ∙ ap (λ b. cond b (Some (v, next)) None) e
 
 third : {vs us ws xs : List ℤ} {u v w : ℤ} → vs ≡ u ∷ us → us ≡ v ∷ ws → ws ≡ w ∷ xs → nat_abs w ≡ nat_abs (at vs 2)
 third e f g = rw (e, f, g) refl

@@ -1,7 +1,7 @@
 -- A plant's file as the code reads it, what stands behind the beginning, and as it drafts it; and how many modes one says it has. Definitions alone.
-use Rattle.std.specs.Prelude.{ℕ, ◌≡◌, List, [], ◌∷◌, ℤ}
+use Rattle.std.specs.Prelude.{ℕ, ◌≡◌, List, [], ◌∷◌, ℤ, Some, None}
 use Rattle.laws.specs.Lists as L
-use Rattle.meaning.specs.declared.Number.{Number}
+use Rattle.meaning.specs.Answers.{Number}
 use Rattle.meaning.specs.declared.Outline.{Outline}
 use Rattle.meaning.specs.declared.PlantRead.{PlantRead}
 use Rattle.meaning.specs.Numbers.{number_at}
@@ -16,8 +16,8 @@ use Rattle.files.specs.Modes.{rest_form, rest_numbers}
 -- ---- the modes that a file says it has: its third number, before anything is judged; 0 where one of the first three is broken
 
 abbrev pub on_number : Number → (ℕ → ℕ → ℕ) → ℕ
-on_number Number.Broken rest = 0
-on_number (Number.Value v next) rest = rest v next
+on_number None rest = 0
+on_number (Some (v, next)) rest = rest v next
 
 unfoldable pub modes_told : List ℕ → ℕ
 modes_told s =

@@ -1,6 +1,6 @@
 -- A header whose n is over 4, or whose m is 0 or over its most, is refused, whatever stands behind it: what a writer drafts of such values may end with
 -- the header. Relies on page HeaderLaws, and on promises' pages Numbers and Files.
-use Rattle.std.specs.Prelude.{ℕ, ◌+◌, ◌^◌, ◌≤◌, ◌<◌, ◌≡◌, Bool, true, false, cond, List, [], ◌∷◌, ◌++◌, ltb, pos}
+use Rattle.std.specs.Prelude.{ℕ, ◌+◌, ◌^◌, ◌≤◌, ◌<◌, ◌≡◌, Bool, true, false, cond, List, [], ◌∷◌, ◌++◌, ltb, pos, Some, None}
 use Rattle.std.proofs.Math.Path.{refl}
 use Rattle.std.proofs.Common.{ap, ◌∙◌, arith, lt-ltb, le-ltb}
 use Rattle.std.proofs.Math.Nat.{zero-add}
@@ -8,8 +8,8 @@ use Rattle.std.proofs.Math.Decide.{dec_lt}
 use Rattle.std.proofs.Math.ListN.{length}
 use Rattle.std.proofs.Math.Seq.{drop-append_seam}
 use Rattle.laws.specs.Standing.{Stands, stand-front, stand-back}
+use Rattle.meaning.specs.Answers.{Number}
 use Rattle.meaning.specs.declared.Refusal.{Refusal}
-use Rattle.meaning.specs.declared.Number.{Number}
 use Rattle.meaning.specs.Numbers.{number_at, bytes_of}
 use Rattle.meaning.specs.Files.{Form, refused, values_at}
 use Rattle.meaning.specs.Refusals.{broken, wrong_form}
@@ -23,25 +23,25 @@ use Rattle.files.specs.HeaderLaws.{from-q, from-m, from-n, Reached, form-broken,
 
 -- what is read of a number's bytes
 abbrev seen : ℕ → ℕ → Number
-seen v next = cond (ltb v (2 ^ 35)) (Number.Value v next) Number.Broken
+seen v next = cond (ltb v (2 ^ 35)) (Some (v, next)) None
 
 -- a form that is not taken
 abbrev form_fault : Number → Refusal
-form_fault Number.Broken = broken 0
-form_fault (Number.Value v next) = wrong_form
+form_fault None = broken 0
+form_fault (Some (v, next)) = wrong_form
 
 -- such a number is not taken
-low-out : (least most v next : ℕ) → v < least → in_range least most (seen v next) ≡ Number.Broken
+low-out : (least most v next : ℕ) → v < least → in_range least most (seen v next) ≡ None
 low-out least most v next h = go (ltb v (2 ^ 35))
   where
-    go : (t : Bool) → in_range least most (cond t (Number.Value v next) Number.Broken) ≡ Number.Broken
+    go : (t : Bool) → in_range least most (cond t (Some (v, next)) None) ≡ None
     go true = simp (lt-ltb _ _ h)
     go false = refl
 
-high-out : (least most v next : ℕ) → least ≤ v → most < v → in_range least most (seen v next) ≡ Number.Broken
+high-out : (least most v next : ℕ) → least ≤ v → most < v → in_range least most (seen v next) ≡ None
 high-out least most v next l h = go (ltb v (2 ^ 35))
   where
-    go : (t : Bool) → in_range least most (cond t (Number.Value v next) Number.Broken) ≡ Number.Broken
+    go : (t : Bool) → in_range least most (cond t (Some (v, next)) None) ≡ None
     go true = simp (le-ltb _ _ l, lt-ltb _ _ h)
     go false = refl
 
@@ -87,7 +87,7 @@ module _ (h : Header) (t : List ℕ) where
     form-bad : from 1 forms h.form ≡ false → (rest : ℕ → ℕ → ℕ → Form) → values_at (headed forms most rest) s 0 ≡ refused (form_fault (seen h.form first))
     form-bad q rest = go (ltb h.form (2 ^ 35)) form-seen
       where
-        go : (t : Bool) → number_at s 0 ≡ cond t (Number.Value h.form first) Number.Broken → values_at (headed forms most rest) s 0 ≡ refused (form_fault (cond t (Number.Value h.form first) Number.Broken))
+        go : (t : Bool) → number_at s 0 ≡ cond t (Some (h.form, first)) None → values_at (headed forms most rest) s 0 ≡ refused (form_fault (cond t (Some (h.form, first)) None))
         go true e = form-wrong forms most s h.form first e q rest
         go false e = form-broken forms most s e rest
 
@@ -98,10 +98,10 @@ module _ (h : Header) (t : List ℕ) where
           let c : h.form < 2 ^ 35 = omega arith in
           form-reached forms most s h.form first (form-seen ∙ simp (lt-ltb _ _ c)) known
 
-      n-bad : in_range 1 4 (seen h.n second) ≡ Number.Broken → (rest : ℕ → ℕ → ℕ → Form) → values_at (headed forms most rest) s 0 ≡ refused (fault_of first (seen h.n second))
+      n-bad : in_range 1 4 (seen h.n second) ≡ None → (rest : ℕ → ℕ → ℕ → Form) → values_at (headed forms most rest) s 0 ≡ refused (fault_of first (seen h.n second))
       n-bad q rest = number-fails 1 4 (from-m most h.form) form-read (ap (in_range 1 4) n-seen ∙ q) rest ∙ ap (λ (x : Number). refused (fault_of first x)) n-seen
 
-      m-bad : in_range 1 4 (seen h.n second) ≡ Number.Value h.n second → in_range 1 most (seen h.m (second + length (bytes_of h.m))) ≡ Number.Broken
+      m-bad : in_range 1 4 (seen h.n second) ≡ Some (h.n, second) → in_range 1 most (seen h.m (second + length (bytes_of h.m))) ≡ None
           → (rest : ℕ → ℕ → ℕ → Form) → values_at (headed forms most rest) s 0 ≡ refused (fault_of second (seen h.m (second + length (bytes_of h.m))))
       m-bad q r rest =
           number-fails 1 most (from-q h.form h.n) (number-reached 1 4 (from-m most h.form) form-read h.n second (ap (in_range 1 4) n-seen ∙ q)) (ap (in_range 1 most) m-seen ∙ r) rest
@@ -129,7 +129,7 @@ n-refusing forms most h few g = by_form forms most h λ known. record {
 }
 
 -- n in range or not, m is not
-pub m-refusing : (forms most : ℕ) (h : Header) → forms < 2 ^ 35 → h.n ≤ 4 → ((next : ℕ) → in_range 1 most (seen h.m next) ≡ Number.Broken) → Refusing forms most h
+pub m-refusing : (forms most : ℕ) (h : Header) → forms < 2 ^ 35 → h.n ≤ 4 → ((next : ℕ) → in_range 1 most (seen h.m next) ≡ None) → Refusing forms most h
 unfolding s first second
 m-refusing forms most h few g out = by_form forms most h λ known. go known (dec_lt h.n 1)
   where
@@ -147,8 +147,8 @@ m-refusing forms most h few g out = by_form forms most h λ known. go known (dec
           fails = λ rest t. m-bad h t forms most few known (simp (lt-ltb _ _ c, le-ltb _ _ b, le-ltb _ _ g)) (out (next + length (bytes_of h.m))) rest;
         }
 
-pub none_out : (most : ℕ) (m next : ℕ) → m < 1 → in_range 1 most (seen m next) ≡ Number.Broken
+pub none_out : (most : ℕ) (m next : ℕ) → m < 1 → in_range 1 most (seen m next) ≡ None
 none_out most m next h = low-out 1 most m next h
 
-pub many-out : (most : ℕ) (m next : ℕ) → 1 ≤ m → most < m → in_range 1 most (seen m next) ≡ Number.Broken
+pub many-out : (most : ℕ) (m next : ℕ) → 1 ≤ m → most < m → in_range 1 most (seen m next) ≡ None
 many-out most m next l h = high-out 1 most m next l h

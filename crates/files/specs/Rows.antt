@@ -1,8 +1,8 @@
 -- The rows of a plant's modes as the code reads them: number by number, the column telling whether it is an entry of A or b. Assumes nothing.
-use Rattle.std.specs.Prelude.{ℕ, zero, suc, ◌+◌, ◌*◌, ◌≤◌, ◌<◌, ◌≡◌, refl, cond, List, ltb, ℤ, length}
+use Rattle.std.specs.Prelude.{ℕ, zero, suc, ◌+◌, ◌*◌, ◌≤◌, ◌<◌, ◌≡◌, refl, cond, List, ltb, ℤ, length, Ok, Err}
 use Rattle.std.proofs.Common.{ap, ◌∙◌, arith, suc-mul, zero-mul, zero-add, lt-ltb, le-ltb}
 use Rattle.std.proofs.lemmas.List.Edits.{sets}
-use Rattle.meaning.specs.declared.Walk.{Walk}
+use Rattle.meaning.specs.Answers.{Walk}
 use Rattle.meaning.specs.Files.{Form}
 use Rattle.meaning.specs.Plants.{entry_limit, offset_limit, limited, times, row}
 use Rattle.files.specs.Parts.{Holds, Fails}
@@ -45,5 +45,5 @@ pub record RowsRead (s : List ℕ) (at n count from : ℕ) (coef₀ coef : List 
   pub stored : coef ≡ sets coef₀ from values
 
 abbrev pub RowsTold : List ℕ → ℕ → ℕ → ℕ → ℕ → List ℤ → List ℤ → Walk → Type 0
-RowsTold s at n count from coef₀ coef (Walk.Next next) = RowsRead s at n count from coef₀ coef next
-RowsTold s at n count from coef₀ coef (Walk.Refused e) = Fails (times count (row n)) s at e
+RowsTold s at n count from coef₀ coef (Ok next) = RowsRead s at n count from coef₀ coef next
+RowsTold s at n count from coef₀ coef (Err e) = Fails (times count (row n)) s at e

@@ -1,9 +1,8 @@
 -- A lo with its hi as the code reads them: the part of the form that they are, with their values and the order that they stand in. Definitions alone.
-use Rattle.std.specs.Prelude.{ℕ, ◌≡◌, true, List, [], ◌∷◌, ℤ}
+use Rattle.std.specs.Prelude.{ℕ, ◌≡◌, true, List, [], ◌∷◌, ℤ, Ok, Err}
 use Rattle.std.specs.Int.Signed.{le_z}
 use Rattle.meaning.specs.Files.{Form}
 use Rattle.meaning.specs.Plants.{ranged}
-use Rattle.files.specs.declared.spans.Span.{Span}
 use Rattle.files.specs.Parts.{Holds, Fails}
 
 -- lo in least..most, hi in lo..most
@@ -17,5 +16,5 @@ pub record Spanned (least most : ℤ) (s : List ℕ) (from : ℕ) (lo hi : ℤ) 
   pub high : le_z hi most ≡ true
 
 abbrev pub SpanTold : ℤ → ℤ → List ℕ → ℕ → Span → Type 0
-SpanTold least most s from (Span.Ends lo hi next) = Spanned least most s from lo hi next
-SpanTold least most s from (Span.Refused e) = Fails (span_in least most) s from e
+SpanTold least most s from (Ok (lo, hi, next)) = Spanned least most s from lo hi next
+SpanTold least most s from (Err e) = Fails (span_in least most) s from e

@@ -5,9 +5,9 @@ ghost use Rattle.laws.specs.Writing.{Put};
 ghost use Rattle.files.specs.Bounds.{BandSizes};
 ghost use Rattle.files.specs.Beginnings.{no_beginning, relation, BoundsTold, beginning_read, BeginningTold, beginning_bytes};
 
-use crate::headers::{Header, HeaderRead};
+use crate::headers::Header;
 use crate::{bounds, headers, refusals};
-use meaning::{Refusal, Verdict, Walk};
+use meaning::Refusal;
 
 // The header's numbers, m being a plant's N or a sheet's r, and the arrays, of which the first n entries count.
 #[derive(Clone, Copy)]
@@ -29,8 +29,8 @@ pub struct Beginning {
 // The place behind a beginning, what is to be said of R, S and w, and the beginning; a refused one is all zeros.
 #[derive(Clone, Copy)]
 pub struct BeginningRead {
-    pub answer: Walk,
-    pub related: Verdict,
+    pub answer: Result<usize, Refusal>,
+    pub related: Result<(), Refusal>,
     pub beginning: Beginning,
 }
 
@@ -38,8 +38,8 @@ fn refused(e: Refusal) -> BeginningRead
     ensures { result ≡ no_beginning e }
 {
     BeginningRead {
-        answer: Walk::Refused(e),
-        related: Verdict::Accepted,
+        answer: Err(e),
+        related: Ok(()),
         beginning: Beginning {
             form: 0,
             n: 0,
@@ -58,7 +58,7 @@ fn refused(e: Refusal) -> BeginningRead
 }
 
 // Whether R lies in S, then whether each band is wide enough.
-fn judge(b: Beginning) -> Verdict
+fn judge(b: Beginning) -> Result<(), Refusal>
     requires fact_1 { b.n ≤ 4 }
     requires fact_2 { b.q ≤ 10000 }
     requires fact_3 { BandSizes b.n b.wlo b.whi }
@@ -71,15 +71,15 @@ fn judge(b: Beginning) -> Verdict
     let shi = b.shi;
     let out = bounds::first_out(n, rlo, rhi, slo, shi);
     if out < n {
-        return Verdict::Refused(refusals::not_in_safe(out));
+        return Err(refusals::not_in_safe(out));
     }
     let wlo = b.wlo;
     let whi = b.whi;
     let thin = bounds::first_narrow(n, b.q, wlo, whi);
     if thin < n {
-        return Verdict::Refused(refusals::narrow(0, thin));
+        return Err(refusals::narrow(0, thin));
     }
-    Verdict::Accepted
+    Ok(())
 }
 
 // What stands behind a header.
@@ -92,13 +92,13 @@ fn read_bounds(s: &[u8], h: Header, at: usize) -> BeginningRead
     let edges = bounds::read_edges(s, at, n);
     let past_edges = edges.answer;
     match past_edges {
-        Walk::Refused(e) => refused(e),
-        Walk::Next(mid) => {
+        Err(e) => refused(e),
+        Ok(mid) => {
             let bands = bounds::read_bands(s, mid, n);
             let past_bands = bands.answer;
             match past_bands {
-                Walk::Refused(e) => refused(e),
-                Walk::Next(next) => {
+                Err(e) => refused(e),
+                Ok(next) => {
                     let rlo = edges.rlo;
                     let rhi = edges.rhi;
                     let slo = edges.slo;
@@ -120,7 +120,7 @@ fn read_bounds(s: &[u8], h: Header, at: usize) -> BeginningRead
                         whi,
                     };
                     BeginningRead {
-                        answer: Walk::Next(next),
+                        answer: Ok(next),
                         related: judge(beginning),
                         beginning,
                     }
@@ -135,8 +135,8 @@ pub fn read_beginning(s: &[u8], forms: usize, most: usize) -> BeginningRead
     ensures told { BeginningTold forms most s.now result }
 {
     match headers::read_header(s, forms, most) {
-        HeaderRead::Refused(e) => refused(e),
-        HeaderRead::Header(h, at) => read_bounds(s, h, at),
+        Err(e) => refused(e),
+        Ok((h, at)) => read_bounds(s, h, at),
     }
 }
 

@@ -8,14 +8,12 @@ ghost use Rattle.meaning.specs.Plants.{edges_of, band_of, wide};
 ghost use Rattle.files.specs.Signed.{signed_bytes};
 ghost use Rattle.files.specs.Bounds.{EdgesTold, BandsTold, BandSizes};
 
-use crate::spans::Span;
 use crate::{numbers, spans};
-use meaning::Walk;
 
 // The edges of R and S, zeros beyond n, and the place behind them.
 #[derive(Clone, Copy)]
 pub struct EdgeArrays {
-    pub answer: Walk,
+    pub answer: Result<usize, Refusal>,
     pub rlo: [i64; 4],
     pub rhi: [i64; 4],
     pub slo: [i64; 4],
@@ -34,26 +32,26 @@ pub fn read_edges(s: &[u8], at: usize, n: usize) -> EdgeArrays
     let mut i: usize = 0;
     while i < n {
         match spans::read_span(s, p, -1_000_000, 1_000_000) {
-            Span::Refused(e) => {
+            Err(e) => {
                 return EdgeArrays {
-                    answer: Walk::Refused(e),
+                    answer: Err(e),
                     rlo,
                     rhi,
                     slo,
                     shi,
                 };
             }
-            Span::Ends(a, b, mid) => match spans::read_span(s, mid, -1_000_000, 1_000_000) {
-                Span::Refused(e) => {
+            Ok((a, b, mid)) => match spans::read_span(s, mid, -1_000_000, 1_000_000) {
+                Err(e) => {
                     return EdgeArrays {
-                        answer: Walk::Refused(e),
+                        answer: Err(e),
                         rlo,
                         rhi,
                         slo,
                         shi,
                     };
                 }
-                Span::Ends(c, d, next) => {
+                Ok((c, d, next)) => {
                     rlo[i] = a;
                     rhi[i] = b;
                     slo[i] = c;
@@ -65,7 +63,7 @@ pub fn read_edges(s: &[u8], at: usize, n: usize) -> EdgeArrays
         i += 1;
     }
     EdgeArrays {
-        answer: Walk::Next(p),
+        answer: Ok(p),
         rlo,
         rhi,
         slo,
@@ -76,7 +74,7 @@ pub fn read_edges(s: &[u8], at: usize, n: usize) -> EdgeArrays
 // The bands, zeros beyond n, and the place behind them.
 #[derive(Clone, Copy)]
 pub struct BandArrays {
-    pub answer: Walk,
+    pub answer: Result<usize, Refusal>,
     pub wlo: [i64; 4],
     pub whi: [i64; 4],
 }
@@ -91,14 +89,14 @@ pub fn read_bands(s: &[u8], at: usize, n: usize) -> BandArrays
     let mut i: usize = 0;
     while i < n {
         match spans::read_span(s, p, -1_000_000_000, 1_000_000_000) {
-            Span::Refused(e) => {
+            Err(e) => {
                 return BandArrays {
-                    answer: Walk::Refused(e),
+                    answer: Err(e),
                     wlo,
                     whi,
                 };
             }
-            Span::Ends(a, b, next) => {
+            Ok((a, b, next)) => {
                 wlo[i] = a;
                 whi[i] = b;
                 p = next;
@@ -107,7 +105,7 @@ pub fn read_bands(s: &[u8], at: usize, n: usize) -> BandArrays
         i += 1;
     }
     BandArrays {
-        answer: Walk::Next(p),
+        answer: Ok(p),
         wlo,
         whi,
     }

@@ -8,7 +8,7 @@ ghost use Rattle.meaning.specs.Files.{good};
 ghost use Rattle.files.specs.Beginnings.{by_verdict};
 
 use crate::refusals;
-use meaning::{Refusal, Verdict, Written};
+use meaning::Refusal;
 
 // Zeros the whole buffer, as a refused write does.
 pub fn clear(buf: &mut [u8])
@@ -22,12 +22,12 @@ pub fn clear(buf: &mut [u8])
 }
 
 // A refused write.
-pub fn refuse(e: Refusal, buf: &mut [u8]) -> Written
+pub fn refuse(e: Refusal, buf: &mut [u8]) -> Result<usize, Refusal>
     ensures answer { result ≡ (refused_with e buf.old).answer }
     ensures bytes { buf.new ≡ (refused_with e buf.old).buffer }
 {
     clear(buf);
-    Written::Refused(e)
+    Err(e)
 }
 
 fn copy(file: &[u8], buf: &mut [u8])
@@ -61,18 +61,18 @@ pub fn put_bytes(buf: &mut [u8], at: usize, bytes: &[u8]) -> usize
 }
 
 // A write of a file that was drafted and judged: what the verdict refuses, then 10. Finished, only the file's bytes are changed.
-pub fn leave(verdict: Verdict, file: &[u8], buf: &mut [u8]) -> Written
+pub fn leave(verdict: Result<(), Refusal>, file: &[u8], buf: &mut [u8]) -> Result<usize, Refusal>
     ensures answer { result ≡ (left (by_verdict verdict λ _. good file.now) buf.old).answer }
     ensures bytes { buf.new ≡ (left (by_verdict verdict λ _. good file.now) buf.old).buffer }
 {
     match verdict {
-        Verdict::Refused(e) => refuse(e, buf),
-        Verdict::Accepted => {
+        Err(e) => refuse(e, buf),
+        Ok(()) => {
             if buf.len() < file.len() {
                 return refuse(refusals::short(), buf);
             }
             copy(file, buf);
-            Written::Length(file.len())
+            Ok(file.len())
         }
     }
 }

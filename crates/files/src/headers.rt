@@ -5,7 +5,7 @@ ghost use Rattle.laws.specs.Writing.{Put};
 ghost use Rattle.files.specs.Headers.{HeaderTold, head_bytes};
 
 use crate::{fields, numbers, refusals};
-use meaning::{Number, Refusal};
+use meaning::Refusal;
 
 #[derive(Clone, Copy)]
 pub struct Header {
@@ -34,34 +34,34 @@ fn unknown(forms: usize, form: usize) -> bool
     forms < form
 }
 
-pub fn read_header(s: &[u8], forms: usize, most: usize) -> HeaderRead
+pub fn read_header(s: &[u8], forms: usize, most: usize) -> Result<(Header, usize), Refusal>
     ensures { HeaderTold forms most s.now result }
 {
-    let Number::Value(form, a) = numbers::number(s, 0) else {
-        return HeaderRead::Refused(refusals::broken(0));
+    let Some((form, a)) = numbers::number(s, 0) else {
+        return Err(refusals::broken(0));
     };
     if unknown(forms, form) {
-        return HeaderRead::Refused(refusals::wrong_form());
+        return Err(refusals::wrong_form());
     }
-    let Number::Value(n, b) = fields::counted(s, a, 1, 4) else {
-        return HeaderRead::Refused(fields::fault(s, a));
+    let Some((n, b)) = fields::counted(s, a, 1, 4) else {
+        return Err(fields::fault(s, a));
     };
-    let Number::Value(m, c) = fields::counted(s, b, 1, most) else {
-        return HeaderRead::Refused(fields::fault(s, b));
+    let Some((m, c)) = fields::counted(s, b, 1, most) else {
+        return Err(fields::fault(s, b));
     };
-    let Number::Value(q, e) = fields::counted(s, c, 1, 10_000) else {
-        return HeaderRead::Refused(fields::fault(s, c));
+    let Some((q, e)) = fields::counted(s, c, 1, 10_000) else {
+        return Err(fields::fault(s, c));
     };
-    let Number::Value(k, f) = fields::counted(s, e, 1, 6) else {
-        return HeaderRead::Refused(fields::fault(s, e));
+    let Some((k, f)) = fields::counted(s, e, 1, 6) else {
+        return Err(fields::fault(s, e));
     };
-    let Number::Value(d, next) = fields::counted(s, f, 0, 6) else {
-        return HeaderRead::Refused(fields::fault(s, f));
+    let Some((d, next)) = fields::counted(s, f, 0, 6) else {
+        return Err(fields::fault(s, f));
     };
     if 12 < n * d {
-        return HeaderRead::Refused(refusals::unfit(f));
+        return Err(refusals::unfit(f));
     }
-    HeaderRead::Header(
+    Ok((
         Header {
             form,
             n,
@@ -71,7 +71,7 @@ pub fn read_header(s: &[u8], forms: usize, most: usize) -> HeaderRead
             d,
         },
         next,
-    )
+    ))
 }
 
 // The header's bytes at the buffer's beginning, as far as there is room; the place behind them.

@@ -12,19 +12,18 @@ ghost use Rattle.files.specs.Modes.{ends_alike, ModeTold, after_mode, FurtherTol
 
 use crate::beginnings::Beginning;
 use crate::{arrays, bounds, refusals, rows};
-use meaning::{Verdict, Walk};
 
 // The place behind the modes, and what is to be said of R, S and the bands of all modes.
 #[derive(Clone, Copy)]
 pub struct ModesRead {
-    pub answer: Walk,
-    pub related: Verdict,
+    pub answer: Result<usize, Refusal>,
+    pub related: Result<(), Refusal>,
 }
 
 // One mode of form 2: the place behind it, and the first dimension whose band is too narrow, n where none is.
 #[derive(Clone, Copy)]
 pub struct ModeRead {
-    pub answer: Walk,
+    pub answer: Result<usize, Refusal>,
     pub thin: usize,
 }
 
@@ -75,11 +74,11 @@ fn read_mode(
     let read = bounds::read_bands(s, at, n);
     let past = read.answer;
     match past {
-        Walk::Refused(e) => ModeRead {
-            answer: Walk::Refused(e),
+        Err(e) => ModeRead {
+            answer: Err(e),
             thin: n,
         },
-        Walk::Next(mid) => {
+        Ok(mid) => {
             let wlo = read.wlo;
             let whi = read.whi;
             lay(n, u, wlo, whi, bands);
@@ -93,16 +92,16 @@ fn read_mode(
 }
 
 // What is to be said behind mode u: what was to be said before it, or that its band is too narrow.
-fn after(related: Verdict, n: usize, u: usize, thin: usize) -> Verdict
+fn after(related: Result<(), Refusal>, n: usize, u: usize, thin: usize) -> Result<(), Refusal>
     ensures { result ≡ after_mode related n u thin }
 {
     match related {
-        Verdict::Refused(e) => Verdict::Refused(e),
-        Verdict::Accepted => {
+        Err(e) => Err(e),
+        Ok(()) => {
             if thin < n {
-                return Verdict::Refused(refusals::narrow(u, thin));
+                return Err(refusals::narrow(u, thin));
             }
-            Verdict::Accepted
+            Ok(())
         }
     }
 }
@@ -111,7 +110,7 @@ fn after(related: Verdict, n: usize, u: usize, thin: usize) -> Verdict
 fn read_further(
     s: &[u8],
     b: Beginning,
-    related: Verdict,
+    related: Result<(), Refusal>,
     at: usize,
     bands: &mut [i64],
     coef: &mut [i64],
@@ -126,7 +125,7 @@ fn read_further(
     while u < b.m {
         let mode = read_mode(s, p, n, b.q, u, bands, coef);
         let past = mode.answer;
-        let Walk::Next(next) = past else {
+        let Ok(next) = past else {
             return ModesRead {
                 answer: past,
                 related: told,
@@ -137,7 +136,7 @@ fn read_further(
         u += 1;
     }
     ModesRead {
-        answer: Walk::Next(p),
+        answer: Ok(p),
         related: told,
     }
 }
@@ -146,7 +145,7 @@ fn read_further(
 fn read_own(
     s: &[u8],
     b: Beginning,
-    related: Verdict,
+    related: Result<(), Refusal>,
     at: usize,
     bands: &mut [i64],
     coef: &mut [i64],
@@ -159,7 +158,7 @@ fn read_own(
     let whi = b.whi;
     lay(n, 0, wlo, whi, bands);
     let first = rows::read_rows(s, at, n, n, 0, coef);
-    let Walk::Next(mid) = first else {
+    let Ok(mid) = first else {
         return ModesRead {
             answer: first,
             related,
@@ -172,7 +171,7 @@ fn read_own(
 pub fn read_modes(
     s: &[u8],
     b: Beginning,
-    related: Verdict,
+    related: Result<(), Refusal>,
     at: usize,
     bands: &mut [i64],
     coef: &mut [i64],

@@ -3,10 +3,9 @@ ghost use Rattle.std.specs.Prelude.{◌≡◌, [], ◌∷◌};
 ghost use Rattle.laws.specs.Writing.{Put};
 ghost use Rattle.meaning.specs.Numbers.{number_at, signed_at, bytes_of, stored};
 
-use meaning::{Number, Signed};
 
 // The number at `at` and the place behind it; broken where it ends early, is over 5 bytes, or not shortest.
-pub fn number(s: &[u8], at: usize) -> Number
+pub fn number(s: &[u8], at: usize) -> Option<(usize, usize)>
     ensures { result ≡ number_at s.now at }
 {
     let mut i = at;
@@ -15,40 +14,40 @@ pub fn number(s: &[u8], at: usize) -> Number
     let mut w: usize = 1;
     while k < 5 {
         if s.len() <= i {
-            return Number::Broken;
+            return None;
         }
         let c = s[i] as usize;
         if c < 128 {
             let next = i + 1;
             if c == 0 {
                 if w == 1 {
-                    return Number::Value(0, next);
+                    return Some((0, next));
                 }
-                return Number::Broken;
+                return None;
             }
             let value = v + c * w;
-            return Number::Value(value, next);
+            return Some((value, next));
         }
         v += (c - 128) * w;
         w *= 128;
         i += 1;
         k += 1;
     }
-    Number::Broken
+    None
 }
 
 // The same as a signed number.
-pub fn signed(s: &[u8], at: usize) -> Signed
+pub fn signed(s: &[u8], at: usize) -> Option<(i64, usize)>
     ensures { result ≡ signed_at s.now at }
 {
-    let Number::Value(v, next) = number(s, at) else {
-        return Signed::Broken;
+    let Some((v, next)) = number(s, at) else {
+        return None;
     };
     let half = (v / 2) as i64;
     if v % 2 == 0 {
-        Signed::Value(half, next)
+        Some((half, next))
     } else {
-        Signed::Value(-1 - half, next)
+        Some((-1 - half, next))
     }
 }
 

@@ -10,7 +10,7 @@ ghost use Rattle.files.specs.Plants.{modes_told, outline_in, Answered, body_of, 
 
 use crate::beginnings::Beginning;
 use crate::{arrays, beginnings, buffers, modes, numbers, refusals};
-use meaning::{MODES, Number, Outline, PlantRead, Refusal, Verdict, Walk, Written};
+use meaning::{MODES, Outline, PlantRead, Refusal};
 
 // The writer's draft, ten bytes for each number, right or not: 6 in the header, 16 edges of four rooms, and for each mode 8 ends of bands and 20
 // coefficients. Most plants have few modes, and a draft of theirs is small.
@@ -24,13 +24,13 @@ const DRAFT: usize = 10 * (22 + 28 * MODES);
 pub fn modes_told(s: &[u8]) -> usize
     ensures { result ≡ modes_told s.now }
 {
-    let Number::Value(_, a) = numbers::number(s, 0) else {
+    let Some((_, a)) = numbers::number(s, 0) else {
         return 0;
     };
-    let Number::Value(_, b) = numbers::number(s, a) else {
+    let Some((_, b)) = numbers::number(s, a) else {
         return 0;
     };
-    let Number::Value(modes, _) = numbers::number(s, b) else {
+    let Some((modes, _)) = numbers::number(s, b) else {
         return 0;
     };
     modes
@@ -43,7 +43,7 @@ fn refused(e: Refusal, bands: &mut [i64], coef: &mut [i64]) -> PlantRead
     arrays::clear(bands);
     arrays::clear(coef);
     PlantRead {
-        verdict: Verdict::Refused(e),
+        verdict: Err(e),
         outline: Outline {
             form: 0,
             n: 0,
@@ -85,7 +85,7 @@ fn outline(b: Beginning) -> Outline
 fn read_body(
     s: &[u8],
     b: Beginning,
-    related: Verdict,
+    related: Result<(), Refusal>,
     at: usize,
     bands: &mut [i64],
     coef: &mut [i64],
@@ -97,16 +97,16 @@ fn read_body(
     let read = modes::read_modes(s, b, related, at, bands, coef);
     let past = read.answer;
     match past {
-        Walk::Refused(e) => refused(e, bands, coef),
-        Walk::Next(next) => {
+        Err(e) => refused(e, bands, coef),
+        Ok(next) => {
             if next != s.len() {
                 return refused(refusals::unfit(next), bands, coef);
             }
             let told = read.related;
             match told {
-                Verdict::Refused(e) => refused(e, bands, coef),
-                Verdict::Accepted => PlantRead {
-                    verdict: Verdict::Accepted,
+                Err(e) => refused(e, bands, coef),
+                Ok(()) => PlantRead {
+                    verdict: Ok(()),
                     outline: outline(b),
                 },
             }
@@ -124,8 +124,8 @@ pub fn read_plant(s: &[u8], bands: &mut [i64], coef: &mut [i64]) -> PlantRead
     let read = beginnings::read_beginning(s, 2, MODES);
     let past = read.answer;
     match past {
-        Walk::Refused(e) => refused(e, bands, coef),
-        Walk::Next(at) => {
+        Err(e) => refused(e, bands, coef),
+        Ok(at) => {
             let b = read.beginning;
             let related = read.related;
             read_body(s, b, related, at, bands, coef)
@@ -191,7 +191,7 @@ fn put_plant(p: Outline, bands: &[i64], coef: &[i64], buf: &mut [u8]) -> usize
 }
 
 // A plant drafted in an array that holds its file, judged as that file, and left in the buffer.
-fn write_by(p: Outline, bands: &[i64], coef: &[i64], draft: &mut [u8], buf: &mut [u8]) -> Written
+fn write_by(p: Outline, bands: &[i64], coef: &[i64], draft: &mut [u8], buf: &mut [u8]) -> Result<usize, Refusal>
     requires { length (plant_draft (plant_from p bands.now coef.now)) ≤ length draft.old }
     ensures answer { result ≡ (plant_left (plant_from p bands.now coef.now) buf.old).answer }
     ensures bytes { buf.new ≡ (plant_left (plant_from p bands.now coef.now) buf.old).buffer }
@@ -204,7 +204,7 @@ fn write_by(p: Outline, bands: &[i64], coef: &[i64], draft: &mut [u8], buf: &mut
 }
 
 // In a draft for any plant.
-fn write_many<'a>(p: Outline, bands: &'a [i64], coef: &'a [i64], buf: &mut [u8]) -> Written
+fn write_many<'a>(p: Outline, bands: &'a [i64], coef: &'a [i64], buf: &mut [u8]) -> Result<usize, Refusal>
     ensures answer { result ≡ (plant_left (plant_from p bands.now coef.now) buf.old).answer }
     ensures bytes { buf.new ≡ (plant_left (plant_from p bands.now coef.now) buf.old).buffer }
 {
@@ -213,7 +213,7 @@ fn write_many<'a>(p: Outline, bands: &'a [i64], coef: &'a [i64], buf: &mut [u8])
 }
 
 // A plant as values, judged as the file it would be, then 10; what its bands or coefficients lack is 0. Finished, only the file's bytes are changed; refused, the buffer is all zeros.
-pub fn write_plant<'a>(p: Outline, bands: &'a [i64], coef: &'a [i64], buf: &mut [u8]) -> Written
+pub fn write_plant<'a>(p: Outline, bands: &'a [i64], coef: &'a [i64], buf: &mut [u8]) -> Result<usize, Refusal>
     ensures answer { result ≡ (plant_left (plant_from p bands.now coef.now) buf.old).answer }
     ensures bytes { buf.new ≡ (plant_left (plant_from p bands.now coef.now) buf.old).buffer }
 {

@@ -10,10 +10,9 @@ ghost use Rattle.files.specs.Signed.{signed_bytes};
 ghost use Rattle.files.specs.Rows.{limit_at, next_column, RowsTold};
 
 use crate::{arrays, fields, numbers};
-use meaning::{Signed, Walk};
 
 // The number of a row's column: one of n entries of A, or b behind them.
-fn entry(s: &[u8], at: usize, n: usize, column: usize) -> Signed
+fn entry(s: &[u8], at: usize, n: usize, column: usize) -> Option<(i64, usize)>
     ensures { result ≡ ranged_at s.now at (neg_ℤ (pos (limit_at n column))) (pos (limit_at n column)) }
 {
     if column < n {
@@ -30,7 +29,7 @@ fn next_column(n: usize, column: usize) -> usize
 }
 
 // `count` rows into the array from `from` on, as far as there is room; the place behind them in the file.
-pub fn read_rows(s: &[u8], at: usize, n: usize, count: usize, from: usize, coef: &mut [i64]) -> Walk
+pub fn read_rows(s: &[u8], at: usize, n: usize, count: usize, from: usize, coef: &mut [i64]) -> Result<usize, Refusal>
     requires { (n ≤ 4) × (from + count * (n + 1) ≤ most_coefs) }
     ensures { RowsTold s.now at n count from coef.old coef.new result }
 {
@@ -39,15 +38,15 @@ pub fn read_rows(s: &[u8], at: usize, n: usize, count: usize, from: usize, coef:
     let mut column: usize = 0;
     let mut c: usize = 0;
     while c < entries {
-        let Signed::Value(v, next) = entry(s, p, n, column) else {
-            return Walk::Refused(fields::fault(s, p));
+        let Some((v, next)) = entry(s, p, n, column) else {
+            return Err(fields::fault(s, p));
         };
         arrays::store(coef, from + c, v);
         p = next;
         column = next_column(n, column);
         c += 1;
     }
-    Walk::Next(p)
+    Ok(p)
 }
 
 // `count` numbers of an array, from `from` on, those that it lacks being 0, written from `at` on as far as there is room; the place behind them.

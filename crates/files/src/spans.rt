@@ -3,7 +3,7 @@
 ghost use Rattle.files.specs.Spans.{SpanTold};
 
 use crate::fields;
-use meaning::{Refusal, Signed};
+use meaning::Refusal;
 
 // A lo with its hi and the place behind them.
 #[derive(Clone, Copy)]
@@ -13,14 +13,14 @@ pub enum Span {
 }
 
 // lo within least..most, then hi within lo..most.
-pub fn read_span(s: &[u8], at: usize, least: i64, most: i64) -> Span
+pub fn read_span(s: &[u8], at: usize, least: i64, most: i64) -> Result<(i64, i64, usize), Refusal>
     ensures { SpanTold least most s.now at result }
 {
-    let Signed::Value(lo, mid) = fields::ranged(s, at, least, most) else {
-        return Span::Refused(fields::fault(s, at));
+    let Some((lo, mid)) = fields::ranged(s, at, least, most) else {
+        return Err(fields::fault(s, at));
     };
-    let Signed::Value(hi, next) = fields::ranged(s, mid, lo, most) else {
-        return Span::Refused(fields::fault(s, mid));
+    let Some((hi, next)) = fields::ranged(s, mid, lo, most) else {
+        return Err(fields::fault(s, mid));
     };
-    Span::Ends(lo, hi, next)
+    Ok((lo, hi, next))
 }

@@ -7,6 +7,7 @@ pub mod Expressions
 pub mod Guards
 pub mod Integers
 pub mod Lists
+pub mod Pairs
 pub mod Rounding
 pub mod Standing
 pub mod Stored

@@ -6,7 +6,7 @@ use crate::boxes::Bx;
 use desk::tellings;
 use figures::texts;
 use files::{numbers, plants};
-use meaning::{Number, Outline, Written};
+use meaning::Outline;
 use std::io::Stdout;
 use tables::makes;
 
@@ -58,7 +58,7 @@ fn put_modes(line: &mut [u8], from: usize, table: &[u8], place: usize, k: usize)
     let mut next = place;
     let mut left = k;
     while 0 < left {
-        let Number::Value(u, m) = numbers::number(table, next) else {
+        let Some((u, m)) = numbers::number(table, next) else {
             return Modes { place: next, at };
         };
         at = put_number(line, at, u);
@@ -121,7 +121,7 @@ fn past_lengths(form: usize, table: &[u8], at: usize, children: usize) -> usize 
     let mut place = at;
     let mut left = children;
     while 1 < left {
-        let Number::Value(_, next) = numbers::number(table, place) else {
+        let Some((_, next)) = numbers::number(table, place) else {
             return place;
         };
         place = next;
@@ -141,7 +141,7 @@ fn tree(
     b: Bx,
     t: Tally,
 ) -> Tally {
-    let Number::Value(k, next) = numbers::number(table, t.place) else {
+    let Some((k, next)) = numbers::number(table, t.place) else {
         return t;
     };
     if 0 < k {
@@ -213,7 +213,7 @@ fn walk(out: Stdout, shown: bool, n: usize, d: usize, table: &[u8], root: Bx) ->
         tiles: 0,
         longest: 0,
     };
-    let Number::Value(form, _) = numbers::number(table, 0) else {
+    let Some((form, _)) = numbers::number(table, 0) else {
         return start;
     };
     tree(out, shown, form, n, table, depth(form, n, d), root, start)
@@ -243,8 +243,8 @@ pub fn list(out: Stdout, plant: &[u8], form: usize) {
     let mut room = [0u8; 58_965];
     let table: &mut [u8] = &mut room;
     match makes::make(plant, form, table) {
-        Written::Refused(e) => tellings::tell_place(out, e),
-        Written::Length(length) => {
+        Err(e) => tellings::tell_place(out, e),
+        Ok(length) => {
             let read = plants::judge_plant(plant);
             let p = read.outline;
             show_table(out, p, table, length);

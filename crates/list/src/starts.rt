@@ -4,7 +4,7 @@ use crate::boxes::Bx;
 use crate::{boxes, listings};
 use desk::tellings;
 use files::{numbers, plants};
-use meaning::{Number, Outline, Signed, Verdict};
+use meaning::Outline;
 use std::io::Stdout;
 use tables::start_checks;
 
@@ -23,10 +23,10 @@ fn read_box(n: usize, start: &[u8], at: usize) -> Edges {
     let mut next = at;
     let mut j: usize = 0;
     while j < most {
-        let Signed::Value(l, past) = numbers::signed(start, next) else {
+        let Some((l, past)) = numbers::signed(start, next) else {
             break;
         };
-        let Signed::Value(h, behind) = numbers::signed(start, past) else {
+        let Some((h, behind)) = numbers::signed(start, past) else {
             break;
         };
         lo[j] = l;
@@ -54,7 +54,7 @@ fn past_boxes(n: usize, m: usize, start: &[u8], at: usize) -> usize {
 
 // The table of box i, whose length stands at a place, and the place behind it.
 fn show_part(out: Stdout, p: Outline, i: usize, start: &[u8], at: usize, b: Bx) -> usize {
-    let Number::Value(size, first) = numbers::number(start, at) else {
+    let Some((size, first)) = numbers::number(start, at) else {
         return at;
     };
     if start.len() < first {
@@ -93,12 +93,12 @@ fn show_parts(out: Stdout, p: Outline, m: usize, start: &[u8], at: usize) {
 // The listing of a start file for a plant's file, or its refusal.
 pub fn list(out: Stdout, plant: &[u8], start: &[u8]) {
     match start_checks::start_check(plant, start) {
-        Verdict::Refused(e) => tellings::tell_place(out, e),
-        Verdict::Accepted => {
-            let Number::Value(_, past_form) = numbers::number(start, 0) else {
+        Err(e) => tellings::tell_place(out, e),
+        Ok(()) => {
+            let Some((_, past_form)) = numbers::number(start, 0) else {
                 return;
             };
-            let Number::Value(m, next) = numbers::number(start, past_form) else {
+            let Some((m, next)) = numbers::number(start, past_form) else {
                 return;
             };
             let read = plants::judge_plant(plant);

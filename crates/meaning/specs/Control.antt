@@ -1,13 +1,11 @@
 -- The controller (document 01, "The controller", rows 11 and 12, and the order of judgement): what a call answers for every table, checked or
 -- not, every state and every reading. Plant and table header come first (page Tables puts the plant in front), then 12, 11, then the tree.
-use Rattle.std.specs.Prelude.{ℕ, zero, suc, ◌+◌, Bool, true, false, ◌&&◌, List, [], ◌∷◌, length, leb, eqb}
+use Rattle.std.specs.Prelude.{ℕ, zero, suc, ◌+◌, Bool, true, false, ◌&&◌, List, [], ◌∷◌, length, leb, eqb, Ok, Err}
 use Rattle.std.proofs.Math.Option.{Option, none, some}
 use Rattle.laws.specs.Guards.{guard, choose}
+use Rattle.meaning.specs.Answers.{Walk, Found, Answer}
 use Rattle.meaning.specs.declared.Tried.TheVariants.{Works}
-use Rattle.meaning.specs.declared.Walk.{Walk}
-use Rattle.meaning.specs.declared.Found.{Found}
 use Rattle.meaning.specs.declared.State.{State}
-use Rattle.meaning.specs.declared.Answer.{Answer}
 use Rattle.meaning.specs.Refusals.{bad_table, outside, bad_state}
 use Rattle.meaning.specs.Numbers.{number_at}
 use Rattle.meaning.specs.Files.{Read, read, refused}
@@ -20,8 +18,8 @@ idle = record { place = 0; left = 0 }
 
 -- a tile's modes were read: it is found
 abbrev pub tile_found : Read (List ℕ) → ℕ → ℕ → Found
-tile_found (refused e) from k = Found.Refused e
-tile_found (read us next) from k = Found.Tile from k
+tile_found (refused e) from k = Err e
+tile_found (read us next) from k = Ok (from, k)
 
 -- Where lengths are told (request 2026-01): the first whose child would end past the file, each beginning where the one before ends.
 unfoldable pub past_file : ℕ → List Length → ℕ → Option ℕ
@@ -35,8 +33,8 @@ unless_past none refuse rest = rest tt
 -- How a child is passed: by its length where lengths are told, and else by walking over it. The last has none, and nothing is behind it.
 abbrev pub pass_by : {B : Type 0} → Bool → (ℕ → B → Walk) → List Length → ℕ → B → Walk
 pass_by false over ls at b = over at b
-pass_by true over [] at b = Walk.Next at
-pass_by true over (l ∷ ls) at b = Walk.Next (at + l.size)
+pass_by true over [] at b = Ok at
+pass_by true over (l ∷ ls) at b = Ok (at + l.size)
 
 abbrev pub behind : List Length → List Length
 behind [] = []
@@ -45,10 +43,10 @@ behind (l ∷ ls) = ls
 -- The children before the one that holds the reading are passed, and that one is gone into. That no child holds it does not occur below a box
 -- that holds it, and is answered by 6 at the split.
 unfoldable pub among : {B : Type 0} → (B → Bool) → (ℕ → B → Found) → (List Length → ℕ → B → Walk) → ℕ → List B → List Length → ℕ → Found
-among has enter pass split [] ls at = Found.Refused (bad_table split)
+among has enter pass split [] ls at = Err (bad_table split)
 among has enter pass split (b ∷ bs) ls at =
     choose (has b) (λ _. enter at b) λ _.
-    on_walk (pass ls at b) Found.Refused λ next. among has enter pass split bs (behind ls) next
+    on_walk (pass ls at b) Err λ next. among has enter pass split bs (behind ls) next
 
 -- the state with so many modes to come, the next of them at that place
 abbrev pub state_at : ℕ → ℕ → State
@@ -61,12 +59,12 @@ state_with us place = state_at place (length us)
 -- The mode at a place with that many left, itself counted: the number that stands there. That none is left, or that it is broken, does not occur: a
 -- tile has modes, and both a tile that is found and a state that can be have a number there.
 abbrev pub mode_at : List ℕ → ℕ → ℕ → Answer
-mode_at s place zero = Answer.Refused bad_state
-mode_at s place (suc m) = on_number (number_at s place) (Answer.Refused bad_state) λ u next. Answer.Mode u (state_at next m)
+mode_at s place zero = Err bad_state
+mode_at s place (suc m) = on_number (number_at s place) (Err bad_state) λ u next. Ok (u, state_at next m)
 
 abbrev pub on_found : List ℕ → Found → Answer
-on_found s (Found.Refused e) = Answer.Refused e
-on_found s (Found.Tile from k) = mode_at s from k
+on_found s (Err e) = Err e
+on_found s (Ok (from, k)) = mode_at s from k
 
 -- modes were read: none runs off the table, is broken, or is not below N
 abbrev pub are_read : Read (List ℕ) → Bool
@@ -82,30 +80,30 @@ module _ (r : Rules) where
 
   -- The tile that holds a reading, in the tree at `at`. The walk tells 1 and 6 of what it reads, passed tiles too, and tests no image.
   unfoldable pub find : ℕ → List ℕ → ℕ → Box → Reading → Found
-  find zero s at b x = node_at K s at Found.Refused
-      (λ next. Found.Refused (bad_table at))
+  find zero s at b x = node_at K s at Err
+      (λ next. Err (bad_table at))
       (λ k next. tile_found (modes_at N k s next) next k)
-  find (suc d) s at b x = node_at K s at Found.Refused
-      (λ next. split_at (children b) (Found.Refused (bad_table at)) λ cs.
-      on_read (lengths_by (tells form) cs s next) Found.Refused λ ls first.
-      unless_past (past_file (length s) ls first) (λ place. Found.Refused (bad_table place)) λ _.
+  find (suc d) s at b x = node_at K s at Err
+      (λ next. split_at (children b) (Err (bad_table at)) λ cs.
+      on_read (lengths_by (tells form) cs s next) Err λ ls first.
+      unless_past (past_file (length s) ls first) (λ place. Err (bad_table place)) λ _.
       among (λ c. holds r c x) (λ p c. find d s p c x) (pass_by (tells form) (λ p c. walk r (λ _ _. Works) d s p c)) at cs ls first)
       (λ k next. tile_found (modes_at N k s next) next k)
 
   -- the reading must be in a box, or 11 with the first dimension
   abbrev pub inside : Box → Reading → (Unit {0} → Answer) → Answer
-  inside b x rest = guard (holds r b x) (Answer.Refused (outside (missed r b x))) rest
+  inside b x rest = guard (holds r b x) (Err (outside (missed r b x))) rest
 
   -- idle: the reading must be in R; its tile is found, its first mode answered
   abbrev pub idle_call : List ℕ → ℕ → ℕ → Reading → Answer
   idle_call s at place x =
-      guard (eqb place 0) (Answer.Refused bad_state) λ _.
+      guard (eqb place 0) (Err bad_state) λ _.
       inside root x λ _. on_found s (find D s at root x)
 
   -- running: the reading must be in S; the mode at the place is answered
   abbrev pub running_call : List ℕ → ℕ → ℕ → Reading → Answer
   running_call s place left x =
-      guard (can_run K N s place left) (Answer.Refused bad_state) λ _.
+      guard (can_run K N s place left) (Err bad_state) λ _.
       inside safe x λ _. mode_at s place left
 
   abbrev pub state_call : List ℕ → ℕ → ℕ → ℕ → Reading → Answer
@@ -114,4 +112,4 @@ module _ (r : Rules) where
 
   -- a call on a plant that was read
   unfoldable pub call : List ℕ → State → Reading → Answer
-  call s st x = on_walk (header form n s) Answer.Refused λ at. state_call s at st.place st.left x
+  call s st x = on_walk (header form n s) Err λ at. state_call s at st.place st.left x

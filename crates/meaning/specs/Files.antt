@@ -2,12 +2,11 @@
 -- Document 01, "What each number says": files are judged number by number in order, 1 before the others at the same number;
 -- a number's place is its first byte, that of leftover bytes the first of them. The same form gives the bytes of a list of values,
 -- so that what is handed to a writer as values is judged as the file it would be.
-use Rattle.std.specs.Prelude.{ℕ, zero, suc, ◌+◌, ◌*◌, ◌/◌, ◌%◌, Bool, ◌&&◌, cond, List, [], ◌∷◌, ◌++◌, map, length, take, drop, ltb, eqb, ℤ, pos, nat_abs}
+use Rattle.std.specs.Prelude.{ℕ, zero, suc, ◌+◌, ◌*◌, ◌/◌, ◌%◌, Bool, ◌&&◌, cond, List, [], ◌∷◌, ◌++◌, map, length, take, drop, ltb, eqb, ℤ, pos, nat_abs, Some, None}
 use Rattle.laws.specs.Guards.{guard}
 use Rattle.laws.specs.Lists.{all}
+use Rattle.meaning.specs.Answers.{Number, Signed}
 use Rattle.meaning.specs.declared.Refusal.{Refusal}
-use Rattle.meaning.specs.declared.Number.{Number}
-use Rattle.meaning.specs.declared.Signed.{Signed}
 use Rattle.meaning.specs.Refusals.{broken, unfit}
 use Rattle.meaning.specs.Numbers.{number_at, signed_at, bytes_of, stored}
 
@@ -36,12 +35,12 @@ float_at s at =
     cond (eqb (length cs) 8 && all (map (λ c. ltb c 256) cs)) (taken (pos (little cs)) (at + 8)) none
 
 abbrev pub plain_taken : Number → Taken
-plain_taken (Number.Value v next) = taken (pos v) next
-plain_taken Number.Broken = none
+plain_taken (Some (v, next)) = taken (pos v) next
+plain_taken None = none
 
 abbrev pub signed_taken : Signed → Taken
-signed_taken (Signed.Value z next) = taken z next
-signed_taken Signed.Broken = none
+signed_taken (Some (z, next)) = taken z next
+signed_taken None = none
 
 abbrev pub taken_as : Kind → List ℕ → ℕ → Taken
 taken_as plain s at = plain_taken (number_at s at)

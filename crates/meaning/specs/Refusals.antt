@@ -1,18 +1,10 @@
 -- What each number says: document 01's table of refusals, with rows 2 and 5 as request 2026-09 has them and row 15 of document 02, one definition a row,
 -- and what each answer shows of it.
 -- A place or step that the table does not name is 0. In a start file some rows say more (docs/REFUSALS.md), and the places of its tables are moved.
-use Rattle.std.specs.Prelude.{ℕ, ◌+◌, Bool, ◌||◌, cond, List, [], ◌∷◌, eqb, ℤ, pos}
+use Rattle.std.specs.Prelude.{ℕ, ◌+◌, Bool, ◌||◌, cond, List, [], ◌∷◌, eqb, ℤ, pos, Some, None, Ok, Err}
+use Rattle.meaning.specs.Answers.{Number, Signed, Walk, Verdict, Written, Found, Answer, StartAnswer, Whole}
 use Rattle.meaning.specs.declared.Refusal.{Refusal}
-use Rattle.meaning.specs.declared.Number.{Number}
-use Rattle.meaning.specs.declared.Signed.{Signed}
 use Rattle.meaning.specs.declared.Tried.{Tried}
-use Rattle.meaning.specs.declared.Walk.{Walk}
-use Rattle.meaning.specs.declared.Found.{Found}
-use Rattle.meaning.specs.declared.Whole.{Whole}
-use Rattle.meaning.specs.declared.Verdict.{Verdict}
-use Rattle.meaning.specs.declared.Written.{Written}
-use Rattle.meaning.specs.declared.Answer.{Answer}
-use Rattle.meaning.specs.declared.StartAnswer.{StartAnswer}
 
 abbrev pub refusal : ℕ → ℕ → ℕ → Refusal
 refusal n p i = record { number = n; place = p; step = i }
@@ -102,12 +94,12 @@ told r vs = record { number = r.number; place = r.place; step = r.step; values =
 
 -- the number that was asked for at a place, and the place behind it
 abbrev pub number_shown : ℕ → Number → Shown
-number_shown at (Number.Value v next) = done (pos v ∷ pos next ∷ [])
-number_shown at Number.Broken = told (broken at) []
+number_shown at (Some (v, next)) = done (pos v ∷ pos next ∷ [])
+number_shown at None = told (broken at) []
 
 abbrev pub signed_shown : ℕ → Signed → Shown
-signed_shown at (Signed.Value v next) = done (v ∷ pos next ∷ [])
-signed_shown at Signed.Broken = told (broken at) []
+signed_shown at (Some (v, next)) = done (v ∷ pos next ∷ [])
+signed_shown at None = told (broken at) []
 
 -- a tile's pattern, the tile's first byte being at a place
 abbrev pub tried_shown : ℕ → Tried → Shown
@@ -117,33 +109,33 @@ tried_shown at (Tried.Misses i) = told (misses at i) []
 
 -- the place behind what was walked over; the place of a tile's first mode and how many modes it has
 abbrev pub walk_shown : Walk → Shown
-walk_shown (Walk.Next at) = done (pos at ∷ [])
-walk_shown (Walk.Refused r) = told r []
+walk_shown (Ok at) = done (pos at ∷ [])
+walk_shown (Err r) = told r []
 
 abbrev pub found_shown : Found → Shown
-found_shown (Found.Tile from k) = done (pos from ∷ pos k ∷ [])
-found_shown (Found.Refused r) = told r []
+found_shown (Ok (from, k)) = done (pos from ∷ pos k ∷ [])
+found_shown (Err r) = told r []
 
 -- the k-th number of the plant made of a sheet
 abbrev pub whole_shown : ℕ → Whole → Shown
-whole_shown k (Whole.Near v) = done (v ∷ [])
-whole_shown k Whole.Out = told (bad_result k) []
+whole_shown k (Some v) = done (v ∷ [])
+whole_shown k None = told (bad_result k) []
 
 abbrev pub verdict_shown : Verdict → Shown
-verdict_shown Verdict.Accepted = done []
-verdict_shown (Verdict.Refused r) = told r []
+verdict_shown (Ok _) = done []
+verdict_shown (Err r) = told r []
 
 -- how many bytes were written
 abbrev pub written_shown : Written → Shown
-written_shown (Written.Length m) = done (pos m ∷ [])
-written_shown (Written.Refused r) = told r []
+written_shown (Ok m) = done (pos m ∷ [])
+written_shown (Err r) = told r []
 
 -- The mode and the next state. A refused controller call returns idle, and the C face shows 65,535, which is no mode (request 2026-08; 255 is one).
 abbrev pub answer_shown : Answer → Shown
-answer_shown (Answer.Mode u s) = done (pos u ∷ pos s.place ∷ pos s.left ∷ [])
-answer_shown (Answer.Refused r) = told r (pos 65_535 ∷ pos 0 ∷ pos 0 ∷ [])
+answer_shown (Ok (u, s)) = done (pos u ∷ pos s.place ∷ pos s.left ∷ [])
+answer_shown (Err r) = told r (pos 65_535 ∷ pos 0 ∷ pos 0 ∷ [])
 
 -- the same of a start file: the next index stands before place and left
 abbrev pub start_answer_shown : StartAnswer → Shown
-start_answer_shown (StartAnswer.Mode u s) = done (pos u ∷ pos s.index ∷ pos s.state.place ∷ pos s.state.left ∷ [])
-start_answer_shown (StartAnswer.Refused r) = told r (pos 65_535 ∷ pos 0 ∷ pos 0 ∷ pos 0 ∷ [])
+start_answer_shown (Ok (u, s)) = done (pos u ∷ pos s.index ∷ pos s.state.place ∷ pos s.state.left ∷ [])
+start_answer_shown (Err r) = told r (pos 65_535 ∷ pos 0 ∷ pos 0 ∷ pos 0 ∷ [])

@@ -1,9 +1,9 @@
 -- An accepted table as one of another form (request 2026-01): the same tree, laid out as that form lays it out. Forms that split boxes alike are turned
 -- into each other, so 1 and 2, and any table into its own form. Plant, then all that the checker says of the table, then 2, then 10.
-use Rattle.std.specs.Prelude.{ℕ, zero, suc, Bool, ◌&&◌, not, cond, List, [], ◌∷◌}
+use Rattle.std.specs.Prelude.{ℕ, zero, suc, Bool, ◌&&◌, not, cond, List, [], ◌∷◌, Ok, Err}
 use Rattle.laws.specs.Guards.{guard}
+use Rattle.meaning.specs.Answers.{Verdict}
 use Rattle.meaning.specs.declared.Refusal.{Refusal}
-use Rattle.meaning.specs.declared.Verdict.{Verdict}
 use Rattle.meaning.specs.Refusals.{wrong_form, bad_table}
 use Rattle.meaning.specs.Files.{Read, read, refused, Judged, good, bad}
 use Rattle.meaning.specs.Plants.{plant_judged}
@@ -45,8 +45,8 @@ abbrev pub splits_alike : ℕ → ℕ → Bool
 splits_alike form other = cond (one_side form) (one_side other) (not (one_side other))
 
 abbrev pub on_verdict : {A : Type 0} → Verdict → (Refusal → A) → (Unit {0} → A) → A
-on_verdict (Verdict.Refused e) refuse rest = refuse e
-on_verdict Verdict.Accepted refuse rest = rest tt
+on_verdict (Err e) refuse rest = refuse e
+on_verdict (Ok _) refuse rest = rest tt
 
 abbrev pub on_tree : Judged Tree → (Tree → Judged (List ℕ)) → Judged (List ℕ)
 on_tree (bad e) rest = bad e

@@ -1,16 +1,15 @@
 -- The sheet (document 01, "The sheet"): its file, read and written by one form, the equations in f64, and the plant made of it.
 -- Floats are lib.Ieee's; in a list of a file's values a float is its bit pattern.
-use Rattle.std.specs.Prelude.{ℕ, zero, suc, ◌+◌, ◌-◌, ◌*◌, ◌/◌, ◌%◌, ◌^◌, max, Bool, true, false, not, ◌&&◌, cond, List, [], ◌∷◌, ◌++◌, map, get_or, drop, leb, ltb, eqb, ℤ, pos, nat_abs, neg_ℤ, ◌+ℤ◌, ◌-ℤ◌, ◌*ℤ◌, Float}
+use Rattle.std.specs.Prelude.{ℕ, zero, suc, ◌+◌, ◌-◌, ◌*◌, ◌/◌, ◌%◌, ◌^◌, max, Bool, true, false, not, ◌&&◌, cond, List, [], ◌∷◌, ◌++◌, map, get_or, drop, leb, ltb, eqb, ℤ, pos, nat_abs, neg_ℤ, ◌+ℤ◌, ◌-ℤ◌, ◌*ℤ◌, Float, Some, None, Ok, Err}
 use Rattle.std.specs.Float.{nan, inf, fin, binary64}
 use Rattle.std.specs.Float.Ieee.{up, down, add, sub, mul, lt, of_bits, to_bits}
 use Rattle.laws.specs.Guards.{guard}
 use Rattle.laws.specs.Lists.{at, tab, tabs, padded, all, first_false}
-use Rattle.meaning.specs.declared.Verdict.{Verdict}
+use Rattle.meaning.specs.Answers.{Whole}
 use Rattle.meaning.specs.declared.Emitter.{Emitter}
 use Rattle.meaning.specs.declared.Room.{Room}
 use Rattle.meaning.specs.declared.Sheet.{Sheet}
 use Rattle.meaning.specs.declared.SheetRead.{SheetRead}
-use Rattle.meaning.specs.declared.Whole.{Whole}
 use Rattle.meaning.specs.Refusals.{bad_float, bad_result}
 use Rattle.meaning.specs.Files.{float, Form, end, field, Read, read, refused, values_of, file_of, Judged, good, bad, file_judged}
 use Rattle.meaning.specs.Boxes.{Side, sides_of}
@@ -208,12 +207,12 @@ nearest k m e = (2 * (k * (m * up e)) + down e) / (2 * down e)
 
 -- within ± a limit, or the plant cannot hold it
 abbrev pub limited_to : ℕ → ℤ → Whole
-limited_to limit v = cond (leb (nat_abs v) limit) (Whole.Near v) Whole.Out
+limited_to limit v = cond (leb (nat_abs v) limit) (Some v) None
 
 -- the whole number nearest k·x, halves away from zero; the product is exact, of the float's exact value
 unfoldable pub whole_of : ℕ → ℕ → Float → Whole
-whole_of limit k nan = Whole.Out
-whole_of limit k (inf s) = Whole.Out
+whole_of limit k nan = None
+whole_of limit k (inf s) = None
 whole_of limit k (fin s m e) = limited_to limit (signed_by s (nearest k m e))
 
 -- M, the largest absolute edge of S over the first m rooms
@@ -267,18 +266,18 @@ made_modes h = 2 ^ emitters h h.n
 
 unfoldable pub made_numbers : Sheet → List Whole
 made_numbers h =
-    map (λ v. Whole.Near (pos v)) (1 ∷ h.n ∷ made_modes h ∷ h.q ∷ h.k ∷ h.d ∷ [])
-    ++ (map Whole.Near (sheet_edges h)
+    map (λ v. Some (pos v)) (1 ∷ h.n ∷ made_modes h ∷ h.q ∷ h.k ∷ h.d ∷ [])
+    ++ (map Some (sheet_edges h)
     ++ (tabs (made_band h) h.n 0
     ++ tabs (λ u. tabs (made_row h u) h.n 0) (made_modes h) 0))
 
 abbrev pub is_near : Whole → Bool
-is_near (Whole.Near v) = true
-is_near Whole.Out = false
+is_near (Some v) = true
+is_near None = false
 
 abbrev pub near_value : Whole → ℤ
-near_value (Whole.Near v) = v
-near_value Whole.Out = pos 0
+near_value (Some v) = v
+near_value None = pos 0
 
 -- the plant's numbers as values, and the plant
 abbrev pub made_values : Sheet → List ℤ
@@ -317,8 +316,8 @@ sheet_judged s = sheet_related (values_of sheet_form s)
 
 -- what a sheet's reader answers; a refused one's sheet is all zeros
 abbrev pub sheet_read_of : Judged Sheet → SheetRead
-sheet_read_of (good h) = record { verdict = Verdict.Accepted; sheet = h }
-sheet_read_of (bad r) = record { verdict = Verdict.Refused r; sheet = sheet_of [] }
+sheet_read_of (good h) = record { verdict = Ok tt; sheet = h }
+sheet_read_of (bad r) = record { verdict = Err r; sheet = sheet_of [] }
 
 abbrev pub sheet_read : List ℕ → SheetRead
 sheet_read s = sheet_read_of (sheet_judged s)

@@ -1,15 +1,13 @@
 -- Start files (document 02, request 2026-03): a chain of boxes R = R0, R1, .. Rm, each holding the one before, all in S, and a table for each, whose patterns
 -- end in the box below it; R0's own end in R0. What checker, maker and controller answer, for every input. Nothing of trees, tables and calls is said
 -- again: box i's table is judged, defined and called by the rules with that box as root and the box below as goal.
-use Rattle.std.specs.Prelude.{ℕ, zero, suc, ◌+◌, ◌*◌, ◌≡◌, Bool, false, ◌&&◌, ◌||◌, not, cond, List, [], ◌∷◌, ◌++◌, length, take, drop, leb, eqb, ℤ, nat_abs}
+use Rattle.std.specs.Prelude.{ℕ, zero, suc, ◌+◌, ◌*◌, ◌≡◌, Bool, false, ◌&&◌, ◌||◌, not, cond, List, [], ◌∷◌, ◌++◌, length, take, drop, leb, eqb, ℤ, nat_abs, Ok, Err}
 use Rattle.laws.specs.Guards.{guard, choose}
 use Rattle.laws.specs.Lists.{at, tab, all, first_false}
+use Rattle.meaning.specs.Answers.{Verdict, Answer, StartAnswer}
 use Rattle.meaning.specs.declared.Refusal.{Refusal}
-use Rattle.meaning.specs.declared.Verdict.{Verdict}
 use Rattle.meaning.specs.declared.State.{State}
-use Rattle.meaning.specs.declared.Answer.{Answer}
 use Rattle.meaning.specs.declared.StartState.{StartState}
-use Rattle.meaning.specs.declared.StartAnswer.{StartAnswer}
 use Rattle.meaning.specs.Refusals.{broken, wrong_form, unfit, outside, bad_state, not_held, moved}
 use Rattle.meaning.specs.Numbers.{number_at, bytes_of}
 use Rattle.meaning.specs.Files.{Form, end, Read, read, refused, values_at, values_of, file_of, Judged, good, bad}
@@ -98,17 +96,17 @@ start_of n vs ts = file_of (chain_form n) vs ++ parts_of ts
 module _ (r : ℕ → ℕ → Rules) (s : List ℕ) where
   -- k tables, the first of them box i's
   unfoldable pub tables_at : ℕ → ℕ → ℕ → Verdict
-  tables_at zero i at = guard (eqb at (length s)) (Verdict.Refused (unfit at)) λ _. Verdict.Accepted
+  tables_at zero i at = guard (eqb at (length s)) (Err (unfit at)) λ _. Ok tt
   tables_at (suc k) i at =
-      on_length s at Verdict.Refused λ first size.
-      on_walk (table_end (r i (form_of (part s first size))) (part s first size)) (λ e. Verdict.Refused (moved first e)) λ next.
-      guard (eqb next size) (Verdict.Refused (unfit at)) λ _.
+      on_length s at Err λ first size.
+      on_walk (table_end (r i (form_of (part s first size))) (part s first size)) (λ e. Err (moved first e)) λ next.
+      guard (eqb next size) (Err (unfit at)) λ _.
       tables_at k (suc i) (first + size)
 
 unfoldable pub start_checked : List ℕ → List ℕ → Verdict
 start_checked plant start =
-    on_plant (plant_judged plant) Verdict.Refused λ p.
-    on_start p start Verdict.Refused λ vs next.
+    on_plant (plant_judged plant) Err λ p.
+    on_start p start Err λ vs next.
     tables_at (box_rules p vs) start (above vs + 1) 0 next
 
 -- ---- Maker: plant; the chain, with nothing behind it; 15; 2 where the form is not known; 9 with the first index that has no table; 10
@@ -157,8 +155,8 @@ state_in i st = cond (is_idle st) start_idle (record { index = i; state = st })
 
 -- the answer of box i's table, which stands at `first`
 abbrev pub answer_in : ℕ → ℕ → Answer → StartAnswer
-answer_in i first (Answer.Refused e) = StartAnswer.Refused (moved first e)
-answer_in i first (Answer.Mode u st) = StartAnswer.Mode u (state_in i st)
+answer_in i first (Err e) = Err (moved first e)
+answer_in i first (Ok (u, st)) = Ok (u, state_in i st)
 
 -- the table that i others stand before, the first of them at a place: of those only the lengths are read
 unfoldable pub on_part : {A : Type 0} → ℕ → List ℕ → ℕ → (Refusal → A) → (ℕ → ℕ → A) → A
@@ -168,13 +166,13 @@ on_part (suc i) s at refuse rest = on_length s at refuse λ first size. on_part 
 module _ (p : Plant) (vs : List ℤ) (s : List ℕ) (at : ℕ) where
   -- the call on box i's table
   abbrev pub call_in : ℕ → State → List ℤ → StartAnswer
-  call_in i st x = on_part i s at StartAnswer.Refused λ first size. let t = part s first size in answer_in i first (call (box_rules p vs i (form_of t)) t st x)
+  call_in i st x = on_part i s at Err λ first size. let t = part s first size in answer_in i first (call (box_rules p vs i (form_of t)) t st x)
 
   -- idle: the smallest box that holds the reading, of equal ones the lowest index; outside Rm it is 11
   abbrev pub chosen_call : List ℤ → StartAnswer
   chosen_call x =
       let r = box_rules p vs (above vs) 1 in
-      guard (holds r r.root x) (StartAnswer.Refused (outside (missed r r.root x))) λ _.
+      guard (holds r r.root x) (Err (outside (missed r r.root x))) λ _.
       call_in (chosen p.n (root_of p) vs x) idle x
 
   -- an index over m, or one kept when idle, cannot be
@@ -183,13 +181,13 @@ module _ (p : Plant) (vs : List ℤ) (s : List ℕ) (at : ℕ) where
 
   abbrev pub start_call : StartState → List ℤ → StartAnswer
   start_call st x =
-      guard (can_index st.index st.state) (StartAnswer.Refused bad_state) λ _.
+      guard (can_index st.index st.state) (Err bad_state) λ _.
       choose (is_idle st.state) (λ _. chosen_call x) (λ _. call_in st.index st.state x)
 
 unfoldable pub start_controlled : List ℕ → List ℕ → StartState → List ℤ → StartAnswer
 start_controlled plant start st x =
-    on_plant (plant_judged plant) StartAnswer.Refused λ p.
-    on_start p start StartAnswer.Refused λ vs next.
+    on_plant (plant_judged plant) Err λ p.
+    on_start p start Err λ vs next.
     start_call p vs start next st x
 
 -- ---- the runs of a start file on a plant, from idle on a reading in Ri: none where plant or chain is refused
@@ -202,7 +200,7 @@ in_box plant start i x =
 
 -- a call gives a mode and the next state
 abbrev pub StartCallGives : List ℕ → List ℕ → StartState → List ℤ → ℕ → StartState → Type 0
-StartCallGives plant start st x u then = start_controlled plant start st x ≡ StartAnswer.Mode u then
+StartCallGives plant start st x u then = start_controlled plant start st x ≡ Ok (u, then)
 
 abbrev pub StartRun : List ℕ → List ℕ → ℕ → StartState → List ℤ → Type 0
 StartRun plant start i = Run start_idle (StartCallGives plant start) (in_box plant start i) (may_follow plant)

@@ -1,13 +1,11 @@
 -- Document 01's rules of a plant, and its three answers about tables over bytes: the checker's, the maker's, the controller's.
-use Rattle.std.specs.Prelude.{ℕ, ◌*◌, ◌≡◌, Bool, false, ◌||◌, cond, List, eqb, ℤ}
+use Rattle.std.specs.Prelude.{ℕ, ◌*◌, ◌≡◌, Bool, false, ◌||◌, cond, List, eqb, ℤ, Some, None, Ok, Err}
 use Rattle.std.proofs.Math.Option.{Option, none, some}
 use Rattle.laws.specs.Guards.{guard}
 use Rattle.laws.specs.Lists.{at, tab}
+use Rattle.meaning.specs.Answers.{Number, Verdict, Answer}
 use Rattle.meaning.specs.declared.Refusal.{Refusal}
-use Rattle.meaning.specs.declared.Number.{Number}
-use Rattle.meaning.specs.declared.Verdict.{Verdict}
 use Rattle.meaning.specs.declared.State.{State}
-use Rattle.meaning.specs.declared.Answer.{Answer}
 use Rattle.meaning.specs.Refusals.{wrong_form, no_table}
 use Rattle.meaning.specs.Numbers.{number_at}
 use Rattle.meaning.specs.Boxes.{Side, fits, within, children, longest_halved}
@@ -44,8 +42,8 @@ depth_by form n D = cond (one_side form) (n * D) D
 
 -- the form that a table's header says, by which it is judged and run; of one that is not known or broken the header tells, whatever the form
 abbrev pub form_told : Number → ℕ
-form_told Number.Broken = 1
-form_told (Number.Value form next) = cond (known_form form) form 1
+form_told None = 1
+form_told (Some (form, next)) = cond (known_form form) form 1
 
 abbrev pub form_of : List ℕ → ℕ
 form_of s = form_told (number_at s 0)
@@ -86,7 +84,7 @@ on_plant (good p) refuse rest = rest p
 
 -- Checker: plant, then the table in order
 unfoldable pub checked : List ℕ → List ℕ → Verdict
-checked plant table = on_plant (plant_judged plant) Verdict.Refused λ p. verdict (rules_of (form_of table) p) table
+checked plant table = on_plant (plant_judged plant) Err λ p. verdict (rules_of (form_of table) p) table
 
 -- Maker: plant, 2, 9, 10. A box is told by its index: R's is 0.
 abbrev pub table_bytes : ℕ → Rules → Option Tree → Judged (List ℕ)
@@ -109,7 +107,7 @@ maker_left plant form buf = left (made plant form) buf
 
 -- Controller: plant, then the call
 unfoldable pub controlled : List ℕ → List ℕ → State → List ℤ → Answer
-controlled plant table st x = on_plant (plant_judged plant) Answer.Refused λ p. call (rules_of (form_of table) p) table st x
+controlled plant table st x = on_plant (plant_judged plant) Err λ p. call (rules_of (form_of table) p) table st x
 
 -- ---- the runs of a table on a plant, by the controller's own answers: none where the plant is refused
 
@@ -125,7 +123,7 @@ may_follow plant u x y = on_plant (plant_judged plant) (λ _. false) λ p. (rule
 
 -- a call gives a mode and the next state
 abbrev pub CallGives : List ℕ → List ℕ → State → List ℤ → ℕ → State → Type 0
-CallGives plant table st x u then = controlled plant table st x ≡ Answer.Mode u then
+CallGives plant table st x u then = controlled plant table st x ≡ Ok (u, then)
 
 abbrev pub TableRun : List ℕ → List ℕ → State → List ℤ → Type 0
 TableRun plant table = Run idle (CallGives plant table) (starts_in plant) (may_follow plant)

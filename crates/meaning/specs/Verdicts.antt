@@ -1,14 +1,12 @@
 -- The checker's verdict on a table (document 01, "Table file", rows 1, 2, 6, 7, 8 and the order of judgement): the header, then the tree in
 -- file order; a tile's modes are all read before its images; leftover bytes last. One walk serves the checker, whose judge of a tile is
 -- the tile rule, and the passing of a subtree, whose judge lets every tile be.
-use Rattle.std.specs.Prelude.{ℕ, zero, suc, ◌+◌, ◌-◌, Bool, true, false, List, [], ◌∷◌, length, ltb, leb, eqb}
+use Rattle.std.specs.Prelude.{ℕ, zero, suc, ◌+◌, ◌-◌, Bool, true, false, List, [], ◌∷◌, length, ltb, leb, eqb, Some, None, Ok, Err}
 use Rattle.laws.specs.Guards.{guard}
+use Rattle.meaning.specs.Answers.{Number, Walk, Verdict}
 use Rattle.meaning.specs.declared.Refusal.{Refusal}
-use Rattle.meaning.specs.declared.Number.{Number}
 use Rattle.meaning.specs.declared.Tried.{Tried}
 use Rattle.meaning.specs.declared.Tried.TheVariants.{Works, Leaves, Misses}
-use Rattle.meaning.specs.declared.Walk.{Walk}
-use Rattle.meaning.specs.declared.Verdict.{Verdict}
 use Rattle.meaning.specs.Refusals.{broken, wrong_form, bad_table, leaves, misses}
 use Rattle.meaning.specs.Numbers.{number_at}
 use Rattle.meaning.specs.Files.{Read, read, refused, before}
@@ -16,22 +14,22 @@ use Rattle.meaning.specs.Rules.{Rules, rule}
 use Rattle.meaning.specs.Trees.{tells}
 
 abbrev pub on_number {ℓ} : {A : Type ℓ} → Number → A → (ℕ → ℕ → A) → A
-on_number Number.Broken otherwise rest = otherwise
-on_number (Number.Value v next) otherwise rest = rest v next
+on_number None otherwise rest = otherwise
+on_number (Some (v, next)) otherwise rest = rest v next
 
 abbrev pub on_walk {ℓ} : {A : Type ℓ} → Walk → (Refusal → A) → (ℕ → A) → A
-on_walk (Walk.Refused e) refuse rest = refuse e
-on_walk (Walk.Next at) refuse rest = rest at
+on_walk (Err e) refuse rest = refuse e
+on_walk (Ok at) refuse rest = rest at
 
 -- a tile's judge has spoken
 abbrev pub on_tried : Tried → ℕ → ℕ → Walk
-on_tried Works at next = Walk.Next next
-on_tried (Leaves i) at next = Walk.Refused (leaves at i)
-on_tried (Misses i) at next = Walk.Refused (misses at i)
+on_tried Works at next = Ok next
+on_tried (Leaves i) at next = Err (leaves at i)
+on_tried (Misses i) at next = Err (misses at i)
 
 -- a tile's modes were read
 abbrev pub on_modes : Read (List ℕ) → ℕ → (List ℕ → Tried) → Walk
-on_modes (refused e) at judge = Walk.Refused e
+on_modes (refused e) at judge = Err e
 on_modes (read us next) at judge = on_tried (judge us) at next
 
 -- a length that a split tells of a child, and where it stands (request 2026-01)
@@ -58,11 +56,11 @@ lengths_by true bs s at = lengths_at (length bs - 1) s at
 
 -- children one after another, each held to the length that is told of it as soon as it is read
 unfoldable pub each : {B : Type 0} → (ℕ → B → Walk) → List B → List Length → ℕ → Walk
-each one [] ls at = Walk.Next at
-each one (b ∷ bs) [] at = on_walk (one at b) Walk.Refused λ next. each one bs [] next
+each one [] ls at = Ok at
+each one (b ∷ bs) [] at = on_walk (one at b) Err λ next. each one bs [] next
 each one (b ∷ bs) (l ∷ ls) at =
-    on_walk (one at b) Walk.Refused λ next.
-    guard (eqb next (at + l.size)) (Walk.Refused (bad_table l.place)) λ _.
+    on_walk (one at b) Err λ next.
+    guard (eqb next (at + l.size)) (Err (bad_table l.place)) λ _.
     each one bs ls next
 
 -- a split's children; where there are none it is not possible
@@ -92,31 +90,31 @@ node_at K s at refuse split tile =
 -- form, then n: the place behind them
 unfoldable pub header : ℕ → ℕ → List ℕ → Walk
 header form n s =
-    on_number (number_at s 0) (Walk.Refused (broken 0)) λ told at.
-    guard (eqb told form) (Walk.Refused wrong_form) λ _.
-    on_number (number_at s at) (Walk.Refused (broken at)) λ m next.
-    guard (eqb m n) (Walk.Refused (bad_table at)) λ _.
-    Walk.Next next
+    on_number (number_at s 0) (Err (broken 0)) λ told at.
+    guard (eqb told form) (Err wrong_form) λ _.
+    on_number (number_at s at) (Err (broken at)) λ m next.
+    guard (eqb m n) (Err (bad_table at)) λ _.
+    Ok next
 
 module _ (r : Rules) where
   open r use {Box, children, root, form, n, D, K, N}
 
   -- the tree at `at`, over a box with depth d left
   unfoldable pub walk : (Box → List ℕ → Tried) → ℕ → List ℕ → ℕ → Box → Walk
-  walk judge zero s at b = node_at K s at Walk.Refused
-      (λ next. Walk.Refused (bad_table at))
+  walk judge zero s at b = node_at K s at Err
+      (λ next. Err (bad_table at))
       (λ k next. on_modes (modes_at N k s next) at (judge b))
-  walk judge (suc d) s at b = node_at K s at Walk.Refused
-      (λ next. split_at (children b) (Walk.Refused (bad_table at)) λ cs.
-      on_read (lengths_by (tells form) cs s next) Walk.Refused λ ls first. each (λ p c. walk judge d s p c) cs ls first)
+  walk judge (suc d) s at b = node_at K s at Err
+      (λ next. split_at (children b) (Err (bad_table at)) λ cs.
+      on_read (lengths_by (tells form) cs s next) Err λ ls first. each (λ p c. walk judge d s p c) cs ls first)
       (λ k next. on_modes (modes_at N k s next) at (judge b))
 
   -- the place behind a table: the header and the tree
   abbrev pub table_end : List ℕ → Walk
-  table_end s = on_walk (header form n s) Walk.Refused λ at. walk (rule r) D s at root
+  table_end s = on_walk (header form n s) Err λ at. walk (rule r) D s at root
 
   unfoldable pub verdict : List ℕ → Verdict
   verdict s =
-      on_walk (table_end s) Verdict.Refused λ next.
-      guard (eqb next (length s)) (Verdict.Refused (bad_table next)) λ _.
-      Verdict.Accepted
+      on_walk (table_end s) Err λ next.
+      guard (eqb next (length s)) (Err (bad_table next)) λ _.
+      Ok tt

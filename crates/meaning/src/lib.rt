@@ -12,34 +12,6 @@ pub struct Refusal {
     pub step: usize,
 }
 
-// A number in groups of seven bits at a place: its value and the place behind it.
-#[derive(Clone, Copy)]
-pub enum Number {
-    Value(usize, usize),
-    Broken,
-}
-
-// The same, signed.
-#[derive(Clone, Copy)]
-pub enum Signed {
-    Value(i64, usize),
-    Broken,
-}
-
-// A file that was judged.
-#[derive(Clone, Copy)]
-pub enum Verdict {
-    Accepted,
-    Refused(Refusal),
-}
-
-// What a writer did: the bytes written, or the refusal.
-#[derive(Clone, Copy)]
-pub enum Written {
-    Length(usize),
-    Refused(Refusal),
-}
-
 // The modes of the largest plant, its mode coefficients, and the ends of its modes' bands.
 pub const MODES: usize = 256;
 
@@ -67,7 +39,7 @@ pub struct Outline {
 // A plant's reader answers both: a refused one's outline is all zeros.
 #[derive(Clone, Copy)]
 pub struct PlantRead {
-    pub verdict: Verdict,
+    pub verdict: Result<(), Refusal>,
     pub outline: Outline,
 }
 
@@ -79,20 +51,6 @@ pub enum Tried {
     Misses(usize),
 }
 
-// A walk over a table's bytes: the place behind what was read.
-#[derive(Clone, Copy)]
-pub enum Walk {
-    Next(usize),
-    Refused(Refusal),
-}
-
-// The tile that holds a reading: the place of its first mode, and how many there are.
-#[derive(Clone, Copy)]
-pub enum Found {
-    Tile(usize, usize),
-    Refused(Refusal),
-}
-
 // The controller between two calls: the place of the next mode and how many are left; idle is 0 and 0.
 #[derive(Clone, Copy)]
 pub struct State {
@@ -100,25 +58,11 @@ pub struct State {
     pub left: usize,
 }
 
-// The controller's answer.
-#[derive(Clone, Copy)]
-pub enum Answer {
-    Mode(usize, State),
-    Refused(Refusal),
-}
-
 // The start controller between two calls: the index of the box whose table is run, and the state in that table; idle is 0, 0, 0.
 #[derive(Clone, Copy)]
 pub struct StartState {
     pub index: usize,
     pub state: State,
-}
-
-// Its answer.
-#[derive(Clone, Copy)]
-pub enum StartAnswer {
-    Mode(usize, StartState),
-    Refused(Refusal),
 }
 
 // What heats a room. Each kind carries only its own values.
@@ -159,13 +103,7 @@ pub struct Sheet {
 // A sheet's reader answers both: a refused one's sheet is all zeros.
 #[derive(Clone, Copy)]
 pub struct SheetRead {
-    pub verdict: Verdict,
+    pub verdict: Result<(), Refusal>,
     pub sheet: Sheet,
 }
 
-// A float's product rounded to a whole number of the plant: the number, or that the plant cannot hold it.
-#[derive(Clone, Copy)]
-pub enum Whole {
-    Near(i64),
-    Out,
-}

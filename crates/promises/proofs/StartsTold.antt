@@ -1,16 +1,15 @@
 -- The controller's half of page Told of start files (specs/Starts): which numbers a call tells, and what it shows. It rests on page Told of this folder.
 use Prim.Native.Nat.{ℕ, ◌+◌, ◌≤◌}
-use Rattle.std.specs.Prelude.{◌≡◌, Bool, true, false, List, ℤ, length}
+use Rattle.std.specs.Prelude.{◌≡◌, Bool, true, false, List, ℤ, length, Ok, Err}
 use Rattle.std.proofs.Math.Path.{refl}
 use Rattle.std.proofs.Common.{arith}
 use Rattle.laws.specs.Guards.{choose}
 use Rattle.laws.specs.Tabs.{length-tab}
 use Rattle.laws.specs.Tests.{never}
+use Rattle.meaning.specs.Answers.{Answer, StartAnswer}
 use Rattle.meaning.specs.declared.Refusal.{Refusal}
 use Rattle.meaning.specs.declared.State.{State}
-use Rattle.meaning.specs.declared.Answer.{Answer}
 use Rattle.meaning.specs.declared.StartState.{StartState}
-use Rattle.meaning.specs.declared.StartAnswer.{StartAnswer}
 use Rattle.meaning.specs.Boxes.{Side, side_at, fits}
 use Rattle.meaning.specs.Control.{idle, call}
 use Rattle.meaning.specs.Plants.{Plant, safe_of}
@@ -31,8 +30,8 @@ use Rattle.promises.specs.Starts.Told.{start_controller_numbers, AnswerIs, answe
 
 module _ (s : List ℕ) where
   answer-tells : (r : Rules) (i first size : ℕ) → first + size ≤ length s → (a : Answer) → AnswerTells r (part s first size) a → (Answers s) (answer_in i first a)
-  answer-tells r i first size h (Answer.Mode u then) t = tt
-  answer-tells r i first size h (Answer.Refused e) t = controller-moved s first size h e t
+  answer-tells r i first size h (Ok (u, then)) t = tt
+  answer-tells r i first size h (Err e) t = controller-moved s first size h e t
 
   module _ (p : Plant) (sound : Sound p) (vs : List ℤ) (at : ℕ) (inside : at ≤ length s) (x : List ℤ) where
     few : (b : List Side) → length b ≡ p.n → (y : List ℤ) → length (fits b (reading_of p.n y)) ≤ 4
@@ -60,22 +59,22 @@ module _ (s : List ℕ) where
         go true = idle-tells
         go false = call-in-tells st.index st.state
 
-pub start-controller-told : (plant start : List ℕ) (st : StartState) (x : List ℤ) (e : Refusal) → start_controlled plant start st x ≡ StartAnswer.Refused e
+pub start-controller-told : (plant start : List ℕ) (st : StartState) (x : List ℤ) (e : Refusal) → start_controlled plant start st x ≡ Err e
     → StartTold plant start start_controller_numbers e
 unfolding S.start_controlled
 start-controller-told plant start st x e q = of (start_controlled plant start st x) q tells
   where
-    of : (a : StartAnswer) → a ≡ StartAnswer.Refused e → AnswerIs (StartTold plant start start_controller_numbers) a → StartTold plant start start_controller_numbers e
-    of (StartAnswer.Mode u then) q t = never cc
-    of (StartAnswer.Refused f) q t = let z : f ≡ e = cc in rw z at t
+    of : (a : StartAnswer) → a ≡ Err e → AnswerIs (StartTold plant start start_controller_numbers) a → StartTold plant start start_controller_numbers e
+    of (Ok (u, then)) q t = never cc
+    of (Err f) q t = let z : f ≡ e = cc in rw z at t
 
     tells : AnswerIs (StartTold plant start start_controller_numbers) (start_controlled plant start st x)
     tells =
-        begin-keeps (AnswerIs (StartTold plant start start_controller_numbers)) StartAnswer.Refused plant start start_controller_numbers refl (λ e t. t) (λ p vs next. start_call p vs start next st x)
+        begin-keeps (AnswerIs (StartTold plant start start_controller_numbers)) Err plant start start_controller_numbers refl (λ e t. t) (λ p vs next. start_call p vs start next st x)
         (λ p j vs next l. answer-more (λ e t. of-start p j t) (start_call p vs start next st x) (start-call-tells start p (judged-sound plant p j) vs next l x st))
 
 pub start-controller-shows : (plant start : List ℕ) (st : StartState) (x : List ℤ)
-    → Showing ((u : ℕ) × (then : StartState) × (start_controlled plant start st x ≡ StartAnswer.Mode u then)) (StartTold plant start start_controller_numbers)
+    → Showing ((u : ℕ) × (then : StartState) × (start_controlled plant start st x ≡ Ok (u, then))) (StartTold plant start start_controller_numbers)
     no_start_mode (start_answer_shown (start_controlled plant start st x))
 start-controller-shows plant start st x =
     start-answer-shows (StartTold plant start start_controller_numbers) (start-some plant start start_controller_numbers refl) (start_controlled plant start st x)

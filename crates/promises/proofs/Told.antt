@@ -1,15 +1,14 @@
 -- The controller's half of page Told (specs/Paper): which numbers a call tells, and what it shows. It rests on that page's `state-told`, and stands here since
 -- a theorem of specs/ that rests on a wrong one leaves a wrong program untried.
-use Rattle.std.specs.Prelude.{ℕ, zero, suc, ◌≤◌, ◌≡◌, List, eqb, length, ℤ}
+use Rattle.std.specs.Prelude.{ℕ, zero, suc, ◌≤◌, ◌≡◌, List, eqb, length, ℤ, Ok, Err}
 use Rattle.std.proofs.Math.Path.{refl}
 use Rattle.std.proofs.Common.{arith}
 use Rattle.laws.specs.Lists.{at}
 use Rattle.laws.specs.Tabs.{length-tab}
 use Rattle.laws.specs.Tests.{never}
+use Rattle.meaning.specs.Answers.{Found, Answer}
 use Rattle.meaning.specs.declared.Refusal.{Refusal}
-use Rattle.meaning.specs.declared.Found.{Found}
 use Rattle.meaning.specs.declared.State.{State}
-use Rattle.meaning.specs.declared.Answer.{Answer}
 use Rattle.meaning.specs.Refusals.{answer_shown}
 use Rattle.meaning.specs.Boxes.{side_at, sides_of}
 use Rattle.meaning.specs.Files.{Judged, good, bad}
@@ -22,7 +21,7 @@ use Rattle.meaning.specs.Control as C
 use Rattle.meaning.specs.Control.{state_at, mode_at, on_found, find, can_run, inside, state_call, call}
 use Rattle.promises.specs.Sheets.Faults.{plant-told}
 use Rattle.promises.specs.Files.Judged.{judged-sound}
-use Rattle.promises.specs.Paper.Shows.{no_mode, Some}
+use Rattle.promises.specs.Paper.Shows.{no_mode, Numbered}
 use Rattle.promises.specs.Files.Telling.{Telling, guard-keeps}
 use Rattle.promises.specs.Tables.WalkTold.{number-keeps, FoundTells, walk-keeps, header-tells, find-tells}
 use Rattle.promises.specs.Paper.Told.{controller_numbers, AnswerTells, state-told, inside-tells, fits-size, Told, of-plant, of-table, told-some, Showing, answer-shows}
@@ -30,11 +29,11 @@ use Rattle.promises.specs.Paper.Told.{controller_numbers, AnswerTells, state-tol
 module _ (r : Rules) (s : List ℕ) where
   mode-tells : (place left : ℕ) → (AnswerTells r s) (mode_at s place left)
   mode-tells place zero = (state-told r s)
-  mode-tells place (suc m) = number-keeps (AnswerTells r s) s place (λ u next. Answer.Mode u (state_at next m)) (state-told r s) (λ u next l. tt)
+  mode-tells place (suc m) = number-keeps (AnswerTells r s) s place (λ u next. Ok (u, state_at next m)) (state-told r s) (λ u next l. tt)
 
   found-tells : (f : Found) → FoundTells controller_numbers (length s) f → (AnswerTells r s) (on_found s f)
-  found-tells (Found.Refused e) h = h
-  found-tells (Found.Tile from k) h = mode-tells from k
+  found-tells (Err e) h = h
+  found-tells (Ok (from, k)) h = mode-tells from k
 
   -- R and S have at most four dimensions
   module _ (few : (x : r.Reading) → (length (r.fits r.root x) ≤ 4) × (length (r.fits r.safe x) ≤ 4)) (x : r.Reading) where
@@ -48,21 +47,21 @@ module _ (r : Rules) (s : List ℕ) where
     pub call-tells : (st : State) → (AnswerTells r s) (call r s st x)
     unfolding C.call
     call-tells st =
-        walk-keeps controller_numbers (length s) (AnswerTells r s) (header r.form r.n s) Answer.Refused _ (header-tells controller_numbers s refl refl refl r.form r.n) (λ e t. t)
+        walk-keeps controller_numbers (length s) (AnswerTells r s) (header r.form r.n s) Err _ (header-tells controller_numbers s refl refl refl r.form r.n) (λ e t. t)
         (λ at l. state-tells at st.place st.left l)
 
 -- ---- the controller
 
-pub controller-told : (plant table : List ℕ) (st : State) (x : List ℤ) (e : Refusal) → controlled plant table st x ≡ Answer.Refused e
+pub controller-told : (plant table : List ℕ) (st : State) (x : List ℤ) (e : Refusal) → controlled plant table st x ≡ Err e
     → Told plant table controller_numbers e
 unfolding T.controlled
 controller-told plant table st x e = go (plant_judged plant) refl
   where
-    of : (r : Rules) (v : Answer) → AnswerTells r table v → v ≡ Answer.Refused e → Telling controller_numbers (length table) e
-    of r (Answer.Mode u then) h a = never cc
-    of r (Answer.Refused f) h a = let z : f ≡ e = cc in rw z at h
+    of : (r : Rules) (v : Answer) → AnswerTells r table v → v ≡ Err e → Telling controller_numbers (length table) e
+    of r (Ok (u, then)) h a = never cc
+    of r (Err f) h a = let z : f ≡ e = cc in rw z at h
 
-    go : (j : Judged Plant) → plant_judged plant ≡ j → on_plant j Answer.Refused (λ p. call (rules_of (form_of table) p) table st x) ≡ Answer.Refused e → Told plant table controller_numbers e
+    go : (j : Judged Plant) → plant_judged plant ≡ j → on_plant j Err (λ p. call (rules_of (form_of table) p) table st x) ≡ Err e → Told plant table controller_numbers e
     go (bad f) q a = let z : f ≡ e = cc in let w = rw z at q in of-plant w (plant-told plant e w)
     go (good p) q a =
         let n = (judged-sound plant p q).ranges.n-high in
@@ -70,11 +69,11 @@ controller-told plant table st x e = go (plant_judged plant) refl
         of-table p q (of (rules_of (form_of table) p) (call (rules_of (form_of table) p) table st x) (call-tells (rules_of (form_of table) p) table
         (λ y. (fits-size p.n n (root_of p) (sides p.rlo p.rhi) y, fits-size p.n n (safe_of p) (sides p.slo p.shi) y)) x st) a)
 
-pub controller-some : (plant table : List ℕ) (st : State) (x : List ℤ) (e : Refusal) → controlled plant table st x ≡ Answer.Refused e → Some e
+pub controller-some : (plant table : List ℕ) (st : State) (x : List ℤ) (e : Refusal) → controlled plant table st x ≡ Err e → Numbered e
 controller-some plant table st x e q = told-some plant table controller_numbers refl e (controller-told plant table st x e q)
 
 pub controller-shows : (plant table : List ℕ) (st : State) (x : List ℤ)
-    → Showing ((u : ℕ) × (then : State) × (controlled plant table st x ≡ Answer.Mode u then)) (Told plant table controller_numbers) no_mode
+    → Showing ((u : ℕ) × (then : State) × (controlled plant table st x ≡ Ok (u, then))) (Told plant table controller_numbers) no_mode
     (answer_shown (controlled plant table st x))
 controller-shows plant table st x =
     answer-shows (Told plant table controller_numbers) (told-some plant table controller_numbers refl) (controlled plant table st x) (controller-told plant table st x)

@@ -1,8 +1,8 @@
 -- The widened bands of a sheet as the code holds them. Definitions alone.
 use Rattle.std.specs.Prelude.{ℕ, ◌*◌, ◌/◌, ◌%◌, cond, eqb, pos, ◌+ℤ◌, ◌-ℤ◌}
 use Rattle.laws.specs.Lists.{at, tabs}
+use Rattle.meaning.specs.Answers.{Whole}
 use Rattle.meaning.specs.declared.Sheet.{Sheet}
-use Rattle.meaning.specs.declared.Whole.{Whole}
 use Rattle.meaning.specs.Plants.{band_limit}
 use Rattle.meaning.specs.Sheets.{limited_to, widening, made_band}
 use Rattle.sheets.specs.declared.bands.Bands.{Bands}

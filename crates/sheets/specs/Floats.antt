@@ -1,19 +1,16 @@
 -- A float of a sheet as the code reads it: its bits, what is asked of it, and the part of a form that it is. Relies on promises' page SheetRooms.
-use Rattle.std.specs.Prelude.{ℕ, Bool, List, [], ◌∷◌, pos, Float}
+use Rattle.std.specs.Prelude.{ℕ, Bool, List, [], ◌∷◌, pos, Float, Some, None, Ok, Err}
 use Rattle.std.specs.Float.{binary64}
 use Rattle.std.specs.Float.Ieee.{to_bits}
 use Rattle.meaning.specs.Files.{Form, Taken, taken, none, low_first}
 use Rattle.meaning.specs.Sheets.{bits_of, floating, any_float, not_below, above}
 use Rattle.promises.specs.Sheets.SheetRooms.{Held}
 use Rattle.files.specs.Parts.{Holds, Fails}
-use Rattle.sheets.specs.declared.floats.BitsRead.{BitsRead}
 use Rattle.sheets.specs.declared.floats.Asked.{Asked}
-use Rattle.sheets.specs.declared.floats.FloatRead.{FloatRead}
-use Rattle.sheets.specs.declared.floats.TwoFloats.{TwoFloats}
 
 abbrev pub bits_taken : BitsRead → Taken
-bits_taken (BitsRead.Bits v next) = taken (pos v) next
-bits_taken BitsRead.Broken = none
+bits_taken (Some (v, next)) = taken (pos v) next
+bits_taken None = none
 
 abbrev pub ok_of : Asked → Float → Bool
 ok_of Asked.Any = any_float
@@ -26,8 +23,8 @@ pub record Floated (ok : Float → Bool) (s : List ℕ) (from : ℕ) (x : Float)
   pub held : Held x
 
 abbrev pub FloatTold : (Float → Bool) → List ℕ → ℕ → FloatRead → Type 0
-FloatTold ok s from (FloatRead.Float x next) = Floated ok s from x next
-FloatTold ok s from (FloatRead.Refused e) = Fails (floating ok) s from e
+FloatTold ok s from (Ok (x, next)) = Floated ok s from x next
+FloatTold ok s from (Err e) = Fails (floating ok) s from e
 
 -- two of them, of the second of which nothing is asked
 abbrev pub two_part : (Float → Bool) → Form → Form
@@ -39,8 +36,8 @@ pub record TwoFloated (ok : Float → Bool) (s : List ℕ) (from : ℕ) (x y : F
   pub second-held : Held y
 
 abbrev pub TwoTold : (Float → Bool) → List ℕ → ℕ → TwoFloats → Type 0
-TwoTold ok s from (TwoFloats.Floats x y next) = TwoFloated ok s from x y next
-TwoTold ok s from (TwoFloats.Refused e) = Fails (two_part ok) s from e
+TwoTold ok s from (Ok (x, y, next)) = TwoFloated ok s from x y next
+TwoTold ok s from (Err e) = Fails (two_part ok) s from e
 
 abbrev pub float_bytes : Float → List ℕ
 float_bytes x = low_first 8 (to_bits binary64 x)

@@ -1,9 +1,9 @@
 -- The plant of a sheet as the code holds it: its coefficients one by one, and with the place of the first number that does not fit. Definitions alone.
 use Rattle.std.specs.Prelude.{ℕ, ◌+◌, ◌*◌, ◌/◌, ◌%◌, cond, List, map, ltb, ℤ}
 use Rattle.laws.specs.Lists.{tab, all, first_false}
+use Rattle.meaning.specs.Answers.{Whole}
 use Rattle.meaning.specs.declared.Outline.{Outline}
 use Rattle.meaning.specs.declared.Sheet.{Sheet}
-use Rattle.meaning.specs.declared.Whole.{Whole}
 use Rattle.meaning.specs.Plants.{entry_limit, offset_limit, coef_count, Plant, plant_from}
 use Rattle.meaning.specs.Sheets.{whole_of, coefficient, offset, made_modes, made_numbers, is_near}
 use Rattle.sheets.specs.declared.made.Entries.{Entries}

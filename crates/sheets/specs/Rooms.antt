@@ -1,9 +1,9 @@
 -- Rooms of a sheet as the code reads them: the parts of the form that they are, with their values; that these give
 -- them back is promises' page Sheets. Relies on promises' page SheetRooms.
-use Rattle.std.specs.Prelude.{ℕ, ◌-◌, ◌<◌, ◌≡◌, List, [], ◌∷◌, ◌++◌, get_or, drop, ℤ, nat_abs, Float}
+use Rattle.std.specs.Prelude.{ℕ, ◌-◌, ◌<◌, ◌≡◌, List, [], ◌∷◌, ◌++◌, get_or, drop, ℤ, nat_abs, Float, Ok, Err}
 use Rattle.laws.specs.Lists.{at, tab, tabs}
 use Rattle.laws.specs.Tabs.{FilledBy}
-use Rattle.meaning.specs.declared.Walk.{Walk}
+use Rattle.meaning.specs.Answers.{Walk}
 use Rattle.meaning.specs.declared.Emitter.{Emitter}
 use Rattle.meaning.specs.declared.Room.{Room}
 use Rattle.meaning.specs.Files.{Form}
@@ -14,7 +14,6 @@ use Rattle.promises.specs.Sheets.SheetRooms.{Held, HeldEmitter, HeldRoom, TidyRo
 use Rattle.files.specs.Parts.{Holds, Fails}
 use Rattle.sheets.specs.Floats.{float_bytes}
 use Rattle.sheets.specs.declared.rooms.Exchanges.{Exchanges}
-use Rattle.sheets.specs.declared.rooms.EmitterRead.{EmitterRead}
 use Rattle.sheets.specs.declared.rooms.RoomRead.{RoomRead}
 use Rattle.sheets.specs.declared.rooms.Rooms.{Rooms}
 
@@ -29,8 +28,8 @@ pub record ExchangesRead (s : List ℕ) (start m : ℕ) (xs : List Float) (next 
   pub held : (j : ℕ) → j < m → Held (get_or xs j zero_f)
 
 abbrev pub ExchangesAs : List ℕ → ℕ → ℕ → List Float → Walk → Type 0
-ExchangesAs s start m xs (Walk.Next next) = ExchangesRead s start m xs next
-ExchangesAs s start m xs (Walk.Refused e) = Fails (times m (floating not_below)) s start e
+ExchangesAs s start m xs (Ok next) = ExchangesRead s start m xs next
+ExchangesAs s start m xs (Err e) = Fails (times m (floating not_below)) s start e
 
 abbrev pub ExchangesTold : List ℕ → ℕ → ℕ → Exchanges → Type 0
 ExchangesTold s start m r = ExchangesAs s start m r.exchange r.answer
@@ -55,16 +54,16 @@ pub record OwnRead (kind : ℕ) (s : List ℕ) (start : ℕ) (e : Emitter) (next
   pub held : HeldEmitter e
 
 abbrev pub OwnTold : ℕ → List ℕ → ℕ → EmitterRead → Type 0
-OwnTold kind s start (EmitterRead.Emitter e next) = OwnRead kind s start e next
-OwnTold kind s start (EmitterRead.Refused e) = Fails (own_part kind) s start e
+OwnTold kind s start (Ok (e, next)) = OwnRead kind s start e next
+OwnTold kind s start (Err e) = Fails (own_part kind) s start e
 
 pub record EmitterHeld (s : List ℕ) (start : ℕ) (e : Emitter) (next : ℕ) : Type 0 where
   pub part : Holds emitter_part s start (emitter_values e) next
   pub held : HeldEmitter e
 
 abbrev pub EmitterTold : List ℕ → ℕ → EmitterRead → Type 0
-EmitterTold s start (EmitterRead.Emitter e next) = EmitterHeld s start e next
-EmitterTold s start (EmitterRead.Refused e) = Fails emitter_part s start e
+EmitterTold s start (Ok (e, next)) = EmitterHeld s start e next
+EmitterTold s start (Err e) = Fails emitter_part s start e
 
 -- ---- a room of n
 
@@ -83,8 +82,8 @@ pub record RestRead (s : List ℕ) (start n : ℕ) (loss : Float) (room : Room) 
   pub emitter : HeldEmitter room.emitter
 
 abbrev pub RestAs : List ℕ → ℕ → ℕ → Float → Room → Walk → Type 0
-RestAs s start n loss room (Walk.Next next) = RestRead s start n loss room next
-RestAs s start n loss room (Walk.Refused e) = Fails (rest_part n) s start e
+RestAs s start n loss room (Ok next) = RestRead s start n loss room next
+RestAs s start n loss room (Err e) = Fails (rest_part n) s start e
 
 abbrev pub RestTold : List ℕ → ℕ → ℕ → Float → RoomRead → Type 0
 RestTold s start n loss r = RestAs s start n loss r.room r.answer
@@ -95,8 +94,8 @@ pub record RoomHeld (s : List ℕ) (start n : ℕ) (room : Room) (next : ℕ) : 
   pub held : HeldRoom n room
 
 abbrev pub RoomAs : List ℕ → ℕ → ℕ → Room → Walk → Type 0
-RoomAs s start n room (Walk.Next next) = RoomHeld s start n room next
-RoomAs s start n room (Walk.Refused e) = Fails (room_form n) s start e
+RoomAs s start n room (Ok next) = RoomHeld s start n room next
+RoomAs s start n room (Err e) = Fails (room_form n) s start e
 
 abbrev pub RoomTold : List ℕ → ℕ → ℕ → RoomRead → Type 0
 RoomTold s start n r = RoomAs s start n r.room r.answer
@@ -113,8 +112,8 @@ pub record RoomsHeld (s : List ℕ) (start n : ℕ) (rooms : List Room) (next : 
   pub held : (i : ℕ) → i < n → HeldRoom n (get_or rooms i no_room)
 
 abbrev pub RoomsAs : List ℕ → ℕ → ℕ → List Room → Walk → Type 0
-RoomsAs s start n rooms (Walk.Next next) = RoomsHeld s start n rooms next
-RoomsAs s start n rooms (Walk.Refused e) = Fails (times n (room_form n)) s start e
+RoomsAs s start n rooms (Ok next) = RoomsHeld s start n rooms next
+RoomsAs s start n rooms (Err e) = Fails (times n (room_form n)) s start e
 
 abbrev pub RoomsTold : List ℕ → ℕ → ℕ → Rooms → Type 0
 RoomsTold s start n r = RoomsAs s start n r.rooms r.answer

@@ -1,9 +1,9 @@
 -- A sheet's file as the code reads it: all but 14, which the reader tells last; the parts behind the beginning, and the bytes as they are drafted.
 -- Assumes nothing.
-use Rattle.std.specs.Prelude.{ℕ, ◌≡◌, refl, Bool, true, false, List, [], ◌∷◌, ◌++◌, map, ℤ, Float}
+use Rattle.std.specs.Prelude.{ℕ, ◌≡◌, refl, Bool, true, false, List, [], ◌∷◌, ◌++◌, map, ℤ, Float, Ok, Err}
 use Rattle.laws.specs.Guards.{guard}
 use Rattle.laws.specs.Lists.{tabs, all, first_false}
-use Rattle.meaning.specs.declared.Verdict.{Verdict}
+use Rattle.meaning.specs.Answers.{Verdict}
 use Rattle.meaning.specs.declared.Room.{Room}
 use Rattle.meaning.specs.declared.Sheet.{Sheet}
 use Rattle.meaning.specs.declared.SheetRead.{SheetRead}
@@ -103,8 +103,8 @@ sheet_beginning h = record {
 -- ---- the numbers of a sheet that was taken are in range
 
 abbrev pub SizedAs : Sheet → Verdict → Type 0
-SizedAs h Verdict.Accepted = Sized h
-SizedAs h (Verdict.Refused e) = Unit {0}
+SizedAs h (Ok _) = Sized h
+SizedAs h (Err e) = Unit {0}
 
 abbrev pub TakenSized : SheetRead → Type 0
 TakenSized r = SizedAs r.sheet r.verdict

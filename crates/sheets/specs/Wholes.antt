@@ -1,7 +1,7 @@
 -- Numbers of the plant one behind another: the place of the first that is out, and what an array holds of them. Definitions alone.
-use Rattle.std.specs.Prelude.{ℕ, ◌+◌, cond, List, map, eqb, ℤ, pos}
+use Rattle.std.specs.Prelude.{ℕ, ◌+◌, cond, List, map, eqb, ℤ, pos, Some, None}
 use Rattle.laws.specs.Lists.{tab, padded, first_false}
-use Rattle.meaning.specs.declared.Whole.{Whole}
+use Rattle.meaning.specs.Answers.{Whole}
 use Rattle.meaning.specs.Sheets.{is_near, near_value}
 
 -- behind the end where all fit
@@ -14,8 +14,8 @@ joined first m more = cond (eqb first m) (m + more) first
 
 -- the same place of one number
 abbrev pub near : Whole → ℕ
-near (Whole.Near v) = 1
-near Whole.Out = 0
+near (Some v) = 1
+near None = 0
 
 -- what an array of m holds of n numbers: 0 where one is out, and behind them
 abbrev pub held : ℕ → (ℕ → Whole) → ℕ → List ℤ

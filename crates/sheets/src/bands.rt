@@ -8,7 +8,7 @@ ghost use Rattle.sheets.specs.Sizes.{Sized};
 ghost use Rattle.sheets.specs.Bands.{low_end, high_end, bands_of};
 
 use crate::wholes;
-use meaning::{Sheet, Whole};
+use meaning::Sheet;
 
 fn size(v: i64) -> usize
     requires { nat_abs v ≤ edge_limit }
@@ -52,19 +52,19 @@ fn widening(h: Sheet) -> usize
 }
 
 // An end of a band, where the plant can hold it.
-fn end(v: i64) -> Whole
+fn end(v: i64) -> Option<i64>
     ensures { result ≡ limited_to band_limit v }
 {
     if v < -1_000_000_000 {
-        return Whole::Out;
+        return None;
     }
     if 1_000_000_000 < v {
-        return Whole::Out;
+        return None;
     }
-    Whole::Near(v)
+    Some(v)
 }
 
-fn low_end(h: Sheet, i: usize) -> Whole
+fn low_end(h: Sheet, i: usize) -> Option<i64>
     requires fact_1 { Sized h }
     requires fact_2 { i < h.n }
     ensures { result ≡ low_end h i }
@@ -73,7 +73,7 @@ fn low_end(h: Sheet, i: usize) -> Whole
     end(h.wlo[i] - w)
 }
 
-fn high_end(h: Sheet, i: usize) -> Whole
+fn high_end(h: Sheet, i: usize) -> Option<i64>
     requires fact_1 { Sized h }
     requires fact_2 { i < h.n }
     ensures { result ≡ high_end h i }

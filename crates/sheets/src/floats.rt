@@ -61,15 +61,15 @@ fn low_first(s: &[u8], at: usize) -> u64
     v
 }
 
-fn read_bits(s: &[u8], at: usize) -> BitsRead
+fn read_bits(s: &[u8], at: usize) -> Option<(u64, usize)>
     ensures { bits_taken result ≡ float_at s.now at }
 {
     if 8 <= s.len() {
         if at <= s.len() - 8 {
-            return BitsRead::Bits(low_first(s, at), at + 8);
+            return Some((low_first(s, at), at + 8));
         }
     }
-    BitsRead::Broken
+    None
 }
 
 fn passes(x: f64, asked: Asked) -> bool
@@ -83,32 +83,32 @@ fn passes(x: f64, asked: Asked) -> bool
 }
 
 // The float at `at`: 1 where it ends early, 13 where it is not finite or not what is asked.
-pub fn read_float(s: &[u8], at: usize, asked: Asked) -> FloatRead
+pub fn read_float(s: &[u8], at: usize, asked: Asked) -> Result<(f64, usize), Refusal>
     ensures { FloatTold (ok_of asked) s.now at result }
 {
-    let BitsRead::Bits(b, next) = read_bits(s, at) else {
-        return FloatRead::Refused(files::refusals::broken(at));
+    let Some((b, next)) = read_bits(s, at) else {
+        return Err(files::refusals::broken(at));
     };
     // all exponent bits set: an infinity, or no number, which passes every `<`
     if b % 0x8000_0000_0000_0000 / 0x10_0000_0000_0000 == 2047 {
-        return FloatRead::Refused(refusals::bad_float(at));
+        return Err(refusals::bad_float(at));
     }
     let x = f64::from_bits(b);
     if passes(x, asked) {
-        return FloatRead::Float(x, next);
+        return Ok((x, next));
     }
-    FloatRead::Refused(refusals::bad_float(at))
+    Err(refusals::bad_float(at))
 }
 
 // The float at `at`, of which something is asked, and the one behind it, of which nothing is.
-pub fn read_two(s: &[u8], at: usize, asked: Asked) -> TwoFloats
+pub fn read_two(s: &[u8], at: usize, asked: Asked) -> Result<(f64, f64, usize), Refusal>
     ensures { TwoTold (ok_of asked) s.now at result }
 {
     match read_float(s, at, asked) {
-        FloatRead::Refused(e) => TwoFloats::Refused(e),
-        FloatRead::Float(x, mid) => match read_float(s, mid, Asked::Any) {
-            FloatRead::Refused(e) => TwoFloats::Refused(e),
-            FloatRead::Float(y, next) => TwoFloats::Floats(x, y, next),
+        Err(e) => Err(e),
+        Ok((x, mid)) => match read_float(s, mid, Asked::Any) {
+            Err(e) => Err(e),
+            Ok((y, next)) => Ok((x, y, next)),
         },
     }
 }

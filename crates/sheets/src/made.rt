@@ -8,13 +8,13 @@ ghost use Rattle.sheets.specs.Made.{most_entries, entry_at, entries_of, made_of}
 
 use crate::bands::ENDS;
 use crate::{bands, equations, wholes};
-use meaning::{Outline, Sheet, Whole};
+use meaning::{Outline, Sheet};
 
 // The coefficients of the largest plant that a sheet makes: sixteen modes, four rows of five numbers each.
 pub const ENTRIES: usize = 320;
 
 // The p-th coefficient of the plant: row by row, mode by mode, n entries of A and b each. The sums and bits of the rooms are handed over.
-fn entry(h: Sheet, sums: [f64; 4], bits: [usize; 4], p: usize) -> Whole
+fn entry(h: Sheet, sums: [f64; 4], bits: [usize; 4], p: usize) -> Option<i64>
     requires fact_1 { Sized h }
     requires fact_2 { sums ≡ sums_of h }
     requires fact_3 { bits ≡ bits_of h }

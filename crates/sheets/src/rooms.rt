@@ -7,14 +7,14 @@ ghost use Rattle.meaning.specs.Sheets.{no_room};
 ghost use Rattle.sheets.specs.Rooms.{ExchangesTold, OwnTold, EmitterTold, RestTold, RoomTold, RoomsTold, exchange_bytes, emitter_bytes, room_bytes, bytes_of_room};
 
 use crate::floats;
-use crate::floats::{Asked, FloatRead, TwoFloats};
+use crate::floats::Asked;
 use files::{numbers, refusals};
-use meaning::{Emitter, Number, Refusal, Room, Walk};
+use meaning::{Emitter, Refusal, Room};
 
 // The exchanges, zeros beyond the first m, and the place behind them.
 #[derive(Clone, Copy)]
 pub struct Exchanges {
-    pub answer: Walk,
+    pub answer: Result<usize, Refusal>,
     pub exchange: [f64; 3],
 }
 
@@ -27,13 +27,13 @@ fn read_exchanges(s: &[u8], at: usize, m: usize) -> Exchanges
     let mut j: usize = 0;
     while j < m {
         match floats::read_float(s, p, Asked::NotBelow) {
-            FloatRead::Refused(e) => {
+            Err(e) => {
                 return Exchanges {
-                    answer: Walk::Refused(e),
+                    answer: Err(e),
                     exchange,
                 };
             }
-            FloatRead::Float(g, next) => {
+            Ok((g, next)) => {
                 exchange[j] = g;
                 p = next;
             }
@@ -41,7 +41,7 @@ fn read_exchanges(s: &[u8], at: usize, m: usize) -> Exchanges
         j += 1;
     }
     Exchanges {
-        answer: Walk::Next(p),
+        answer: Ok(p),
         exchange,
     }
 }
@@ -54,39 +54,39 @@ pub enum EmitterRead {
 }
 
 // A heater's own values: its coefficient, then its water's temperature.
-fn read_heater(s: &[u8], at: usize) -> EmitterRead
+fn read_heater(s: &[u8], at: usize) -> Result<(Emitter, usize), Refusal>
     ensures { OwnTold 1 s.now at result }
 {
     match floats::read_two(s, at, Asked::NotBelow) {
-        TwoFloats::Refused(e) => EmitterRead::Refused(e),
-        TwoFloats::Floats(coefficient, water, next) => {
-            EmitterRead::Emitter(Emitter::Heater { coefficient, water }, next)
+        Err(e) => Err(e),
+        Ok((coefficient, water, next)) => {
+            Ok((Emitter::Heater { coefficient, water }, next))
         }
     }
 }
 
 // A steady emitter's rate.
-fn read_steady(s: &[u8], at: usize) -> EmitterRead
+fn read_steady(s: &[u8], at: usize) -> Result<(Emitter, usize), Refusal>
     ensures { OwnTold 2 s.now at result }
 {
     match floats::read_float(s, at, Asked::Any) {
-        FloatRead::Refused(e) => EmitterRead::Refused(e),
-        FloatRead::Float(rate, next) => EmitterRead::Emitter(Emitter::Steady { rate }, next),
+        Err(e) => Err(e),
+        Ok((rate, next)) => Ok((Emitter::Steady { rate }, next)),
     }
 }
 
 // An emitter: its number, then its own values.
-fn read_emitter(s: &[u8], at: usize) -> EmitterRead
+fn read_emitter(s: &[u8], at: usize) -> Result<(Emitter, usize), Refusal>
     ensures { EmitterTold s.now at result }
 {
-    let Number::Value(kind, next) = numbers::number(s, at) else {
-        return EmitterRead::Refused(refusals::broken(at));
+    let Some((kind, next)) = numbers::number(s, at) else {
+        return Err(refusals::broken(at));
     };
     if 2 < kind {
-        return EmitterRead::Refused(refusals::unfit(at));
+        return Err(refusals::unfit(at));
     }
     if kind == 0 {
-        return EmitterRead::Emitter(Emitter::None, next);
+        return Ok((Emitter::None, next));
     }
     if kind == 1 {
         return read_heater(s, next);
@@ -97,7 +97,7 @@ fn read_emitter(s: &[u8], at: usize) -> EmitterRead
 // A room and the place behind it.
 #[derive(Clone, Copy)]
 pub struct RoomRead {
-    pub answer: Walk,
+    pub answer: Result<usize, Refusal>,
     pub room: Room,
 }
 
@@ -116,7 +116,7 @@ fn refused(e: Refusal) -> RoomRead
 {
     let room = no_room();
     RoomRead {
-        answer: Walk::Refused(e),
+        answer: Err(e),
         room,
     }
 }
@@ -130,13 +130,13 @@ fn read_rest(s: &[u8], at: usize, n: usize, loss: f64) -> RoomRead
     let exchanges = read_exchanges(s, at, n - 1);
     let past = exchanges.answer;
     match past {
-        Walk::Refused(e) => refused(e),
-        Walk::Next(mid) => match read_emitter(s, mid) {
-            EmitterRead::Refused(e) => refused(e),
-            EmitterRead::Emitter(emitter, next) => {
+        Err(e) => refused(e),
+        Ok(mid) => match read_emitter(s, mid) {
+            Err(e) => refused(e),
+            Ok((emitter, next)) => {
                 let exchange = exchanges.exchange;
                 RoomRead {
-                    answer: Walk::Next(next),
+                    answer: Ok(next),
                     room: Room {
                         loss,
                         exchange,
@@ -154,15 +154,15 @@ pub fn read_room(s: &[u8], at: usize, n: usize) -> RoomRead
     ensures { RoomTold s.now at n result }
 {
     match floats::read_float(s, at, Asked::NotBelow) {
-        FloatRead::Refused(e) => refused(e),
-        FloatRead::Float(loss, next) => read_rest(s, next, n, loss),
+        Err(e) => refused(e),
+        Ok((loss, next)) => read_rest(s, next, n, loss),
     }
 }
 
 // The rooms, none beyond n, and the place behind them.
 #[derive(Clone, Copy)]
 pub struct Rooms {
-    pub answer: Walk,
+    pub answer: Result<usize, Refusal>,
     pub rooms: [Room; 4],
 }
 
@@ -179,13 +179,13 @@ pub fn read_rooms(s: &[u8], at: usize, n: usize) -> Rooms
         let r = read_room(s, p, n);
         let past = r.answer;
         match past {
-            Walk::Refused(e) => {
+            Err(e) => {
                 return Rooms {
-                    answer: Walk::Refused(e),
+                    answer: Err(e),
                     rooms,
                 };
             }
-            Walk::Next(next) => {
+            Ok(next) => {
                 let room = r.room;
                 rooms[i] = room;
                 p = next;
@@ -194,7 +194,7 @@ pub fn read_rooms(s: &[u8], at: usize, n: usize) -> Rooms
         i += 1;
     }
     Rooms {
-        answer: Walk::Next(p),
+        answer: Ok(p),
         rooms,
     }
 }

@@ -8,11 +8,11 @@ ghost use Rattle.files.specs.Beginnings.{relation, Begun};
 ghost use Rattle.sheets.specs.Sheets.{unfitted, then_fitting, body_read, sheet_with, TakenSized, sheet_draft};
 ghost use Rattle.sheets.specs.Sizes.{Sized};
 
-use crate::floats::{Asked, TwoFloats};
+use crate::floats::Asked;
 use crate::{floats, made, refusals, rooms};
 use files::beginnings::Beginning;
 use files::{beginnings, buffers, plants};
-use meaning::{Refusal, Room, Sheet, SheetRead, Verdict, Walk, Written};
+use meaning::{Refusal, Room, Sheet, SheetRead};
 
 // The writer's draft: more than the 503 bytes that any values of a sheet take, right or not.
 const DRAFT: usize = 512;
@@ -24,7 +24,7 @@ fn refused(e: Refusal) -> SheetRead
     let none = rooms::no_room();
     let rooms = [none; 4];
     SheetRead {
-        verdict: Verdict::Refused(e),
+        verdict: Err(e),
         sheet: Sheet {
             n: 0,
             r: 0,
@@ -55,7 +55,7 @@ fn accepted(b: Beginning, time: f64, outside: f64, rooms: [Room; 4]) -> SheetRea
     let wlo = b.wlo;
     let whi = b.whi;
     SheetRead {
-        verdict: Verdict::Accepted,
+        verdict: Ok(()),
         sheet: Sheet {
             n: b.n,
             r: b.m,
@@ -76,27 +76,27 @@ fn accepted(b: Beginning, time: f64, outside: f64, rooms: [Room; 4]) -> SheetRea
 }
 
 // What stands behind a beginning: two floats and the rooms, then what is asked of the whole.
-fn read_body(s: &[u8], b: Beginning, related: Verdict, at: usize) -> SheetRead
+fn read_body(s: &[u8], b: Beginning, related: Result<(), Refusal>, at: usize) -> SheetRead
     requires fact_1 { Begun 1 1000 s.now b at }
     requires fact_2 { related ≡ relation b }
     ensures value { result ≡ body_read s.now b at }
     ensures sized { TakenSized result }
 {
     match floats::read_two(s, at, Asked::Above) {
-        TwoFloats::Refused(e) => refused(e),
-        TwoFloats::Floats(time, outside, mid) => {
+        Err(e) => refused(e),
+        Ok((time, outside, mid)) => {
             let n = b.n;
             let read = rooms::read_rooms(s, mid, n);
             let past = read.answer;
             match past {
-                Walk::Refused(e) => refused(e),
-                Walk::Next(next) => {
+                Err(e) => refused(e),
+                Ok(next) => {
                     if next != s.len() {
                         return refused(files::refusals::unfit(next));
                     }
                     match related {
-                        Verdict::Refused(e) => refused(e),
-                        Verdict::Accepted => {
+                        Err(e) => refused(e),
+                        Ok(()) => {
                             let rooms = read.rooms;
                             accepted(b, time, outside, rooms)
                         }
@@ -115,8 +115,8 @@ fn read_values(s: &[u8]) -> SheetRead
     let read = beginnings::read_beginning(s, 1, 1_000);
     let past = read.answer;
     match past {
-        Walk::Refused(e) => refused(e),
-        Walk::Next(at) => {
+        Err(e) => refused(e),
+        Ok(at) => {
             let b = read.beginning;
             let related = read.related;
             read_body(s, b, related, at)
@@ -132,7 +132,7 @@ fn fitted(h: Sheet) -> SheetRead
     let made = made::make(h);
     if made.fits {
         return SheetRead {
-            verdict: Verdict::Accepted,
+            verdict: Ok(()),
             sheet: h,
         };
     }
@@ -146,8 +146,8 @@ pub fn read_sheet(s: &[u8]) -> SheetRead
     let read = read_values(s);
     let verdict = read.verdict;
     match verdict {
-        Verdict::Refused(e) => refused(e),
-        Verdict::Accepted => {
+        Err(e) => refused(e),
+        Ok(()) => {
             let h = read.sheet;
             fitted(h)
         }
@@ -194,7 +194,7 @@ fn put_sheet(h: Sheet, buf: &mut [u8]) -> usize
 }
 
 // A sheet as values, judged as the file it would be, then 10. Finished, only the file's bytes are changed; refused, the buffer is all zeros.
-pub fn write_sheet(h: Sheet, buf: &mut [u8]) -> Written
+pub fn write_sheet(h: Sheet, buf: &mut [u8]) -> Result<usize, Refusal>
     ensures answer { result ≡ (sheet_left h buf.old).answer }
     ensures bytes { buf.new ≡ (sheet_left h buf.old).buffer }
 {
@@ -207,15 +207,15 @@ pub fn write_sheet(h: Sheet, buf: &mut [u8]) -> Written
 }
 
 // The plant file of a sheet's file, judged as the sheet, then 10. Finished, only the file's bytes are changed; refused, the buffer is all zeros.
-pub fn make_plant(sheet: &[u8], buf: &mut [u8]) -> Written
+pub fn make_plant(sheet: &[u8], buf: &mut [u8]) -> Result<usize, Refusal>
     ensures answer { result ≡ (made_left sheet.now buf.old).answer }
     ensures bytes { buf.new ≡ (made_left sheet.now buf.old).buffer }
 {
     let read = read_values(sheet);
     let verdict = read.verdict;
     match verdict {
-        Verdict::Refused(e) => buffers::refuse(e, buf),
-        Verdict::Accepted => {
+        Err(e) => buffers::refuse(e, buf),
+        Ok(()) => {
             let made = made::make(read.sheet);
             if made.fits {
                 let outline = made.outline;

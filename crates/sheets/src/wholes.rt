@@ -5,25 +5,24 @@ ghost use Rattle.meaning.specs.Sheets.{signed_by, limited_to, whole_of, near_val
 ghost use Rattle.sheets.specs.Wholes as W;
 ghost use Rattle.sheets.specs.Wholes.{near};
 
-use meaning::Whole;
 
 // A size with its sign, where it is within the limit.
-fn limited(limit: usize, negative: bool, size: u64) -> Whole
+fn limited(limit: usize, negative: bool, size: u64) -> Option<i64>
     requires { limit ≤ 10000000000 }
     ensures { result ≡ limited_to limit (signed_by negative size) }
 {
     if (limit as u64) < size {
-        return Whole::Out;
+        return None;
     }
     let v = size as i64;
     if negative {
-        return Whole::Near(0 - v);
+        return Some(0 - v);
     }
-    Whole::Near(v)
+    Some(v)
 }
 
 // The whole number nearest k·x, where it is within ± the limit.
-pub fn whole(limit: usize, k: usize, x: f64) -> Whole
+pub fn whole(limit: usize, k: usize, x: f64) -> Option<i64>
     requires fact_1 { 1 ≤ k }
     requires fact_2 { k ≤ 10000000 }
     requires fact_3 { limit ≤ 10000000000 }
@@ -31,17 +30,17 @@ pub fn whole(limit: usize, k: usize, x: f64) -> Whole
 {
     // NaN alone differs from itself
     if x != x {
-        return Whole::Out;
+        return None;
     }
     let bits = f64::to_bits(x);
     let e = bits % 0x8000_0000_0000_0000 / 0x10_0000_0000_0000;
     // x is 2^34 or more, or an infinity
     if 1057 <= e {
-        return Whole::Out;
+        return None;
     }
     // k·x is below a half
     if e < 993 {
-        return Whole::Near(0);
+        return Some(0);
     }
     // x is m·2^(e - 1075); the whole part of k·m / 2^18 has less than 60 bits, k·m up to 77
     let m = 0x10_0000_0000_0000 + bits % 0x10_0000_0000_0000;
@@ -53,12 +52,12 @@ pub fn whole(limit: usize, k: usize, x: f64) -> Whole
 }
 
 // What the plant holds of a number: 0 where it is out.
-pub fn value(w: Whole) -> i64
+pub fn value(w: Option<i64>) -> i64
     ensures { result ≡ near_value w }
 {
     match w {
-        Whole::Near(v) => v,
-        Whole::Out => 0,
+        Some(v) => v,
+        None => 0,
     }
 }
 
@@ -76,12 +75,12 @@ pub fn joined(first: usize, many: usize, more: usize) -> usize
 }
 
 // The same with one number behind them.
-pub fn joined_one(first: usize, many: usize, w: Whole) -> usize
+pub fn joined_one(first: usize, many: usize, w: Option<i64>) -> usize
     requires { many ≤ 1000 }
     ensures { result ≡ W.joined first many (near w) }
 {
     match w {
-        Whole::Near(_) => joined(first, many, 1),
-        Whole::Out => joined(first, many, 0),
+        Some(_) => joined(first, many, 1),
+        None => joined(first, many, 0),
     }
 }

@@ -1,11 +1,10 @@
 -- The chain of a start file as the code holds it: its edges in one array as they stand in the file, the boxes taken out of it, and the frame of each
 -- box's table. What the reader answers is meaning's `on_chain`. Definitions alone.
-use Rattle.std.specs.Prelude.{ℕ, zero, suc, ◌+◌, ◌*◌, ◌≤◌, ◌≡◌, Bool, true, false, ◌&&◌, List, [], ◌∷◌, ℤ, pos, drop, replicate}
+use Rattle.std.specs.Prelude.{ℕ, zero, suc, ◌+◌, ◌*◌, ◌≤◌, ◌≡◌, Bool, true, false, ◌&&◌, List, [], ◌∷◌, ℤ, pos, drop, replicate, Ok, Err}
 use Rattle.laws.specs.Lists.{at, tab, padded}
 use Rattle.laws.specs.Tabs.{Filled}
+use Rattle.meaning.specs.Answers.{Walk}
 use Rattle.meaning.specs.declared.Refusal.{Refusal}
-use Rattle.meaning.specs.declared.Verdict.{Verdict}
-use Rattle.meaning.specs.declared.Walk.{Walk}
 use Rattle.meaning.specs.Boxes.{within}
 use Rattle.meaning.specs.Files.{end, Read, refused, values_at, values_of}
 use Rattle.meaning.specs.Plants.{edge_limit, span, times, column}
@@ -37,10 +36,10 @@ values_in m edges = pos 1 ∷ pos m ∷ edges
 
 -- a refused chain is all zeros
 abbrev pub no_chain : Refusal → ChainRead
-no_chain e = record { verdict = Verdict.Refused e; m = 0; next = 0; edges = replicate most_edges (pos 0) }
+no_chain e = record { verdict = Err e; m = 0; next = 0; edges = replicate most_edges (pos 0) }
 
 abbrev pub chain_with : List ℤ → ℕ → ChainRead
-chain_with vs next = record { verdict = Verdict.Accepted; m = above vs; next = next; edges = edges_above vs }
+chain_with vs next = record { verdict = Ok tt; m = above vs; next = next; edges = edges_above vs }
 
 -- of a whole file, behind which nothing may stand, or of a start file's beginning
 abbrev pub chain_values : Bool → ℕ → List ℕ → Read (List ℤ)
@@ -105,5 +104,5 @@ pub record EdgesRead (s : List ℕ) (from count : ℕ) (edges : List ℤ) (next 
   pub filled : Filled most_edges (2 * count) edges
 
 abbrev pub EdgesTold : List ℕ → ℕ → ℕ → List ℤ → Walk → Type 0
-EdgesTold s from count edges (Walk.Next next) = EdgesRead s from count edges next
-EdgesTold s from count edges (Walk.Refused e) = Fails (times count (span edge_limit)) s from e
+EdgesTold s from count edges (Ok next) = EdgesRead s from count edges next
+EdgesTold s from count edges (Err e) = Fails (times count (span edge_limit)) s from e

@@ -1,6 +1,6 @@
 -- What is drafted in an array: the bytes of a tree, where there is one, its splits telling no lengths whatever the form; and how many they are at the most. Definitions
 -- alone.
-use Rattle.std.specs.Prelude.{ℕ, ◌+◌, ◌≡◌, false, List, length}
+use Rattle.std.specs.Prelude.{ℕ, ◌+◌, ◌≡◌, false, List, length, Some, None}
 use Rattle.std.proofs.Math.Option.{Option, none, some}
 use Rattle.laws.specs.Writing.{Put}
 use Rattle.meaning.specs.Trees.{Tree, layout, layouts}
@@ -9,16 +9,15 @@ use Rattle.meaning.specs.Defined.{map_some, all_of, tree_of, defined_tree}
 use Rattle.meaning.specs.Tables.{depth_by}
 use Rattle.promises.specs.Tables.TreeLengths.{most, children_most, tile_bytes}
 use Rattle.tables.specs.declared.frames.Frame.{Frame}
-use Rattle.tables.specs.declared.drafts.Grown.{Grown}
 use Rattle.tables.specs.Turns.{table_by}
 
 -- The bytes that are asked for, or none: what was answered, and the buffer as it is left. Where there are none the bytes in it are left open,
 -- for the maker zeros them.
 abbrev pub Wrote : Option (List ℕ) → List ℕ → ℕ → Grown → List ℕ → Type 0
-Wrote (some bytes) buf at (Grown.Next next) out = Put buf at bytes next out
-Wrote (some bytes) buf at Grown.Nothing out = ⊥
-Wrote none buf at (Grown.Next next) out = ⊥
-Wrote none buf at Grown.Nothing out = length out ≡ length buf
+Wrote (some bytes) buf at (Some next) out = Put buf at bytes next out
+Wrote (some bytes) buf at None out = ⊥
+Wrote none buf at (Some next) out = ⊥
+Wrote none buf at None out = length out ≡ length buf
 
 -- no draft of a frame's table has more
 abbrev pub bytes_most : Frame → ℕ

@@ -1,8 +1,8 @@
 -- The child of a split that holds a reading where lengths are told, as the code finds it: its box and its number, and then its place. Definitions alone.
-use Rattle.std.specs.Prelude.{ℕ, zero, suc, ◌+◌, ◌-◌, ◌≤◌, ◌<◌, ◌≡◌, Bool, true, cond, List, [], ◌∷◌, ℤ, length, get_or}
+use Rattle.std.specs.Prelude.{ℕ, zero, suc, ◌+◌, ◌-◌, ◌≤◌, ◌<◌, ◌≡◌, Bool, true, cond, List, [], ◌∷◌, ℤ, length, get_or, Ok, Err}
 use Rattle.std.proofs.Math.Option.{Option, none, some}
 use Rattle.laws.specs.Lists.{all}
-use Rattle.meaning.specs.declared.Walk.{Walk}
+use Rattle.meaning.specs.Answers.{Walk}
 use Rattle.meaning.specs.Boxes.{Side, fits, children}
 use Rattle.meaning.specs.Control.{past_file}
 use Rattle.meaning.specs.Refusals.{bad_table}
@@ -36,9 +36,9 @@ place_by (suc c) [] at = at
 place_by (suc c) (l ∷ ls) at = place_by c ls (at + l.size)
 
 abbrev pub or_past : Option ℕ → (Unit {0} → Walk) → Walk
-or_past (some place) rest = Walk.Refused (bad_table place)
+or_past (some place) rest = Err (bad_table place)
 or_past none rest = rest tt
 
 -- of so many children, whose lengths stand at `from`: where that of number c begins
 abbrev pub place_of : ℕ → ℕ → List ℕ → ℕ → Walk
-place_of count c s from = on_read (lengths_at (count - 1) s from) Walk.Refused λ ls first. or_past (past_file (length s) ls first) λ _. Walk.Next (place_by c ls first)
+place_of count c s from = on_read (lengths_at (count - 1) s from) Err λ ls first. or_past (past_file (length s) ls first) λ _. Ok (place_by c ls first)

@@ -1,20 +1,19 @@
 -- Tables inside a start file as the code finds them, and how what is told of one is moved to the file. Definitions alone.
-use Rattle.std.specs.Prelude.{ℕ, ◌+◌, ◌^◌, ◌<◌, ◌≡◌, true, List}
+use Rattle.std.specs.Prelude.{ℕ, ◌+◌, ◌^◌, ◌<◌, ◌≡◌, true, List, Ok, Err}
 use Rattle.meaning.specs.declared.Refusal.{Refusal}
 use Rattle.meaning.specs.Refusals.{at_byte}
 use Rattle.meaning.specs.Starts.{on_length, on_part}
-use Rattle.tables.specs.declared.parts.Part.{Part}
 
 -- the table whose length stands at a place, and the one that i others stand before
 abbrev pub part_at : List ℕ → ℕ → Part
-part_at s at = on_length s at Part.Refused Part.At
+part_at s at = on_length s at Err Part.At
 
 abbrev pub part_behind : ℕ → List ℕ → ℕ → Part
-part_behind i s at = on_part i s at Part.Refused Part.At
+part_behind i s at = on_part i s at Err Part.At
 
 abbrev pub on_found : {A : Type 0} → Part → (Refusal → A) → (ℕ → ℕ → A) → A
-on_found (Part.Refused e) refuse rest = refuse e
-on_found (Part.At first size) refuse rest = rest first size
+on_found (Err e) refuse rest = refuse e
+on_found (Ok (first, size)) refuse rest = rest first size
 
 -- the place of a refusal, where it is a byte's, can be moved
 abbrev pub Movable : ℕ → Refusal → Type 0

@@ -1,7 +1,7 @@
 -- The tables of a start file as the code checks them: one behind its length, by a frame's rules of the form that it says. Definitions alone.
-use Rattle.std.specs.Prelude.{ℕ, ◌+◌, List, eqb, ℤ}
+use Rattle.std.specs.Prelude.{ℕ, ◌+◌, List, eqb, ℤ, Ok, Err}
 use Rattle.laws.specs.Guards.{guard}
-use Rattle.meaning.specs.declared.Walk.{Walk}
+use Rattle.meaning.specs.Answers.{Walk}
 use Rattle.meaning.specs.Refusals.{unfit, moved}
 use Rattle.meaning.specs.Rules.{Rules}
 use Rattle.meaning.specs.Starts.{on_length, part}
@@ -18,7 +18,7 @@ rules_at f edges bands coef i = rules_by (frame_at f edges i) bands coef
 -- the place behind the table whose length stands at `at`: the table ends where its length says
 abbrev pub table_at : (ℕ → Rules) → List ℕ → ℕ → Walk
 table_at r s at =
-    on_length s at Walk.Refused λ first size.
-    on_walk (table_end (r (form_of (part s first size))) (part s first size)) (λ e. Walk.Refused (moved first e)) λ next.
-    guard (eqb next size) (Walk.Refused (unfit at)) λ _.
-    Walk.Next (first + size)
+    on_length s at Err λ first size.
+    on_walk (table_end (r (form_of (part s first size))) (part s first size)) (λ e. Err (moved first e)) λ next.
+    guard (eqb next size) (Err (unfit at)) λ _.
+    Ok (first + size)

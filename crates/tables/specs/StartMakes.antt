@@ -1,9 +1,9 @@
 -- What the start file's maker leaves in a buffer: a table behind its length, those of all boxes, and the whole file. Definitions alone.
-use Rattle.std.specs.Prelude.{ℕ, ◌+◌, ◌≤◌, ◌≡◌, List, ◌++◌, ℤ, length}
+use Rattle.std.specs.Prelude.{ℕ, ◌+◌, ◌≤◌, ◌≡◌, List, ◌++◌, ℤ, length, Ok, Err}
 use Rattle.std.proofs.Math.Option.{Option}
 use Rattle.laws.specs.Writing.{Put}
-use Rattle.meaning.specs.declared.Walk.{Walk}
 use Rattle.laws.specs.Guards.{guard}
+use Rattle.meaning.specs.Answers.{Walk}
 use Rattle.meaning.specs.Buffers.{Left, left}
 use Rattle.meaning.specs.Defined.{map_some, defined_tree}
 use Rattle.meaning.specs.Files.{Judged, good, bad, values_of}
@@ -28,10 +28,10 @@ part_bytes r = map_some (λ t. with_length (table_of r t)) (defined_tree r)
 
 -- The tables that are asked for, or 9: what was answered, and the buffer as it is left. At 9 the bytes in it are left open, for the maker zeros them.
 abbrev pub WroteParts : Judged (List (List ℕ)) → List ℕ → ℕ → Walk → List ℕ → Type 0
-WroteParts (good ts) buf at (Walk.Next next) out = Put buf at (parts_of ts) next out
-WroteParts (good ts) buf at (Walk.Refused e) out = ⊥
-WroteParts (bad e) buf at (Walk.Next next) out = ⊥
-WroteParts (bad e) buf at (Walk.Refused f) out = (f ≡ e) × (length out ≡ length buf)
+WroteParts (good ts) buf at (Ok next) out = Put buf at (parts_of ts) next out
+WroteParts (good ts) buf at (Err e) out = ⊥
+WroteParts (bad e) buf at (Ok next) out = ⊥
+WroteParts (bad e) buf at (Err f) out = (f ≡ e) × (length out ≡ length buf)
 
 -- the rules of Ri's table, and the tables of R0..Rm, as the code has them: by frames
 abbrev pub frames_rules : Frame → List ℤ → List ℤ → List ℤ → ℕ → Rules

@@ -1,10 +1,9 @@
 -- A tree that lies in some bytes, its splits telling lengths or not; and what it is to find its size, and to turn it into the other layout. Of a box only its
 -- children are asked, so the rules are those of a frame's counts alone. Definitions alone.
-use Rattle.std.specs.Prelude.{ℕ, ◌≤◌, ◌≡◌, Bool, true, false, not, List, [], ◌++◌, length}
+use Rattle.std.specs.Prelude.{ℕ, ◌≤◌, ◌≡◌, Bool, true, false, not, List, [], ◌++◌, length, Ok}
 use Rattle.laws.specs.Standing.{Stands}
 use Rattle.laws.specs.Writing.{Put}
-use Rattle.meaning.specs.declared.Walk.{Walk}
-use Rattle.meaning.specs.declared.Written.{Written}
+use Rattle.meaning.specs.Answers.{Written}
 use Rattle.meaning.specs.Boxes.{Side}
 use Rattle.meaning.specs.Buffers.{left}
 use Rattle.meaning.specs.Files.{good}
@@ -62,7 +61,7 @@ SomeSplit f told s d bs at = (first : ℕ) × (g : Forest) × (m : ℕ) × Split
 
 -- the place behind k numbers, where none of them is broken
 abbrev pub Passed : ℕ → List ℕ → ℕ → ℕ → Type 0
-Passed k s at next = (m : ℕ) → behind_at k s at ≡ Walk.Next m → next ≡ m
+Passed k s at next = (m : ℕ) → behind_at k s at ≡ Ok m → next ≡ m
 
 -- how many bytes a length takes, where it is told
 abbrev pub length_if : Bool → ℕ → ℕ

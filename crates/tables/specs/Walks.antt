@@ -1,8 +1,8 @@
 -- The walk by what it makes of a tile: the checker's judges it by the tile rule, the passing of a subtree lets it be. Definitions alone.
 use Rattle.std.specs.Prelude.{Bool, true, false, List, ℕ}
+use Rattle.meaning.specs.Answers.{Walk}
 use Rattle.meaning.specs.declared.Tried.{Tried}
 use Rattle.meaning.specs.declared.Tried.TheVariants.{Works}
-use Rattle.meaning.specs.declared.Walk.{Walk}
 use Rattle.meaning.specs.Rules.{Rules, rule}
 use Rattle.meaning.specs.Verdicts.{walk}
 

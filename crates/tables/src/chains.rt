@@ -10,9 +10,8 @@ ghost use Rattle.tables.specs.Chains.{most_above, most_edges, values_in, no_chai
 use crate::boxes::Bx;
 use crate::frames::Frame;
 use crate::{boxes, refusals};
-use files::spans::Span;
 use files::{numbers, spans};
-use meaning::{Number, Refusal, Verdict, Walk};
+use meaning::Refusal;
 
 // As many boxes above R, and as many of their edges, as there may be.
 pub const ABOVE: usize = 8;
@@ -23,7 +22,7 @@ pub const EDGES: usize = 64;
 // behind. A refused one is all zeros.
 #[derive(Clone, Copy)]
 pub struct ChainRead {
-    pub verdict: Verdict,
+    pub verdict: Result<(), Refusal>,
     pub m: usize,
     pub next: usize,
     pub edges: [i64; EDGES],
@@ -40,7 +39,7 @@ fn refused(e: Refusal) -> ChainRead
     ensures { result ≡ no_chain e }
 {
     ChainRead {
-        verdict: Verdict::Refused(e),
+        verdict: Err(e),
         m: 0,
         next: 0,
         edges: [0i64; EDGES],
@@ -51,13 +50,13 @@ fn refused(e: Refusal) -> ChainRead
 fn read_head(s: &[u8]) -> Head
     ensures { HeadTold s.now result }
 {
-    let Number::Value(form, at) = numbers::number(s, 0) else {
+    let Some((form, at)) = numbers::number(s, 0) else {
         return Head::Refused(files::refusals::broken(0));
     };
     if form != 1 {
         return Head::Refused(files::refusals::wrong_form());
     }
-    let Number::Value(m, next) = numbers::number(s, at) else {
+    let Some((m, next)) = numbers::number(s, at) else {
         return Head::Refused(files::refusals::broken(at));
     };
     if ABOVE < m {
@@ -67,7 +66,7 @@ fn read_head(s: &[u8]) -> Head
 }
 
 // `count` sides, lo and hi of each, into an array of zeros that is lent; the place behind them.
-fn read_edges(s: &[u8], at: usize, count: usize, edges: &mut [i64; EDGES]) -> Walk
+fn read_edges(s: &[u8], at: usize, count: usize, edges: &mut [i64; EDGES]) -> Result<usize, Refusal>
     requires { (count ≤ 32) × (edges.old ≡ replicate most_edges (pos 0)) }
     ensures { EdgesTold s.now at count edges.new result }
 {
@@ -75,10 +74,10 @@ fn read_edges(s: &[u8], at: usize, count: usize, edges: &mut [i64; EDGES]) -> Wa
     let mut i: usize = 0;
     while i < count {
         match spans::read_span(s, p, -1_000_000, 1_000_000) {
-            Span::Refused(e) => {
-                return Walk::Refused(e);
+            Err(e) => {
+                return Err(e);
             }
-            Span::Ends(lo, hi, next) => {
+            Ok((lo, hi, next)) => {
                 edges[2 * i] = lo;
                 edges[2 * i + 1] = hi;
                 p = next;
@@ -86,7 +85,7 @@ fn read_edges(s: &[u8], at: usize, count: usize, edges: &mut [i64; EDGES]) -> Wa
         }
         i += 1;
     }
-    Walk::Next(p)
+    Ok(p)
 }
 
 // The i-th box above R, from 0.
@@ -201,8 +200,8 @@ pub fn read_chain(f: Frame, whole: bool, s: &[u8]) -> ChainRead
             let mut edges = [0i64; EDGES];
             let past = read_edges(s, at, m * f.n, &mut edges);
             match past {
-                Walk::Refused(e) => refused(e),
-                Walk::Next(next) => {
+                Err(e) => refused(e),
+                Ok(next) => {
                     if left_over(whole, next, s.len()) {
                         return refused(files::refusals::unfit(next));
                     }
@@ -213,7 +212,7 @@ pub fn read_chain(f: Frame, whole: bool, s: &[u8]) -> ChainRead
                         return refused(refusals::not_held(fault + 1));
                     }
                     ChainRead {
-                        verdict: Verdict::Accepted,
+                        verdict: Ok(()),
                         m,
                         next,
                         edges,

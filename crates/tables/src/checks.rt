@@ -11,16 +11,16 @@ use crate::arrays::{FEW_BANDS, FEW_COEFFICIENTS, FEW_MODES};
 use crate::frames::Frame;
 use crate::{frames, headers, refusals, walks};
 use files::plants;
-use meaning::{BANDS, COEFFICIENTS, Verdict, Walk};
+use meaning::{BANDS, COEFFICIENTS};
 
 // The place behind a table, its header and its tree, against a frame. What may stand there is not asked.
-fn end_by(f: Frame, bands: &[i64], coef: &[i64], table: &[u8]) -> Walk
+fn end_by(f: Frame, bands: &[i64], coef: &[i64], table: &[u8]) -> Result<usize, Refusal>
     requires { PlantSound f bands.now coef.now }
     ensures { result ≡ table_end (rules_in f bands.now coef.now) table.now }
 {
     match headers::header(f.form, f.n, table) {
-        Walk::Refused(e) => Walk::Refused(e),
-        Walk::Next(at) => {
+        Err(e) => Err(e),
+        Ok(at) => {
             let root = f.root;
             let depth = frames::depth(f.form, f.n, f.d);
             let edges = frames::edges_of(f);
@@ -36,7 +36,7 @@ fn end_by(f: Frame, bands: &[i64], coef: &[i64], table: &[u8]) -> Walk
 }
 
 // By the form that the table says.
-pub(crate) fn table_end(f: Frame, bands: &[i64], coef: &[i64], table: &[u8]) -> Walk
+pub(crate) fn table_end(f: Frame, bands: &[i64], coef: &[i64], table: &[u8]) -> Result<usize, Refusal>
     requires { PlantSound f bands.now coef.now }
     ensures { result ≡ table_end (rules_by f bands.now coef.now (form_of table.now)) table.now }
 {
@@ -49,37 +49,37 @@ pub(crate) fn table_end(f: Frame, bands: &[i64], coef: &[i64], table: &[u8]) -> 
 }
 
 // A table against a frame: it has to end where its bytes do.
-fn judge<'a>(f: Frame, bands: &'a [i64], coef: &'a [i64], table: &[u8]) -> Verdict
+fn judge<'a>(f: Frame, bands: &'a [i64], coef: &'a [i64], table: &[u8]) -> Result<(), Refusal>
     requires { PlantSound f bands.now coef.now }
     ensures { result ≡ verdict (rules_by f bands.now coef.now (form_of table.now)) table.now }
 {
     match table_end(f, bands, coef, table) {
-        Walk::Refused(e) => Verdict::Refused(e),
-        Walk::Next(next) => {
+        Err(e) => Err(e),
+        Ok(next) => {
             if next == table.len() {
-                Verdict::Accepted
+                Ok(())
             } else {
-                Verdict::Refused(refusals::bad_table(next))
+                Err(refusals::bad_table(next))
             }
         }
     }
 }
 
 // The verdict on a table's file for a plant's file, the plant being read into arrays that have room for it.
-fn check_in(plant: &[u8], bands: &mut [i64], coef: &mut [i64], table: &[u8]) -> Verdict
+fn check_in(plant: &[u8], bands: &mut [i64], coef: &mut [i64], table: &[u8]) -> Result<(), Refusal>
     requires { RoomFor plant.now bands.old coef.old }
     ensures { result ≡ checked plant.now table.now }
 {
     let read = plants::read_plant(plant, bands, coef);
     let verdict = read.verdict;
     match verdict {
-        Verdict::Refused(e) => Verdict::Refused(e),
-        Verdict::Accepted => judge(frames::framed(read.outline), bands, coef, table),
+        Err(e) => Err(e),
+        Ok(()) => judge(frames::framed(read.outline), bands, coef, table),
     }
 }
 
 // In arrays for any plant.
-fn check_many(plant: &[u8], table: &[u8]) -> Verdict
+fn check_many(plant: &[u8], table: &[u8]) -> Result<(), Refusal>
     ensures { result ≡ checked plant.now table.now }
 {
     let mut bands = [0i64; BANDS];
@@ -88,7 +88,7 @@ fn check_many(plant: &[u8], table: &[u8]) -> Verdict
 }
 
 // The verdict on a table's file for a plant's file: number, place and step of the first fault, or accepted.
-pub fn check(plant: &[u8], table: &[u8]) -> Verdict
+pub fn check(plant: &[u8], table: &[u8]) -> Result<(), Refusal>
     ensures { result ≡ checked plant.now table.now }
 {
     if FEW_MODES < plants::modes_told(plant) {

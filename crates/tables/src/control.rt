@@ -14,10 +14,10 @@ use crate::boxes::Bx;
 use crate::frames::Frame;
 use crate::{boxes, finds, frames, headers, refusals, states};
 use files::plants;
-use meaning::{Answer, Found, State, Verdict, Walk};
+use meaning::State;
 
 // Whether a call may go on: the state can be, and then the box holds the reading; 12 before 11.
-pub(crate) fn admit(can: bool, n: usize, b: Bx, x: [i64; 4]) -> Verdict
+pub(crate) fn admit(can: bool, n: usize, b: Bx, x: [i64; 4]) -> Result<(), Refusal>
     requires { n ≤ 4 }
     ensures { result ≡ admission can (fits (box_of n b) (reading_of n x)) }
 {
@@ -26,52 +26,52 @@ pub(crate) fn admit(can: bool, n: usize, b: Bx, x: [i64; 4]) -> Verdict
     let reading = refusals::outside(missed);
     if can {
         if n <= missed {
-            return Verdict::Accepted;
+            return Ok(());
         }
-        return Verdict::Refused(reading);
+        return Err(reading);
     }
-    Verdict::Refused(state)
+    Err(state)
 }
 
 // Idle: the reading must be in R; its tile is found, its first mode answered.
-fn idle_call(f: Frame, table: &[u8], at: usize, place: usize, x: [i64; 4]) -> Answer
+fn idle_call(f: Frame, table: &[u8], at: usize, place: usize, x: [i64; 4]) -> Result<(usize, State), Refusal>
     requires { FrameSound f }
     ensures { result ≡ idle_call (rules_in f [] []) table.now at place x }
 {
     match admit(place == 0, f.n, f.root, x) {
-        Verdict::Refused(e) => Answer::Refused(e),
-        Verdict::Accepted => {
+        Err(e) => Err(e),
+        Ok(()) => {
             let depth = frames::depth(f.form, f.n, f.d);
             let edges = frames::edges_of(f);
             match finds::find(frames::counts_of(f), &edges, table, depth, at, f.root, x) {
-                Found::Refused(e) => Answer::Refused(e),
-                Found::Tile(from, k) => states::answer(table, from, k),
+                Err(e) => Err(e),
+                Ok((from, k)) => states::answer(table, from, k),
             }
         }
     }
 }
 
 // Running: the reading must be in S; the mode at the place is answered.
-fn running_call(f: Frame, table: &[u8], place: usize, left: usize, x: [i64; 4]) -> Answer
+fn running_call(f: Frame, table: &[u8], place: usize, left: usize, x: [i64; 4]) -> Result<(usize, State), Refusal>
     requires { FrameSound f }
     ensures { result ≡ running_call (rules_in f [] []) table.now place left x }
 {
     let can = states::can_run(f.k, f.modes, table, place, left);
     match admit(can, f.n, f.safe, x) {
-        Verdict::Refused(e) => Answer::Refused(e),
-        Verdict::Accepted => states::answer(table, place, left),
+        Err(e) => Err(e),
+        Ok(()) => states::answer(table, place, left),
     }
 }
 
 // A call on a plant that was read, by the form that the table says. A running call hangs on no form.
-pub(crate) fn call(f: Frame, table: &[u8], st: State, x: [i64; 4]) -> Answer
+pub(crate) fn call(f: Frame, table: &[u8], st: State, x: [i64; 4]) -> Result<(usize, State), Refusal>
     requires { FrameSound f }
     ensures { result ≡ call (rules_by f [] [] (form_of table.now)) table.now st x }
 {
     let form = headers::form_of(table);
     match headers::header(form, f.n, table) {
-        Walk::Refused(e) => Answer::Refused(e),
-        Walk::Next(at) => {
+        Err(e) => Err(e),
+        Ok(at) => {
             if st.left == 0 {
                 idle_call(frames::formed(f, form), table, at, st.place, x)
             } else {
@@ -82,13 +82,13 @@ pub(crate) fn call(f: Frame, table: &[u8], st: State, x: [i64; 4]) -> Answer
 }
 
 // What the controller answers to a reading, for every plant, table, state and reading. Numbers of the reading beyond n are ignored.
-pub fn control(plant: &[u8], table: &[u8], st: State, x: [i64; 4]) -> Answer
+pub fn control(plant: &[u8], table: &[u8], st: State, x: [i64; 4]) -> Result<(usize, State), Refusal>
     ensures { result ≡ controlled plant.now table.now st x }
 {
     let read = plants::judge_plant(plant);
     let verdict = read.verdict;
     match verdict {
-        Verdict::Refused(e) => Answer::Refused(e),
-        Verdict::Accepted => { call(frames::framed(read.outline), table, st, x) }
+        Err(e) => Err(e),
+        Ok(()) => { call(frames::framed(read.outline), table, st, x) }
     }
 }

@@ -64,7 +64,7 @@ fn tree(
     b: Bx,
     buf: &mut [u8],
     at: usize,
-) -> Grown
+) -> Option<usize>
     requires { LimitsLaid (frame_from f edges.now) bands.now coef.now limits.now marks.now × Small edge_limit (box_of f.n b) }
     ensures { Wrote (tree_bytes (rules_in (frame_from f edges.now) bands.now coef.now) d (box_of f.n b)) buf.old at result buf.new }
 {
@@ -72,14 +72,14 @@ fn tree(
     let mut us = [0usize; LONGEST];
     let size = search::first(n, f.modes, f.q, f.k, bands, coef, limits, marks, b, &mut us);
     if size != 0 {
-        return Grown::Next(put_tile(buf, at, size, &us));
+        return Some(put_tile(buf, at, size, &us));
     }
     if d == 0 {
-        return Grown::Nothing;
+        return None;
     }
     let count = boxes::count(f.form, n, b);
     if count == 0 {
-        return Grown::Nothing;
+        return None;
     }
     let mut place = numbers::put_number(buf, at, 0);
     let mut c: usize = 0;
@@ -97,13 +97,13 @@ fn tree(
             buf,
             place,
         );
-        let Grown::Next(next) = grown else {
-            return Grown::Nothing;
+        let Some(next) = grown else {
+            return None;
         };
         place = next;
         c += 1;
     }
-    Grown::Next(place)
+    Some(place)
 }
 
 // The table of a frame, with room for its limits: header, then the tree of the box that is tiled. The limits are made once, and lent from then on.
@@ -114,7 +114,7 @@ fn table_with(
     limits: &mut [i64],
     marks: &mut [i64],
     buf: &mut [u8],
-) -> Grown
+) -> Option<usize>
     requires plant { PlantSound f bands.now coef.now }
     requires room { (limits_size * f.modes ≤ length limits.old) × (marks_size * f.modes ≤ length marks.old) }
     ensures { Wrote (draft_bytes (rules_in f bands.now coef.now)) buf.old 0 result buf.new }
@@ -140,7 +140,7 @@ fn table_with(
 }
 
 // In limits for any plant. A function of its own, so that makers for few modes have no room for many on their stack.
-fn table_many(f: Frame, bands: &[i64], coef: &[i64], buf: &mut [u8]) -> Grown
+fn table_many(f: Frame, bands: &[i64], coef: &[i64], buf: &mut [u8]) -> Option<usize>
     requires { PlantSound f bands.now coef.now }
     ensures { Wrote (draft_bytes (rules_in f bands.now coef.now)) buf.old 0 result buf.new }
 {
@@ -150,7 +150,7 @@ fn table_many(f: Frame, bands: &[i64], coef: &[i64], buf: &mut [u8]) -> Grown
 }
 
 // The table of a frame.
-pub fn table(f: Frame, bands: &[i64], coef: &[i64], buf: &mut [u8]) -> Grown
+pub fn table(f: Frame, bands: &[i64], coef: &[i64], buf: &mut [u8]) -> Option<usize>
     requires { PlantSound f bands.now coef.now }
     ensures { Wrote (draft_bytes (rules_in f bands.now coef.now)) buf.old 0 result buf.new }
 {

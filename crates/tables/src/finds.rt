@@ -14,56 +14,54 @@ ghost use Rattle.tables.specs.Frames.{frame_from, rules_in, FrameSound};
 
 use crate::boxes::Bx;
 use crate::frames::Counts;
-use crate::lengths::Sum;
 use crate::{boxes, lengths, modes, refusals, walks};
 use files::numbers;
-use meaning::{Found, Number, Walk};
 
 // A tile of k modes at `from`: found, once they are all read.
-fn tile(modes: usize, k: usize, table: &[u8], from: usize) -> Found
+fn tile(modes: usize, k: usize, table: &[u8], from: usize) -> Result<(usize, usize), Refusal>
     requires { k ≤ 6 }
     ensures { result ≡ tile_found (modes_at modes k table.now from) from k }
 {
     let read = modes::read_modes(modes, k, table, from);
     let answer = read.answer;
     match answer {
-        Walk::Refused(e) => Found::Refused(e),
-        Walk::Next(_) => Found::Tile(from, k),
+        Err(e) => Err(e),
+        Ok(_) => Ok((from, k)),
     }
 }
 
 // Where the child of number c begins, by the lengths at `from` of so many children: all of them are read, and none may point past the table.
-fn place_slowly(count: usize, c: usize, table: &[u8], from: usize) -> Walk
+fn place_slowly(count: usize, c: usize, table: &[u8], from: usize) -> Result<usize, Refusal>
     requires { (from ≤ length table.now) × (c < count) }
     ensures { result ≡ place_of count c table.now from }
 {
     let told = lengths::told(2, count);
     let behind = lengths::behind(told, table, from);
-    let Walk::Next(first) = behind else {
+    let Ok(first) = behind else {
         return behind;
     };
     let all = lengths::ends(told, table, from, first);
-    let Walk::Next(_) = all else {
+    let Ok(_) = all else {
         return all;
     };
     lengths::ends(c, table, from, first)
 }
 
 // The same in one pass over the lengths, where nothing is wrong with them; what is wrong is told by reading them again.
-fn place_of(count: usize, c: usize, table: &[u8], from: usize) -> Walk
+fn place_of(count: usize, c: usize, table: &[u8], from: usize) -> Result<usize, Refusal>
     requires { (from ≤ length table.now) × (c < count) × (count ≤ 16) }
     ensures { result ≡ place_of count c table.now from }
 {
-    let Sum::Of(passed, mid) = lengths::total(c, table, from) else {
+    let Some((passed, mid)) = lengths::total(c, table, from) else {
         return place_slowly(count, c, table, from);
     };
-    let Sum::Of(rest, first) = lengths::total(count - 1 - c, table, mid) else {
+    let Some((rest, first)) = lengths::total(count - 1 - c, table, mid) else {
         return place_slowly(count, c, table, from);
     };
     if table.len() - first < passed + rest {
         return place_slowly(count, c, table, from);
     }
-    Walk::Next(first + passed)
+    Ok(first + passed)
 }
 
 // The tile in the tree at `at`, over box b with depth d left, of a form that tells no lengths: the children before the one that holds the reading are walked over.
@@ -77,22 +75,22 @@ fn find_walking(
     at: usize,
     b: Bx,
     x: [i64; 4],
-) -> Found
+) -> Result<(usize, usize), Refusal>
     requires { FrameSound (frame_from f edges.now) × Small edge_limit (box_of f.n b) × (tells f.form ≡ false) }
     ensures { result ≡ find (rules_in (frame_from f edges.now) [] []) d table.now at (box_of f.n b) x }
 {
-    let Number::Value(k, next) = numbers::number(table, at) else {
-        return Found::Refused(files::refusals::broken(at));
+    let Some((k, next)) = numbers::number(table, at) else {
+        return Err(files::refusals::broken(at));
     };
     let n = f.n;
     if f.k < k {
-        return Found::Refused(refusals::bad_table(at));
+        return Err(refusals::bad_table(at));
     }
     if 0 < k {
         return tile(f.modes, k, table, next);
     }
     if d == 0 {
-        return Found::Refused(refusals::bad_table(at));
+        return Err(refusals::bad_table(at));
     }
     let none = [0i64; 1];
     let count = boxes::count(f.form, n, b);
@@ -104,17 +102,17 @@ fn find_walking(
             return find_walking(f, edges, table, d - 1, place, child, x);
         }
         match walks::walk(f, edges, &none, &none, false, table, d - 1, place, child) {
-            Walk::Refused(e) => {
-                return Found::Refused(e);
+            Err(e) => {
+                return Err(e);
             }
-            Walk::Next(m) => {
+            Ok(m) => {
                 place = m;
             }
         }
         c += 1;
     }
     // No child holds the reading, or the box has none.
-    Found::Refused(refusals::bad_table(at))
+    Err(refusals::bad_table(at))
 }
 
 // The tile in the tree at `at`, over box b with depth d left, which holds the reading. By lengths it goes straight down, in a loop; else by walking.
@@ -126,7 +124,7 @@ pub fn find(
     at: usize,
     b: Bx,
     x: [i64; 4],
-) -> Found
+) -> Result<(usize, usize), Refusal>
     requires { FrameSound (frame_from f edges.now) × Small edge_limit (box_of f.n b) × (holds_in f.n x (box_of f.n b) ≡ true) }
     ensures { result ≡ find (rules_in (frame_from f edges.now) [] []) d table.now at (box_of f.n b) x }
 {
@@ -137,27 +135,27 @@ pub fn find(
     let mut here = b;
     let mut left = d;
     loop {
-        let Number::Value(k, next) = numbers::number(table, place) else {
-            return Found::Refused(files::refusals::broken(place));
+        let Some((k, next)) = numbers::number(table, place) else {
+            return Err(files::refusals::broken(place));
         };
         if f.k < k {
-            return Found::Refused(refusals::bad_table(place));
+            return Err(refusals::bad_table(place));
         }
         if 0 < k {
             return tile(f.modes, k, table, next);
         }
         if left == 0 {
-            return Found::Refused(refusals::bad_table(place));
+            return Err(refusals::bad_table(place));
         }
         let half = boxes::half_of(f.n, here, x);
         if half.count == 1 {
-            return Found::Refused(refusals::bad_table(place));
+            return Err(refusals::bad_table(place));
         }
         match place_of(half.count, half.number, table, next) {
-            Walk::Refused(e) => {
-                return Found::Refused(e);
+            Err(e) => {
+                return Err(e);
             }
-            Walk::Next(m) => {
+            Ok(m) => {
                 place = m;
             }
         }

@@ -6,7 +6,6 @@ ghost use Rattle.meaning.specs.Verdicts.{header};
 
 use crate::refusals;
 use files::numbers;
-use meaning::{Number, Walk};
 
 // 1 halves all long sides at once, 2 too and tells lengths, 3 the longest alone.
 pub fn known(form: usize) -> bool
@@ -25,27 +24,27 @@ pub fn known(form: usize) -> bool
 pub fn form_of(table: &[u8]) -> usize
     ensures { result ≡ form_of table.now }
 {
-    let Number::Value(form, _) = numbers::number(table, 0) else {
+    let Some((form, _)) = numbers::number(table, 0) else {
         return 1;
     };
     if known(form) { form } else { 1 }
 }
 
 // The place behind the header of a table of this form for n dimensions.
-pub fn header(form: usize, n: usize, table: &[u8]) -> Walk
+pub fn header(form: usize, n: usize, table: &[u8]) -> Result<usize, Refusal>
     ensures { result ≡ header form n table.now }
 {
-    let Number::Value(told, at) = numbers::number(table, 0) else {
-        return Walk::Refused(files::refusals::broken(0));
+    let Some((told, at)) = numbers::number(table, 0) else {
+        return Err(files::refusals::broken(0));
     };
     if told != form {
-        return Walk::Refused(files::refusals::wrong_form());
+        return Err(files::refusals::wrong_form());
     }
-    let Number::Value(m, next) = numbers::number(table, at) else {
-        return Walk::Refused(files::refusals::broken(at));
+    let Some((m, next)) = numbers::number(table, at) else {
+        return Err(files::refusals::broken(at));
     };
     if m != n {
-        return Walk::Refused(refusals::bad_table(at));
+        return Err(refusals::bad_table(at));
     }
-    Walk::Next(next)
+    Ok(next)
 }

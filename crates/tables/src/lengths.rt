@@ -8,7 +8,6 @@ ghost use Rattle.tables.specs.Lengths.{behind_at, held_at, ends_at, total_at};
 
 use crate::refusals;
 use files::numbers;
-use meaning::{Number, Walk};
 
 // What k lengths come to, and the place behind them; or that one is broken.
 #[derive(Clone, Copy)]
@@ -31,43 +30,43 @@ pub fn told(form: usize, children: usize) -> usize
 }
 
 // The place behind the k lengths at `at`.
-pub fn behind(k: usize, table: &[u8], at: usize) -> Walk
+pub fn behind(k: usize, table: &[u8], at: usize) -> Result<usize, Refusal>
     ensures { result ≡ behind_at k table.now at }
 {
     let mut place = at;
     let mut left = k;
     while 0 < left {
-        let Number::Value(_, next) = numbers::number(table, place) else {
-            return Walk::Refused(files::refusals::broken(place));
+        let Some((_, next)) = numbers::number(table, place) else {
+            return Err(files::refusals::broken(place));
         };
         place = next;
         left -= 1;
     }
-    Walk::Next(place)
+    Ok(place)
 }
 
 // A child that goes from `from` to `end` is held to the length at `at`, where one is told of it: the place of the next length, or 6 at this one.
 // It is not known here that no child ends before it begins, and the sum of place and length may be beyond a usize: so the two places are compared first.
-pub fn held(told: bool, table: &[u8], at: usize, from: usize, end: usize) -> Walk
+pub fn held(told: bool, table: &[u8], at: usize, from: usize, end: usize) -> Result<usize, Refusal>
     ensures { result ≡ held_at told table.now at from end }
 {
     if told {
-        let Number::Value(size, next) = numbers::number(table, at) else {
-            return Walk::Refused(files::refusals::broken(at));
+        let Some((size, next)) = numbers::number(table, at) else {
+            return Err(files::refusals::broken(at));
         };
         if end < from {
-            return Walk::Refused(refusals::bad_table(at));
+            return Err(refusals::bad_table(at));
         }
         if end - from != size {
-            return Walk::Refused(refusals::bad_table(at));
+            return Err(refusals::bad_table(at));
         }
-        return Walk::Next(next);
+        return Ok(next);
     }
-    Walk::Next(at)
+    Ok(at)
 }
 
 // Where the last of k children ends that stand one behind another from `from` on, by their lengths at `at`; 6 at the first whose child would end past the table.
-pub fn ends(k: usize, table: &[u8], at: usize, from: usize) -> Walk
+pub fn ends(k: usize, table: &[u8], at: usize, from: usize) -> Result<usize, Refusal>
     requires { from ≤ length table.now }
     ensures { result ≡ ends_at k table.now at from }
 {
@@ -75,22 +74,22 @@ pub fn ends(k: usize, table: &[u8], at: usize, from: usize) -> Walk
     let mut place = from;
     let mut left = k;
     while 0 < left {
-        let Number::Value(size, next) = numbers::number(table, cursor) else {
-            return Walk::Refused(files::refusals::broken(cursor));
+        let Some((size, next)) = numbers::number(table, cursor) else {
+            return Err(files::refusals::broken(cursor));
         };
         let room = table.len() - place;
         if room < size {
-            return Walk::Refused(refusals::bad_table(cursor));
+            return Err(refusals::bad_table(cursor));
         }
         place += size;
         cursor = next;
         left -= 1;
     }
-    Walk::Next(place)
+    Ok(place)
 }
 
 // The k lengths at `at`, added up. No split has more than fifteen, and none is above 2^35, so that the sum never wraps.
-pub fn total(k: usize, table: &[u8], at: usize) -> Sum
+pub fn total(k: usize, table: &[u8], at: usize) -> Option<(usize, usize)>
     requires { k ≤ 16 }
     ensures { result ≡ total_at k table.now at }
 {
@@ -98,12 +97,12 @@ pub fn total(k: usize, table: &[u8], at: usize) -> Sum
     let mut sum: usize = 0;
     let mut left = k;
     while 0 < left {
-        let Number::Value(size, next) = numbers::number(table, place) else {
-            return Sum::Broken;
+        let Some((size, next)) = numbers::number(table, place) else {
+            return None;
         };
         sum += size;
         place = next;
         left -= 1;
     }
-    Sum::Of(sum, place)
+    Some((sum, place))
 }

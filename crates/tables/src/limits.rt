@@ -15,7 +15,6 @@ ghost use Rattle.tables.specs.Limits.{limit_side, limits_size, marks_size, limit
 use crate::boxes::Bx;
 use crate::frames::Frame;
 use crate::images;
-use crate::images::Span;
 
 // The limits of a mode: those of S, then those of the goal; a span of sixteen is found without a product. Its mark and its offset stand side by side in a
 // slice of their own: the search reads these two and one side for most modes.
@@ -37,7 +36,7 @@ pub const MOST_LIMITS: usize = 4_096;
 pub const MOST_MARKS: usize = 512;
 
 // The limits of side l..h with the band wl..wh: q·(l - 1) + 1 - wl, and q·(h + 1) - 1 - wh.
-fn around(q: usize, wl: i64, wh: i64, l: i64, h: i64) -> Span
+fn around(q: usize, wl: i64, wh: i64, l: i64, h: i64) -> Result<(i64, i64, usize), Refusal>
     requires { (q ≤ 10_000) × Bounded band_limit (side wl wh) × Bounded edge_limit (side l h) }
     ensures { side result.lo result.hi ≡ limit_side q (side wl wh) (side l h) }
 {

@@ -10,11 +10,11 @@ ghost use Rattle.tables.specs.Frames.{rules_in, PlantSound};
 ghost use Rattle.tables.specs.Makes.{defined_left};
 
 use crate::arrays::{FEW_BANDS, FEW_COEFFICIENTS, FEW_MODES};
-use crate::drafts::{BRIEF, FEW, Grown, LONG, MOST};
+use crate::drafts::{BRIEF, FEW, LONG, MOST};
 use crate::frames::Frame;
 use crate::{drafts, frames, headers, refusals, turns};
 use files::{buffers, plants};
-use meaning::{BANDS, COEFFICIENTS, Verdict, Written};
+use meaning::{BANDS, COEFFICIENTS};
 
 // The table of a frame, drafted where there is room for it, and written, with the lengths that form 2 tells: 9, 10. Finished, only the table's bytes are
 // changed; refused, the buffer is all zeros.
@@ -24,23 +24,23 @@ fn write_table<'a>(
     coef: &'a [i64],
     draft: &mut [u8],
     buf: &mut [u8],
-) -> Written
+) -> Result<usize, Refusal>
     requires frame { PlantSound f bands.now coef.now }
     requires room { bytes_most f ≤ length draft.old }
     ensures answer { result ≡ (defined_left (rules_in f bands.now coef.now) buf.old).answer }
     ensures bytes { buf.new ≡ (defined_left (rules_in f bands.now coef.now) buf.old).buffer }
 {
-    let Grown::Next(length) = drafts::table(f, bands, coef, draft) else {
+    let Some(length) = drafts::table(f, bands, coef, draft) else {
         return buffers::refuse(refusals::no_table(0), buf);
     };
     if f.form == 2 {
         return turns::leave(f, false, f.form, &draft[..length], buf);
     }
-    buffers::leave(Verdict::Accepted, &draft[..length], buf)
+    buffers::leave(Ok(()), &draft[..length], buf)
 }
 
 // In a draft for any table.
-fn write_most<'a>(f: Frame, bands: &'a [i64], coef: &'a [i64], buf: &mut [u8]) -> Written
+fn write_most<'a>(f: Frame, bands: &'a [i64], coef: &'a [i64], buf: &mut [u8]) -> Result<usize, Refusal>
     requires { PlantSound f bands.now coef.now }
     ensures answer { result ≡ (defined_left (rules_in f bands.now coef.now) buf.old).answer }
     ensures bytes { buf.new ≡ (defined_left (rules_in f bands.now coef.now) buf.old).buffer }
@@ -50,7 +50,7 @@ fn write_most<'a>(f: Frame, bands: &'a [i64], coef: &'a [i64], buf: &mut [u8]) -
 }
 
 // In the smallest draft that is sure to have room.
-fn write_own<'a>(f: Frame, bands: &'a [i64], coef: &'a [i64], buf: &mut [u8]) -> Written
+fn write_own<'a>(f: Frame, bands: &'a [i64], coef: &'a [i64], buf: &mut [u8]) -> Result<usize, Refusal>
     requires { PlantSound f bands.now coef.now }
     ensures answer { result ≡ (defined_left (rules_in f bands.now coef.now) buf.old).answer }
     ensures bytes { buf.new ≡ (defined_left (rules_in f bands.now coef.now) buf.old).buffer }
@@ -73,7 +73,7 @@ fn make_in(
     coef: &mut [i64],
     form: usize,
     buf: &mut [u8],
-) -> Written
+) -> Result<usize, Refusal>
     requires { RoomFor plant.now bands.old coef.old }
     ensures answer { result ≡ (maker_left plant.now form buf.old).answer }
     ensures bytes { buf.new ≡ (maker_left plant.now form buf.old).buffer }
@@ -81,8 +81,8 @@ fn make_in(
     let read = plants::read_plant(plant, bands, coef);
     let verdict = read.verdict;
     match verdict {
-        Verdict::Refused(e) => buffers::refuse(e, buf),
-        Verdict::Accepted => {
+        Err(e) => buffers::refuse(e, buf),
+        Ok(()) => {
             if headers::known(form) {
                 let f = frames::formed(frames::framed(read.outline), form);
                 return write_own(f, bands, coef, buf);
@@ -93,7 +93,7 @@ fn make_in(
 }
 
 // In arrays for any plant.
-fn make_many(plant: &[u8], form: usize, buf: &mut [u8]) -> Written
+fn make_many(plant: &[u8], form: usize, buf: &mut [u8]) -> Result<usize, Refusal>
     ensures answer { result ≡ (maker_left plant.now form buf.old).answer }
     ensures bytes { buf.new ≡ (maker_left plant.now form buf.old).buffer }
 {
@@ -103,7 +103,7 @@ fn make_many(plant: &[u8], form: usize, buf: &mut [u8]) -> Written
 }
 
 // The table's file for a plant's file: plant, 2 where the form is not known, 9, 10.
-pub fn make(plant: &[u8], form: usize, buf: &mut [u8]) -> Written
+pub fn make(plant: &[u8], form: usize, buf: &mut [u8]) -> Result<usize, Refusal>
     ensures answer { result ≡ (maker_left plant.now form buf.old).answer }
     ensures bytes { buf.new ≡ (maker_left plant.now form buf.old).buffer }
 {

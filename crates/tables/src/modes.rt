@@ -7,12 +7,11 @@ ghost use Rattle.tables.specs.Modes.{read_of};
 
 use crate::refusals;
 use files::numbers;
-use meaning::{Number, Walk};
 
 // The place behind the modes, and beside it the modes: an enum cannot hold an array. Refused, the array says nothing.
 #[derive(Clone, Copy)]
 pub struct ModesRead {
-    pub answer: Walk,
+    pub answer: Result<usize, Refusal>,
     pub us: [usize; 6],
 }
 
@@ -25,15 +24,15 @@ pub fn read_modes(modes: usize, k: usize, table: &[u8], at: usize) -> ModesRead
     let mut w = at;
     let mut i: usize = 0;
     while i < k {
-        let Number::Value(u, next) = numbers::number(table, w) else {
+        let Some((u, next)) = numbers::number(table, w) else {
             return ModesRead {
-                answer: Walk::Refused(files::refusals::broken(w)),
+                answer: Err(files::refusals::broken(w)),
                 us,
             };
         };
         if modes <= u {
             return ModesRead {
-                answer: Walk::Refused(refusals::bad_table(w)),
+                answer: Err(refusals::bad_table(w)),
                 us,
             };
         }
@@ -42,7 +41,7 @@ pub fn read_modes(modes: usize, k: usize, table: &[u8], at: usize) -> ModesRead
         i += 1;
     }
     ModesRead {
-        answer: Walk::Next(w),
+        answer: Ok(w),
         us,
     }
 }

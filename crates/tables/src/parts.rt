@@ -4,7 +4,7 @@ ghost use Rattle.std.specs.Prelude.{◌≡◌};
 ghost use Rattle.tables.specs.Parts.{part_at, part_behind};
 
 use files::numbers;
-use meaning::{Number, Refusal};
+use meaning::Refusal;
 
 // The place of a table's first byte, and how many bytes it has.
 #[derive(Clone, Copy)]
@@ -14,28 +14,28 @@ pub enum Part {
 }
 
 // The table whose length stands at `at`. The sum of place and length may be beyond a usize, so the length is held against what stands behind the place.
-pub fn part_at(s: &[u8], at: usize) -> Part
+pub fn part_at(s: &[u8], at: usize) -> Result<(usize, usize), Refusal>
     ensures { result ≡ part_at s.now at }
 {
-    let Number::Value(size, first) = numbers::number(s, at) else {
-        return Part::Refused(files::refusals::broken(at));
+    let Some((size, first)) = numbers::number(s, at) else {
+        return Err(files::refusals::broken(at));
     };
     let left = s.len() - first;
     if left < size {
-        return Part::Refused(files::refusals::unfit(at));
+        return Err(files::refusals::unfit(at));
     }
-    Part::At(first, size)
+    Ok((first, size))
 }
 
 // The table that i others stand before, the first of their lengths at `at`.
-pub fn part_behind(i: usize, s: &[u8], at: usize) -> Part
+pub fn part_behind(i: usize, s: &[u8], at: usize) -> Result<(usize, usize), Refusal>
     ensures { result ≡ part_behind i s.now at }
 {
     let mut place = at;
     let mut left = i;
     while 0 < left {
         let part = part_at(s, place);
-        let Part::At(first, size) = part else {
+        let Ok((first, size)) = part else {
             return part;
         };
         place = first + size;

@@ -9,7 +9,6 @@ ghost use Rattle.promises.specs.Tables.Checked.{Tiled};
 
 use crate::{checks, frames, headers, turns};
 use files::{buffers, plants};
-use meaning::{Verdict, Written};
 
 // Whether the tree of a table of the one form is one of the other: form 3 halves one side at a time, the others all at once.
 fn turns_into(own: usize, form: usize) -> bool
@@ -27,14 +26,14 @@ fn turns_into(own: usize, form: usize) -> bool
 
 // A table that was accepted. Of its own form it is copied, since only the other layout is written from a tree's bytes; the plant is read again, for its
 // outline alone, the checker having kept nothing.
-fn lay(plant: &[u8], table: &[u8], form: usize, buf: &mut [u8]) -> Written
+fn lay(plant: &[u8], table: &[u8], form: usize, buf: &mut [u8]) -> Result<usize, Refusal>
     requires { Tiled plant.now table.now }
     ensures answer { result ≡ (relay_left plant.now table.now form buf.old).answer }
     ensures bytes { buf.new ≡ (relay_left plant.now table.now form buf.old).buffer }
 {
     let own = headers::form_of(table);
     if form == own {
-        return buffers::leave(Verdict::Accepted, table, buf);
+        return buffers::leave(Ok(()), table, buf);
     }
     let can = turns_into(own, form);
     if can {
@@ -46,13 +45,13 @@ fn lay(plant: &[u8], table: &[u8], form: usize, buf: &mut [u8]) -> Written
 }
 
 // The file of the form told for a plant's file and a table's file. Finished, only the table's bytes are changed; refused, the buffer is all zeros.
-pub fn relay(plant: &[u8], table: &[u8], form: usize, buf: &mut [u8]) -> Written
+pub fn relay(plant: &[u8], table: &[u8], form: usize, buf: &mut [u8]) -> Result<usize, Refusal>
     ensures answer { result ≡ (relay_left plant.now table.now form buf.old).answer }
     ensures bytes { buf.new ≡ (relay_left plant.now table.now form buf.old).buffer }
 {
     let verdict = checks::check(plant, table);
     match verdict {
-        Verdict::Refused(e) => buffers::refuse(e, buf),
-        Verdict::Accepted => lay(plant, table, form, buf),
+        Err(e) => buffers::refuse(e, buf),
+        Ok(()) => lay(plant, table, form, buf),
     }
 }

@@ -11,27 +11,26 @@ ghost use Rattle.tables.specs.StartChecks.{rules_at, table_at};
 use crate::arrays::{FEW_BANDS, FEW_COEFFICIENTS, FEW_MODES};
 use crate::chains::EDGES;
 use crate::frames::Frame;
-use crate::parts::Part;
 use crate::{chains, checks, frames, parts, refusals};
 use files::plants;
-use meaning::{BANDS, COEFFICIENTS, Verdict, Walk};
+use meaning::{BANDS, COEFFICIENTS};
 
 // The place behind the table whose length stands at `at`. What is told of the table is told at its place in the file.
-fn table_at(f: Frame, bands: &[i64], coef: &[i64], start: &[u8], at: usize) -> Walk
+fn table_at(f: Frame, bands: &[i64], coef: &[i64], start: &[u8], at: usize) -> Result<usize, Refusal>
     requires { PlantSound f bands.now coef.now }
     ensures { result ≡ table_at (rules_by f bands.now coef.now) start.now at }
 {
     match parts::part_at(start, at) {
-        Part::Refused(e) => Walk::Refused(e),
-        Part::At(first, size) => {
+        Err(e) => Err(e),
+        Ok((first, size)) => {
             let end = first + size;
             match checks::table_end(f, bands, coef, &start[first..end]) {
-                Walk::Refused(e) => Walk::Refused(refusals::moved(first, e)),
-                Walk::Next(next) => {
+                Err(e) => Err(refusals::moved(first, e)),
+                Ok(next) => {
                     if next == size {
-                        Walk::Next(end)
+                        Ok(end)
                     } else {
-                        Walk::Refused(files::refusals::unfit(at))
+                        Err(files::refusals::unfit(at))
                     }
                 }
             }
@@ -48,7 +47,7 @@ fn tables_at<'a>(
     start: &[u8],
     m: usize,
     at: usize,
-) -> Verdict
+) -> Result<(), Refusal>
     requires { FramesSound f edges.now m × ModesSound f.n f.modes f.q bands.now coef.now }
     ensures { result ≡ tables_at (rules_at f edges.now bands.now coef.now) start.now (m + 1) 0 at }
 {
@@ -56,38 +55,38 @@ fn tables_at<'a>(
     let mut i: usize = 0;
     while i <= m {
         match table_at(chains::frame_at(f, edges, i), bands, coef, start, place) {
-            Walk::Refused(e) => {
-                return Verdict::Refused(e);
+            Err(e) => {
+                return Err(e);
             }
-            Walk::Next(next) => {
+            Ok(next) => {
                 place = next;
             }
         }
         i += 1;
     }
     if place == start.len() {
-        Verdict::Accepted
+        Ok(())
     } else {
-        Verdict::Refused(files::refusals::unfit(place))
+        Err(files::refusals::unfit(place))
     }
 }
 
 // The verdict on a start file for a plant's file, the plant being read into arrays that have room for it.
-fn start_check_in(plant: &[u8], bands: &mut [i64], coef: &mut [i64], start: &[u8]) -> Verdict
+fn start_check_in(plant: &[u8], bands: &mut [i64], coef: &mut [i64], start: &[u8]) -> Result<(), Refusal>
     requires { RoomFor plant.now bands.old coef.old }
     ensures { result ≡ start_checked plant.now start.now }
 {
     let read = plants::read_plant(plant, bands, coef);
     let verdict = read.verdict;
     match verdict {
-        Verdict::Refused(e) => Verdict::Refused(e),
-        Verdict::Accepted => {
+        Err(e) => Err(e),
+        Ok(()) => {
             let f = frames::framed(read.outline);
             let chain = chains::read_chain(f, false, start);
             let kept = chain.verdict;
             match kept {
-                Verdict::Refused(e) => Verdict::Refused(e),
-                Verdict::Accepted => {
+                Err(e) => Err(e),
+                Ok(()) => {
                     tables_at(f, &chain.edges, bands, coef, start, chain.m, chain.next)
                 }
             }
@@ -96,7 +95,7 @@ fn start_check_in(plant: &[u8], bands: &mut [i64], coef: &mut [i64], start: &[u8
 }
 
 // In arrays for any plant.
-fn start_check_many(plant: &[u8], start: &[u8]) -> Verdict
+fn start_check_many(plant: &[u8], start: &[u8]) -> Result<(), Refusal>
     ensures { result ≡ start_checked plant.now start.now }
 {
     let mut bands = [0i64; BANDS];
@@ -105,7 +104,7 @@ fn start_check_many(plant: &[u8], start: &[u8]) -> Verdict
 }
 
 // The verdict on a start file for a plant's file: number, place and step of the first fault, or accepted.
-pub fn start_check(plant: &[u8], start: &[u8]) -> Verdict
+pub fn start_check(plant: &[u8], start: &[u8]) -> Result<(), Refusal>
     ensures { result ≡ start_checked plant.now start.now }
 {
     if FEW_MODES < plants::modes_told(plant) {

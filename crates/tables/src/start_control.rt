@@ -13,10 +13,9 @@ ghost use Rattle.tables.specs.StartControl.{idle_choice, choice_of, call_behind,
 use crate::boxes::Bx;
 use crate::chains::EDGES;
 use crate::frames::Frame;
-use crate::parts::Part;
 use crate::{boxes, chains, control, frames, parts, refusals};
 use files::plants;
-use meaning::{Answer, Refusal, StartAnswer, StartState, State, Verdict};
+use meaning::{Refusal, StartState, State};
 
 // The index of the table that is called, or why none is.
 #[derive(Clone, Copy)]
@@ -49,14 +48,14 @@ fn lowest(n: usize, root: Bx, edges: &[i64; EDGES], m: usize, x: [i64; 4]) -> us
 }
 
 // Idle: no index may be kept, and the reading must be in Rm; of the boxes that hold it the lowest index.
-fn idle_choice(n: usize, root: Bx, edges: &[i64; EDGES], m: usize, i: usize, x: [i64; 4]) -> Choice
+fn idle_choice(n: usize, root: Bx, edges: &[i64; EDGES], m: usize, i: usize, x: [i64; 4]) -> Result<usize, Refusal>
     requires { (n ≤ 4) × (m ≤ most_above) }
     ensures { result ≡ idle_choice n (box_of n root) (values_in m edges.now) i x }
 {
     let top = chains::box_at(n, root, edges, m);
     match control::admit(i == 0, n, top, x) {
-        Verdict::Refused(e) => Choice::Refused(e),
-        Verdict::Accepted => Choice::Table(lowest(n, root, edges, m, x)),
+        Err(e) => Err(e),
+        Ok(()) => Ok(lowest(n, root, edges, m, x)),
     }
 }
 
@@ -68,19 +67,19 @@ fn choose_table(
     m: usize,
     st: StartState,
     x: [i64; 4],
-) -> Choice
+) -> Result<usize, Refusal>
     requires { (n ≤ 4) × (m ≤ most_above) }
     ensures { result ≡ choice_of n (box_of n root) (values_in m edges.now) st x }
 {
     let i = st.index;
     let state = st.state;
     if m < i {
-        return Choice::Refused(refusals::bad_state());
+        return Err(refusals::bad_state());
     }
     if is_idle(state) {
         return idle_choice(n, root, edges, m, i, x);
     }
-    Choice::Table(st.index)
+    Ok(st.index)
 }
 
 // The state of a table as that of the file: behind the last mode the index goes too.
@@ -100,17 +99,17 @@ fn state_in(i: usize, st: State) -> StartState
 }
 
 // The call on table i, the first length being at `at`. What is told of the table is told at its place in the file.
-fn call_behind(f: Frame, start: &[u8], at: usize, i: usize, st: State, x: [i64; 4]) -> StartAnswer
+fn call_behind(f: Frame, start: &[u8], at: usize, i: usize, st: State, x: [i64; 4]) -> Result<(usize, StartState), Refusal>
     requires { FrameSound f }
     ensures { result ≡ call_behind f start.now at i st x }
 {
     match parts::part_behind(i, start, at) {
-        Part::Refused(e) => StartAnswer::Refused(e),
-        Part::At(first, size) => {
+        Err(e) => Err(e),
+        Ok((first, size)) => {
             let end = first + size;
             match control::call(f, &start[first..end], st, x) {
-                Answer::Refused(e) => StartAnswer::Refused(refusals::moved(first, e)),
-                Answer::Mode(u, then) => StartAnswer::Mode(u, state_in(i, then)),
+                Err(e) => Err(refusals::moved(first, e)),
+                Ok((u, then)) => Ok((u, state_in(i, then))),
             }
         }
     }
@@ -125,33 +124,33 @@ fn start_call(
     at: usize,
     st: StartState,
     x: [i64; 4],
-) -> StartAnswer
+) -> Result<(usize, StartState), Refusal>
     requires { FramesSound f edges.now m }
     ensures { result ≡ start_answer f edges.now start.now m at st x }
 {
     let root = f.root;
     let state = st.state;
     match choose_table(f.n, root, edges, m, st, x) {
-        Choice::Refused(e) => StartAnswer::Refused(e),
-        Choice::Table(i) => { call_behind(chains::frame_at(f, edges, i), start, at, i, state, x) }
+        Err(e) => Err(e),
+        Ok(i) => { call_behind(chains::frame_at(f, edges, i), start, at, i, state, x) }
     }
 }
 
 // What the controller answers to a reading, for every plant, start file, state and reading. Numbers of the reading beyond n are ignored.
-pub fn start_control(plant: &[u8], start: &[u8], st: StartState, x: [i64; 4]) -> StartAnswer
+pub fn start_control(plant: &[u8], start: &[u8], st: StartState, x: [i64; 4]) -> Result<(usize, StartState), Refusal>
     ensures { result ≡ start_controlled plant.now start.now st x }
 {
     let read = plants::judge_plant(plant);
     let verdict = read.verdict;
     match verdict {
-        Verdict::Refused(e) => StartAnswer::Refused(e),
-        Verdict::Accepted => {
+        Err(e) => Err(e),
+        Ok(()) => {
             let f = frames::framed(read.outline);
             let chain = chains::read_chain(f, false, start);
             let kept = chain.verdict;
             match kept {
-                Verdict::Refused(e) => StartAnswer::Refused(e),
-                Verdict::Accepted => {
+                Err(e) => Err(e),
+                Ok(()) => {
                     start_call(f, &chain.edges, start, chain.m, chain.next, st, x)
                 }
             }

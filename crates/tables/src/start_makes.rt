@@ -16,11 +16,11 @@ ghost use Rattle.tables.specs.StartMakes.{part_bytes, WroteParts, frames_tables,
 
 use crate::arrays::{FEW_BANDS, FEW_COEFFICIENTS, FEW_MODES};
 use crate::chains::EDGES;
-use crate::drafts::{BRIEF, FEW, Grown, LONG, MOST};
+use crate::drafts::{BRIEF, FEW, LONG, MOST};
 use crate::frames::Frame;
 use crate::{chains, drafts, frames, headers, refusals, turns};
 use files::{buffers, numbers, plants};
-use meaning::{BANDS, COEFFICIENTS, Verdict, Walk, Written};
+use meaning::{BANDS, COEFFICIENTS};
 
 // A frame's table behind its length: drafted where there is room for it, then copied, with the lengths that form 2 tells.
 fn put_part(
@@ -30,22 +30,22 @@ fn put_part(
     draft: &mut [u8],
     buf: &mut [u8],
     at: usize,
-) -> Grown
+) -> Option<usize>
     requires frame { PlantSound f bands.now coef.now }
     requires room { bytes_most f ≤ length draft.old }
     ensures { Wrote (part_bytes (rules_in f bands.now coef.now)) buf.old at result buf.new }
 {
-    let Grown::Next(size) = drafts::table(f, bands, coef, draft) else {
-        return Grown::Nothing;
+    let Some(size) = drafts::table(f, bands, coef, draft) else {
+        return None;
     };
     if f.form == 2 {
         let long = turns::table_size(f, &draft[..size]);
         let behind = numbers::put_number(buf, at, long);
         let next = turns::put_table(f, false, f.form, &draft[..size], buf, behind);
-        return Grown::Next(next);
+        return Some(next);
     }
     let past_length = numbers::put_number(buf, at, size);
-    Grown::Next(buffers::put_bytes(buf, past_length, &draft[..size]))
+    Some(buffers::put_bytes(buf, past_length, &draft[..size]))
 }
 
 // The tables of R0..Rm, one draft for all; or 9 with the first index that has none.
@@ -58,7 +58,7 @@ fn put_parts(
     draft: &mut [u8],
     buf: &mut [u8],
     at: usize,
-) -> Walk
+) -> Result<usize, Refusal>
     requires frames { (m ≤ most_above) × FramesSound f bands.now coef.now edges.now m }
     requires room { bytes_most f ≤ length draft.old }
     requires place { at ≤ length buf.old + 1 }
@@ -69,13 +69,13 @@ fn put_parts(
     while i <= m {
         let own = chains::frame_at(f, edges, i);
         let grown = put_part(own, bands, coef, draft, buf, place);
-        let Grown::Next(next) = grown else {
-            return Walk::Refused(refusals::no_table(i));
+        let Some(next) = grown else {
+            return Err(refusals::no_table(i));
         };
         place = next;
         i += 1;
     }
-    Walk::Next(place)
+    Ok(place)
 }
 
 // The chain's bytes, then the tables: 9, 10. Finished, only the file's bytes are changed; refused, the buffer is all zeros.
@@ -88,7 +88,7 @@ fn write_start(
     chain: &[u8],
     draft: &mut [u8],
     buf: &mut [u8],
-) -> Written
+) -> Result<usize, Refusal>
     requires frames { (m ≤ most_above) × FramesSound f bands.now coef.now edges.now m }
     requires room { bytes_most f ≤ length draft.old }
     ensures answer { result ≡ (left (behind_chain chain.now (frames_tables f bands.now coef.now edges.now m)) buf.old).answer }
@@ -97,12 +97,12 @@ fn write_start(
     let past_chain = buffers::put_bytes(buf, 0, chain);
     let past = put_parts(f, bands, coef, edges, m, draft, buf, past_chain);
     match past {
-        Walk::Refused(e) => buffers::refuse(e, buf),
-        Walk::Next(size) => {
+        Err(e) => buffers::refuse(e, buf),
+        Ok(size) => {
             if buf.len() < size {
                 return buffers::refuse(files::refusals::short(), buf);
             }
-            Written::Length(size)
+            Ok(size)
         }
     }
 }
@@ -116,7 +116,7 @@ fn write_start_most(
     m: usize,
     chain: &[u8],
     buf: &mut [u8],
-) -> Written
+) -> Result<usize, Refusal>
     requires { (m ≤ most_above) × FramesSound f bands.now coef.now edges.now m }
     ensures answer { result ≡ (left (behind_chain chain.now (frames_tables f bands.now coef.now edges.now m)) buf.old).answer }
     ensures bytes { buf.new ≡ (left (behind_chain chain.now (frames_tables f bands.now coef.now edges.now m)) buf.old).buffer }
@@ -134,7 +134,7 @@ fn write_start_own(
     m: usize,
     chain: &[u8],
     buf: &mut [u8],
-) -> Written
+) -> Result<usize, Refusal>
     requires { (m ≤ most_above) × FramesSound f bands.now coef.now edges.now m }
     ensures answer { result ≡ (left (behind_chain chain.now (frames_tables f bands.now coef.now edges.now m)) buf.old).answer }
     ensures bytes { buf.new ≡ (left (behind_chain chain.now (frames_tables f bands.now coef.now edges.now m)) buf.old).buffer }
@@ -158,7 +158,7 @@ fn make_start<'a>(
     chain: &[u8],
     form: usize,
     buf: &mut [u8],
-) -> Written
+) -> Result<usize, Refusal>
     requires frame { PlantSound f bands.now coef.now }
     requires root { within (box_of f.n f.root) (box_of f.n f.safe) ≡ true }
     ensures answer { result ≡ (chain_left f bands.now coef.now chain.now form buf.old).answer }
@@ -167,8 +167,8 @@ fn make_start<'a>(
     let read = chains::read_chain(f, true, chain);
     let verdict = read.verdict;
     match verdict {
-        Verdict::Refused(e) => buffers::refuse(e, buf),
-        Verdict::Accepted => {
+        Err(e) => buffers::refuse(e, buf),
+        Ok(()) => {
             if headers::known(form) {
                 let own = frames::formed(f, form);
                 return write_start_own(own, bands, coef, &read.edges, read.m, chain, buf);
@@ -186,7 +186,7 @@ fn start_make_in(
     chain: &[u8],
     form: usize,
     buf: &mut [u8],
-) -> Written
+) -> Result<usize, Refusal>
     requires { RoomFor plant.now bands.old coef.old }
     ensures answer { result ≡ (start_left plant.now chain.now form buf.old).answer }
     ensures bytes { buf.new ≡ (start_left plant.now chain.now form buf.old).buffer }
@@ -194,15 +194,15 @@ fn start_make_in(
     let read = plants::read_plant(plant, bands, coef);
     let verdict = read.verdict;
     match verdict {
-        Verdict::Refused(e) => buffers::refuse(e, buf),
-        Verdict::Accepted => {
+        Err(e) => buffers::refuse(e, buf),
+        Ok(()) => {
             make_start(frames::framed(read.outline), bands, coef, chain, form, buf)
         }
     }
 }
 
 // In arrays for any plant.
-fn start_make_many(plant: &[u8], chain: &[u8], form: usize, buf: &mut [u8]) -> Written
+fn start_make_many(plant: &[u8], chain: &[u8], form: usize, buf: &mut [u8]) -> Result<usize, Refusal>
     ensures answer { result ≡ (start_left plant.now chain.now form buf.old).answer }
     ensures bytes { buf.new ≡ (start_left plant.now chain.now form buf.old).buffer }
 {
@@ -212,7 +212,7 @@ fn start_make_many(plant: &[u8], chain: &[u8], form: usize, buf: &mut [u8]) -> W
 }
 
 // The start file for a plant's file and a chain's, its tables of one form: plant, chain, 15, 2 where the form is not known, 9, 10.
-pub fn start_make(plant: &[u8], chain: &[u8], form: usize, buf: &mut [u8]) -> Written
+pub fn start_make(plant: &[u8], chain: &[u8], form: usize, buf: &mut [u8]) -> Result<usize, Refusal>
     ensures answer { result ≡ (start_left plant.now chain.now form buf.old).answer }
     ensures bytes { buf.new ≡ (start_left plant.now chain.now form buf.old).buffer }
 {

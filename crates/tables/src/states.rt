@@ -5,7 +5,7 @@ ghost use Rattle.meaning.specs.Control.{can_run, mode_at};
 
 use crate::{modes, refusals};
 use files::numbers;
-use meaning::{Answer, Number, State, Walk};
+use meaning::State;
 
 // Whether `left` modes, at most k, stand in the table from `place` on behind its header, each a mode: all of them are read, as those of a tile are.
 pub fn can_run(k: usize, modes: usize, table: &[u8], place: usize, left: usize) -> bool
@@ -21,30 +21,30 @@ pub fn can_run(k: usize, modes: usize, table: &[u8], place: usize, left: usize) 
     let read = modes::read_modes(modes, left, table, place);
     let answer = read.answer;
     match answer {
-        Walk::Refused(_) => false,
-        Walk::Next(_) => true,
+        Err(_) => false,
+        Ok(_) => true,
     }
 }
 
 // The mode at a place with that many left, itself counted, and the state behind it: at the number that follows, or idle behind the last. That none is
 // left does not occur: a tile has modes, and a running state has some left.
-pub fn answer(table: &[u8], place: usize, left: usize) -> Answer
+pub fn answer(table: &[u8], place: usize, left: usize) -> Result<(usize, State), Refusal>
     ensures { result ≡ mode_at table.now place left }
 {
     if left == 0 {
-        return Answer::Refused(refusals::bad_state());
+        return Err(refusals::bad_state());
     }
-    let Number::Value(u, next) = numbers::number(table, place) else {
-        return Answer::Refused(refusals::bad_state());
+    let Some((u, next)) = numbers::number(table, place) else {
+        return Err(refusals::bad_state());
     };
     if left == 1 {
-        return Answer::Mode(u, State { place: 0, left: 0 });
+        return Ok((u, State { place: 0, left: 0 }));
     }
-    Answer::Mode(
+    Ok((
         u,
         State {
             place: next,
             left: left - 1,
         },
-    )
+    ))
 }

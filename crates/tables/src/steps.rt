@@ -13,13 +13,12 @@ ghost use Rattle.tables.specs.Levels.{wide, room, side_in, box_in, Beside};
 ghost use Rattle.tables.specs.Limits.{add_limit, limits_size, safe_at, goal_at, mark_at, offset_at, sum_side, sums_at, covered, stays_lent, lands_lent, image_lent, landing, divided_in, Within, RowsSound, BandsSound, last_entries, last_offset, MarksLent};
 ghost use Rattle.tables.specs.Search.{one_of};
 
-use crate::images::Span;
 use crate::levels::{ROOM, WIDE};
 use crate::limits::{GOAL, PAIR, SPAN};
 use crate::{boxes, division, images, levels};
 
 // The least and the greatest of A·x + b over the box at `place`, by the row that starts at `start`.
-fn sums(n: usize, coef: &[i64], start: usize, boxes: &[i64; ROOM], place: usize) -> Span
+fn sums(n: usize, coef: &[i64], start: usize, boxes: &[i64; ROOM], place: usize) -> Result<(i64, i64, usize), Refusal>
     requires { RowSound n coef.now start × (place + wide ≤ room) × Small edge_limit (box_in n boxes.now place) }
     ensures sides { side result.lo result.hi ≡ sum_side n coef.now start (box_in n boxes.now place) }
     ensures sizes { (nat_abs result.lo ≤ add_limit) × (nat_abs result.hi ≤ add_limit) }
@@ -153,10 +152,10 @@ fn shared(
     coef: &[i64],
     marks: &[i64],
     u: usize,
-    e: Span,
+    e: Result<(i64, i64, usize), Refusal>,
     boxes: &[i64; ROOM],
     place: usize,
-) -> Span
+) -> Result<(i64, i64, usize), Refusal>
     requires row { (mark_at u < length marks.now) × (1 ≤ n) × RowsSound n coef.now u × (place + wide ≤ room) × Small edge_limit (box_in n boxes.now place) }
     requires kept { (at marks.now (mark_at u) ≡ pos 0 → ⊥) → Extremes (last_entries n coef.now u) (box_in n boxes.now place) e.lo e.hi }
     ensures { Extremes (last_entries n coef.now u) (box_in n boxes.now place) result.lo result.hi }
@@ -177,7 +176,7 @@ fn lands(
     limits: &[i64],
     marks: &[i64],
     u: usize,
-    e: Span,
+    e: Result<(i64, i64, usize), Refusal>,
     boxes: &[i64; ROOM],
     place: usize,
 ) -> bool

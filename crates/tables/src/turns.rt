@@ -14,7 +14,6 @@ use crate::boxes::Bx;
 use crate::frames::{Counts, Frame};
 use crate::{boxes, frames, lengths};
 use files::{buffers, numbers};
-use meaning::{Number, Walk, Written};
 
 // The place behind a tree, and how many bytes it has where lengths are told.
 #[derive(Clone, Copy)]
@@ -35,8 +34,8 @@ fn passed(k: usize, table: &[u8], at: usize) -> usize
     ensures { Passed k table.now at result }
 {
     match lengths::behind(k, table, at) {
-        Walk::Next(m) => m,
-        Walk::Refused(_) => at,
+        Ok(m) => m,
+        Err(_) => at,
     }
 }
 
@@ -57,7 +56,7 @@ fn sized(f: Counts, table: &[u8], d: usize, b: Bx, at: usize) -> Size
     requires { CountsSound f × Small edge_limit (box_of f.n b) × SomeTree f false table.now d (box_of f.n b) at }
     ensures { Measured f table.now d (box_of f.n b) at result }
 {
-    let Number::Value(k, next) = numbers::number(table, at) else {
+    let Some((k, next)) = numbers::number(table, at) else {
         return Size {
             behind: at,
             size: 0,
@@ -167,7 +166,7 @@ fn turn(
     requires { CountsSound f × Small edge_limit (box_of f.n b) × SomeTree f told table.now d (box_of f.n b) at }
     ensures { Turns f told table.now d (box_of f.n b) at buf.old to result buf.new }
 {
-    let Number::Value(k, next) = numbers::number(table, at) else {
+    let Some((k, next)) = numbers::number(table, at) else {
         return Turned { behind: at, to };
     };
     if 0 < k {
@@ -235,7 +234,7 @@ pub fn table_size(f: Frame, table: &[u8]) -> usize
 }
 
 // That table as a writer leaves it: 10.
-pub fn leave(f: Frame, told: bool, form: usize, table: &[u8], buf: &mut [u8]) -> Written
+pub fn leave(f: Frame, told: bool, form: usize, table: &[u8], buf: &mut [u8]) -> Result<usize, Refusal>
     requires { FrameSound f × SomeTable f told table.now }
     ensures { TableLeft f told form table.now buf.old result buf.new }
 {
@@ -243,5 +242,5 @@ pub fn leave(f: Frame, told: bool, form: usize, table: &[u8], buf: &mut [u8]) ->
     if buf.len() < size {
         return buffers::refuse(files::refusals::short(), buf);
     }
-    Written::Length(size)
+    Ok(size)
 }

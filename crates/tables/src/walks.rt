@@ -15,7 +15,7 @@ use crate::boxes::Bx;
 use crate::frames::Counts;
 use crate::{boxes, lengths, modes, refusals, tiles};
 use files::numbers;
-use meaning::{Number, Tried, Walk};
+use meaning::Tried;
 
 // The tile at `at`, whose k modes begin at `from`: all of them are read before an image is tested. A fault of the pattern is told at the tile.
 fn tile(
@@ -29,7 +29,7 @@ fn tile(
     k: usize,
     from: usize,
     b: Bx,
-) -> Walk
+) -> Result<usize, Refusal>
     requires frame { FrameSound (frame_from f edges.now) × Small edge_limit (box_of f.n b) × (judged ≡ true → ModesSound f.n f.modes f.q bands.now coef.now) }
     requires size { k ≤ f.k }
     ensures { result ≡ on_modes (modes_at f.modes k table.now from) at (judge_by judged (rules_in (frame_from f edges.now) bands.now coef.now) (box_of f.n b)) }
@@ -37,17 +37,17 @@ fn tile(
     let read = modes::read_modes(f.modes, k, table, from);
     let past = read.answer;
     match past {
-        Walk::Refused(e) => Walk::Refused(e),
-        Walk::Next(next) => {
+        Err(e) => Err(e),
+        Ok(next) => {
             if judged {
                 let us = read.us;
                 match tiles::tile_rule(f, edges, bands, coef, k, us, b) {
-                    Tried::Works => Walk::Next(next),
-                    Tried::Leaves(i) => Walk::Refused(refusals::leaves(at, i)),
-                    Tried::Misses(i) => Walk::Refused(refusals::misses(at, i)),
+                    Tried::Works => Ok(next),
+                    Tried::Leaves(i) => Err(refusals::leaves(at, i)),
+                    Tried::Misses(i) => Err(refusals::misses(at, i)),
                 }
             } else {
-                Walk::Next(next)
+                Ok(next)
             }
         }
     }
@@ -65,39 +65,39 @@ pub fn walk(
     d: usize,
     at: usize,
     b: Bx,
-) -> Walk
+) -> Result<usize, Refusal>
     requires { FrameSound (frame_from f edges.now) × Small edge_limit (box_of f.n b) × (judged ≡ true → ModesSound f.n f.modes f.q bands.now coef.now) × (tells f.form ≡ false) }
     ensures { result ≡ walk_by judged (rules_in (frame_from f edges.now) bands.now coef.now) d table.now at (box_of f.n b) }
 {
-    let Number::Value(k, next) = numbers::number(table, at) else {
-        return Walk::Refused(files::refusals::broken(at));
+    let Some((k, next)) = numbers::number(table, at) else {
+        return Err(files::refusals::broken(at));
     };
     if f.k < k {
-        return Walk::Refused(refusals::bad_table(at));
+        return Err(refusals::bad_table(at));
     }
     if 0 < k {
         return tile(f, edges, bands, coef, judged, table, at, k, next, b);
     }
     if d == 0 {
-        return Walk::Refused(refusals::bad_table(at));
+        return Err(refusals::bad_table(at));
     }
     let n = f.n;
     let count = boxes::count(f.form, n, b);
     if count == 0 {
-        return Walk::Refused(refusals::bad_table(at));
+        return Err(refusals::bad_table(at));
     }
     let mut place = next;
     let mut c: usize = 0;
     while c < count {
         let child = boxes::child(f.form, n, b, c);
         let past = walk(f, edges, bands, coef, judged, table, d - 1, place, child);
-        let Walk::Next(m) = past else {
+        let Ok(m) = past else {
             return past;
         };
         place = m;
         c += 1;
     }
-    Walk::Next(place)
+    Ok(place)
 }
 
 // The same of any form. Where a split tells lengths, all are read before its children, and each child is held to its own as soon as it is read; the cursor
@@ -112,15 +112,15 @@ pub fn walk_told(
     d: usize,
     at: usize,
     b: Bx,
-) -> Walk
+) -> Result<usize, Refusal>
     requires { FrameSound (frame_from f edges.now) × Small edge_limit (box_of f.n b) × (judged ≡ true → ModesSound f.n f.modes f.q bands.now coef.now) }
     ensures { result ≡ walk_by judged (rules_in (frame_from f edges.now) bands.now coef.now) d table.now at (box_of f.n b) }
 {
-    let Number::Value(k, next) = numbers::number(table, at) else {
-        return Walk::Refused(files::refusals::broken(at));
+    let Some((k, next)) = numbers::number(table, at) else {
+        return Err(files::refusals::broken(at));
     };
     if f.k < k {
-        return Walk::Refused(refusals::bad_table(at));
+        return Err(refusals::bad_table(at));
     }
     if 0 < k {
         // A tile is judged alike in every form. It is asked of the other walk, so that the tile's function is called in one place and the compiler keeps it in
@@ -136,15 +136,15 @@ pub fn walk_told(
         return walk(plain, edges, bands, coef, judged, table, d, at, b);
     }
     if d == 0 {
-        return Walk::Refused(refusals::bad_table(at));
+        return Err(refusals::bad_table(at));
     }
     let count = boxes::count(f.form, f.n, b);
     if count == 0 {
-        return Walk::Refused(refusals::bad_table(at));
+        return Err(refusals::bad_table(at));
     }
     let told = lengths::told(f.form, count);
     let behind = lengths::behind(told, table, next);
-    let Walk::Next(first) = behind else {
+    let Ok(first) = behind else {
         return behind;
     };
     let mut cursor = next;
@@ -153,16 +153,16 @@ pub fn walk_told(
     while c < count {
         let child = boxes::child(f.form, f.n, b, c);
         let past = walk_told(f, edges, bands, coef, judged, table, d - 1, place, child);
-        let Walk::Next(m) = past else {
+        let Ok(m) = past else {
             return past;
         };
         let held = lengths::held(c < told, table, cursor, place, m);
-        let Walk::Next(then) = held else {
+        let Ok(then) = held else {
             return held;
         };
         cursor = then;
         place = m;
         c += 1;
     }
-    Walk::Next(place)
+    Ok(place)
 }

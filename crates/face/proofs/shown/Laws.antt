@@ -1,7 +1,6 @@
 -- One verdict, or writer's answer, shown as another that it equals. Assumes nothing.
 use mathlib.Core.Path.{◌≡◌, ap}
-use Rattle.meaning.specs.declared.Verdict.{Verdict}
-use Rattle.meaning.specs.declared.Written.{Written}
+use Rattle.meaning.specs.Answers.{Verdict, Written}
 use Rattle.meaning.specs.Refusals.{verdict_shown, written_shown}
 use Rattle.face.specs.Shown.{place_and_step, length_or_place}
 

@@ -1,4 +1,5 @@
 -- A beginning read and judged part by part. Assumes nothing.
+use Rattle.std.specs.Prelude.{Ok, Err}
 use Prim.Native.Nat.{ℕ, ◌≤◌, ◌<◌}
 use mathlib.Core.Path.{◌≡◌, refl, ap, ◌∙◌, subst}
 use mathlib.Core.Bool.{Bool, true, false}
@@ -8,9 +9,8 @@ use lib.ListN.{length}
 use Rattle.laws.specs.Lists.{all, first_false}
 use Rattle.laws.specs.Tabs.{length-tab}
 use Rattle.laws.specs.Tests.{first-within, first-behind}
+use Rattle.meaning.specs.Answers.{Walk}
 use Rattle.meaning.specs.declared.Refusal.{Refusal}
-use Rattle.meaning.specs.declared.Verdict.{Verdict}
-use Rattle.meaning.specs.declared.Walk.{Walk}
 use Rattle.meaning.specs.Refusals.{not_in_safe, narrow}
 use Rattle.meaning.specs.Files.{Form, refused, values_at}
 use Rattle.meaning.specs.Boxes.{sides_of, lies}
@@ -45,7 +45,7 @@ module _ (b : Beginning) where
   all_wide-long = ap length (wide-tab b.q b.wlo b.whi b.n) ∙ length-tab (broad b.q b.wlo b.whi) b.n 0
 
   module _ (o : ℕ) (i : o ≡ first_false (lies (sides_of b.n b.rlo b.rhi) (sides_of b.n b.slo b.shi))) where
-    pub out-told : o < b.n → Verdict.Refused (not_in_safe o) ≡ relation b
+    pub out-told : o < b.n → Err (not_in_safe o) ≡ relation b
     unfolding in_safe
     out-told h =
         let a : all in_safe ≡ false = first-within in_safe (omega (arith, in_safe-long, i)) in
@@ -56,13 +56,13 @@ module _ (b : Beginning) where
       unfolding in_safe
       all_in = first-behind in_safe (omega (arith, in_safe-long, i))
 
-      pub thin-told : k < b.n → Verdict.Refused (narrow 0 k) ≡ relation b
+      pub thin-told : k < b.n → Err (narrow 0 k) ≡ relation b
       unfolding all_wide wide_modes
       thin-told h =
           let a : all all_wide ≡ false = first-within all_wide (omega (arith, all_wide-long, j)) in
           simp (all_in, a) (rw j refl)
 
-      pub all_told : b.n ≤ k → Verdict.Accepted ≡ relation b
+      pub all_told : b.n ≤ k → Ok tt ≡ relation b
       unfolding all_wide wide_modes
       all_told h =
           let a : all all_wide ≡ true = first-behind all_wide (omega (arith, all_wide-long, j)) in
@@ -108,13 +108,13 @@ pub header-told : (forms most : ℕ) (s : List ℕ) (h : Header) (from : ℕ) (r
 header-told forms most s h from r t u = go r.answer u
   where
     go : (w : Walk) → BoundsAs s h from r w → BegunAs forms most s r w
-    go (Walk.Refused e) v = (
+    go (Err e) v = (
       v.0,
       λ rest.
           t.holds (λ form n m. edges_and_bands n (rest form n m))
           ∙ ap (behind (head_numbers h)) (v.1.fails (rest h.form h.n h.m)) ∙ behind-refused (head_numbers h) e,
     )
-    go (Walk.Next next) v = (
+    go (Ok next) v = (
       subst (λ (x : Header). Headed forms most s x from → BoundsRead s x from r.beginning next → Begun forms most s r.beginning next) v.0.same (begun forms most s r.beginning from next) t v.0,
       v.1,
     )

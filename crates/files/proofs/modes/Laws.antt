@@ -1,5 +1,6 @@
 -- The bands and rows of a plant's modes, as lists and in their two arrays: laid, of each mode as they were with later modes behind them, and judged.
 -- Assumes nothing.
+use Rattle.std.specs.Prelude.{Ok}
 use Prim.Native.Nat.{ℕ, zero, suc, ◌+◌, ◌-◌, ◌*◌, ◌≤◌, ◌<◌}
 use mathlib.Core.Path.{◌≡◌, refl, sym, ap, ◌∙◌}
 use mathlib.Core.Bool.{Bool, true, false}
@@ -18,7 +19,7 @@ use Rattle.laws.specs.Columns.{tab-at, tab-front}
 use Rattle.laws.specs.Tabs.{get_d-tab, get_d-tabs, tab-same, tabs-step, tabs-done, length-tabs}
 use Rattle.laws.specs.Tests.{first-within, first-behind}
 use Rattle.laws.specs.Writing.{sets-out, sets-append}
-use Rattle.meaning.specs.declared.Verdict.{Verdict}
+use Rattle.meaning.specs.Answers.{Verdict}
 use Rattle.meaning.specs.Refusals.{narrow}
 use Rattle.meaning.specs.Files.{good, bad}
 use Rattle.meaning.specs.Boxes.{Side, side_at, sides_of}
@@ -164,14 +165,14 @@ module _ (q : ℕ) where
   abbrev pub said : ℕ → List (List Side) → Verdict
   said u modes = verdict_of {A = Unit {0}} (wide_modes q u modes λ _. good tt)
 
-  one-said : (b : List Side) (n u thin : ℕ) → length b ≡ n → thin ≡ first_false (map (wide q) b) → said u (b ∷ []) ≡ after_mode Verdict.Accepted n u thin
+  one-said : (b : List Side) (n u thin : ℕ) → length b ≡ n → thin ≡ first_false (map (wide q) b) → said u (b ∷ []) ≡ after_mode (Ok tt) n u thin
   unfolding wide_modes
   one-said b n u thin long e = go (dec_lt thin n)
     where
       size : length (map (wide q) b) ≡ n
       size = length-map b (wide q) ∙ long
 
-      go : Dec (thin < n) → said u (b ∷ []) ≡ after_mode Verdict.Accepted n u thin
+      go : Dec (thin < n) → said u (b ∷ []) ≡ after_mode (Ok tt) n u thin
       go (yes h) = let a = first-within (map (wide q) b) (omega (arith, size, e)) in simp (a, lt-ltb _ _ h) (rw e refl)
       go (no h) = let l : n ≤ thin = omega arith in let a = first-behind (map (wide q) b) (omega (arith, size, e)) in simp (a, le-ltb _ _ l)
 

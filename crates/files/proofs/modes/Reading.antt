@@ -1,4 +1,5 @@
 -- The modes of a plant's file, read: one of form 2, those behind mode 0, and all of either form. Relies on page Laws.
+use Rattle.std.specs.Prelude.{Ok, Err}
 use Prim.Native.Nat.{ℕ, suc, ◌+◌, ◌-◌, ◌*◌, ◌≤◌, ◌<◌}
 use mathlib.Core.Path.{◌≡◌, refl, sym, ap, ◌∙◌, subst}
 use mathlib.Core.Bool.{Bool, true, false}
@@ -12,9 +13,8 @@ use Rattle.laws.specs.Columns.{tabs-tab, tabs-later, tab-moved, tab-at, tab-behi
 use Rattle.laws.specs.Lists.{at, tab, tabs, all, first_false}
 use Rattle.laws.specs.Tabs.{length-tab, length-tabs, get_d-tab, get_d-tabs, tab-same}
 use Rattle.laws.specs.Tests.{never}
+use Rattle.meaning.specs.Answers.{Walk, Verdict}
 use Rattle.meaning.specs.declared.Refusal.{Refusal}
-use Rattle.meaning.specs.declared.Verdict.{Verdict}
-use Rattle.meaning.specs.declared.Walk.{Walk}
 use Rattle.meaning.specs.Refusals.{not_in_safe}
 use Rattle.meaning.specs.Files.{end, read, refused, values_at, good, bad}
 use Rattle.meaning.specs.Boxes.{Side, sides_of, lies}
@@ -65,8 +65,8 @@ module _ (s : List ℕ) (at' n q u : ℕ) where
     pub mode-told : (bands₀ bands coef₀ coef : List ℤ) (thin : ℕ) (r : Walk) → bands ≡ sets bands₀ (2 * n * u) (tabs (band_of w.wlo w.whi) n 0)
         → RowsTold s mid n n (n * (n + 1) * u) coef₀ coef r
         → thin ≡ first_false (map (wide q) (sides_of n w.wlo w.whi)) → ModeAs s at' n q u bands₀ coef₀ bands coef thin r
-    mode-told bands₀ bands coef₀ coef thin (Walk.Next next) l r e = mode-held thin next l r e
-    mode-told bands₀ bands coef₀ coef thin (Walk.Refused e') l r e = mode-rows-refused e' r
+    mode-told bands₀ bands coef₀ coef thin (Ok next) l r e = mode-held thin next l r e
+    mode-told bands₀ bands coef₀ coef thin (Err e') l r e = mode-rows-refused e' r
 
 -- ---- the modes behind mode 0, u - 1 of them done
 
@@ -171,12 +171,12 @@ module _ (s : List ℕ) (b : Beginning) (at' : ℕ) where
             let up : 1 + (u - 1) ≡ u = omega (arith, w.some) in
             length-append first w.ends ∙ rw (long, w.numbers.ends-long) (one_more (2 * b.n) (u - 1) ∙ ap (λ (k : ℕ). 2 * b.n * k) up)
 
-    pub further-stop : (r : Walk) (e : Refusal) → r ≡ Walk.Refused e → (bands' coef' : List ℤ) (thin : ℕ) (related' told' : Verdict) → u < b.m
+    pub further-stop : (r : Walk) (e : Refusal) → r ≡ Err e → (bands' coef' : List ℤ) (thin : ℕ) (related' told' : Verdict) → u < b.m
         → ModeAs s p b.n b.q u bands coef bands' coef' thin r → FurtherAs s b at' related' told' bands₀ coef₀ bands' coef' r
     further-stop r e q bands' coef' thin related' told' h t =
         rw q (rows-fails w.done (omega (arith, w.some)) (subst (ModeAs s p b.n b.q u bands coef bands' coef' thin) q t))
 
-    pub further-all : b.m ≤ u → FurtherAs s b at' related told bands₀ coef₀ bands coef (Walk.Next p)
+    pub further-all : b.m ≤ u → FurtherAs s b at' related told bands₀ coef₀ bands coef (Ok p)
     further-all h = let j : u ≡ b.m = omega (arith, w.few) in subst (λ (x : ℕ). FurtherTo s b at' x related told bands₀ coef₀ bands coef p) j w
 
 -- ---- all modes of form 2
@@ -186,7 +186,7 @@ module _ (s : List ℕ) (b : Beginning) (at' : ℕ) (own : own_bands b.form ≡ 
   own-refused e t = t.fails (times (b.m - 1) (mode_form b.n) end)
 
   -- rows of mode 0 that are not there
-  pub own-cut : (r : Walk) (e : Refusal) → r ≡ Walk.Refused e → (coef₀ coef bands₀ bands : List ℤ) (told : Verdict)
+  pub own-cut : (r : Walk) (e : Refusal) → r ≡ Err e → (coef₀ coef bands₀ bands : List ℤ) (told : Verdict)
       → RowsTold s at' b.n b.n 0 coef₀ coef r → ModesAs s b at' bands₀ coef₀ bands coef told r
   own-cut r e q coef₀ coef bands₀ bands told t = rw q (rw own (own-refused e (subst (RowsTold s at' b.n b.n 0 coef₀ coef) q t)))
 
@@ -225,8 +225,8 @@ module _ (s : List ℕ) (b : Beginning) (at' : ℕ) (own : own_bands b.form ≡ 
         one-said = sym (rw (one-sides b.n b.wlo b.whi) refl)
 
     pub own-told : (r' : Walk) → FurtherAs s b mid related told bands coef bands' coef' r' → ModesAs s b at' bands₀ coef₀ bands' coef' told r'
-    own-told (Walk.Next next) f = own_held f
-    own-told (Walk.Refused e) f = rw own ((holds-fails r.part f).fails end)
+    own-told (Ok next) f = own_held f
+    own-told (Err e) f = rw own ((holds-fails r.part f).fails end)
 
 -- ---- form 1: every mode has the bands of the beginning
 
@@ -291,5 +291,5 @@ module _ (s : List ℕ) (b : Beginning) (at' : ℕ) (some : 1 ≤ b.m) (own : ow
   pub alike-told : (bands₀ bands coef₀ coef : List ℤ) {told : Verdict} (r : Walk) → bands ≡ sets bands₀ 0 (ends_alike b.n b.wlo b.whi b.m) → told ≡ relation b
       → RowsTold s at' b.n (b.m * b.n) 0 coef₀ coef r → ModesAs s b at' bands₀ coef₀ bands coef told r
   unfolding ends
-  alike-told bands₀ bands coef₀ coef (Walk.Next next) l e t = alike-held l e t
-  alike-told bands₀ bands coef₀ coef (Walk.Refused r) l e t = rw own (t.fails end)
+  alike-told bands₀ bands coef₀ coef (Ok next) l e t = alike-held l e t
+  alike-told bands₀ bands coef₀ coef (Err r) l e t = rw own (t.fails end)

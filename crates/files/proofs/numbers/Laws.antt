@@ -1,4 +1,5 @@
 -- Laws of the number reader's and writer's loops, in the terms of their proofs. Assumes nothing.
+use Rattle.std.specs.Prelude.{Some, None}
 use Prim.Native.Nat.{ℕ, zero, suc, ◌+◌, ◌-◌, ◌*◌, ◌/◌, ◌%◌, ◌^◌, ◌<◌, ◌≤◌}
 use mathlib.Core.Path.{◌≡◌, refl, sym, ap, ◌∙◌, subst}
 use mathlib.Core.Bool.{true, false, cond}
@@ -16,8 +17,6 @@ use Rattle.laws.specs.Integers.{zarith, sub}
 use mir.Syntax.{w64}
 use mir.Val.{SFits, to_z, of_z}
 use mir.Facts.{to_z_pos, to_z-of_z}
-use Rattle.meaning.specs.declared.Number.{Number}
-use Rattle.meaning.specs.declared.Signed.{Signed}
 use Rattle.meaning.specs.Numbers.{groups_at, last_group, groups_of, stored, as_signed}
 
 -- ---- the reader: one law for each way out of a turn, after k of at most 5 bytes. The weight of group k is 2 ^ (7 * k)
@@ -32,28 +31,28 @@ weight-next k w e =
 pub group-le : (b w : ℕ) → b < 128 → b * w ≤ 127 * w
 group-le b w h = let g : b ≤ 127 = omega arith in mul-le-mul_right w g
 
-pub over : (s : List ℕ) (i v w k : ℕ) → 5 ≤ k → groups_at (5 - k) s i v w ≡ Number.Broken
+pub over : (s : List ℕ) (i v w k : ℕ) → 5 ≤ k → groups_at (5 - k) s i v w ≡ None
 unfolding groups_at
 over s i v w k h = let q : 5 - k ≡ 0 = omega arith in rw q refl
 
 module _ (s : List ℕ) (i v w k : ℕ) (h : k < 5) where
   turn : groups_at (5 - k) s i v w
       ≡ cond (ltb i (length s))
-      (cond (ltb (get_or s i 0) 128) (last_group (get_or s i 0) i v w) (cond (ltb (get_or s i 0) 256) (groups_at (5 - (k + 1)) s (i + 1) (v + (get_or s i 0 - 128) * w) (w * 128)) Number.Broken))
-      Number.Broken
+      (cond (ltb (get_or s i 0) 128) (last_group (get_or s i 0) i v w) (cond (ltb (get_or s i 0) 256) (groups_at (5 - (k + 1)) s (i + 1) (v + (get_or s i 0 - 128) * w) (w * 128)) None))
+      None
   unfolding groups_at
   turn = let q : 5 - k ≡ suc (5 - (k + 1)) = omega arith in rw q refl
 
-  pub short : length s ≤ i → groups_at (5 - k) s i v w ≡ Number.Broken
+  pub short : length s ≤ i → groups_at (5 - k) s i v w ≡ None
   short e = turn ∙ simp (le-ltb _ _ e)
 
-  pub zero-first : i < length s → get_or s i 0 ≡ 0 → w ≡ 1 → groups_at (5 - k) s i v w ≡ Number.Value 0 (i + 1)
+  pub zero-first : i < length s → get_or s i 0 ≡ 0 → w ≡ 1 → groups_at (5 - k) s i v w ≡ Some (0, i + 1)
   zero-first l z e = turn ∙ simp (lt-ltb _ _ l, z, e)
 
-  pub zero-late : i < length s → get_or s i 0 ≡ 0 → (w ≡ 1 → ⊥) → groups_at (5 - k) s i v w ≡ Number.Broken
+  pub zero-late : i < length s → get_or s i 0 ≡ 0 → (w ≡ 1 → ⊥) → groups_at (5 - k) s i v w ≡ None
   zero-late l z e = turn ∙ simp (lt-ltb _ _ l, z, ne_eqb _ _ e)
 
-  pub last : i < length s → get_or s i 0 < 128 → (get_or s i 0 ≡ 0 → ⊥) → groups_at (5 - k) s i v w ≡ Number.Value (v + get_or s i 0 * w) (i + 1)
+  pub last : i < length s → get_or s i 0 < 128 → (get_or s i 0 ≡ 0 → ⊥) → groups_at (5 - k) s i v w ≡ Some (v + get_or s i 0 * w, i + 1)
   last l b z = turn ∙ simp (lt-ltb _ _ l, lt-ltb _ _ b, ne_eqb _ _ z)
 
   pub more : i < length s → 128 ≤ get_or s i 0 → get_or s i 0 < 256 → groups_at (5 - k) s i v w ≡ groups_at (5 - (k + 1)) s (i + 1) (v + (get_or s i 0 - 128) * w) (w * 128)
@@ -64,7 +63,7 @@ module _ (s : List ℕ) (i v w k : ℕ) (h : k < 5) where
 half-fits : (v : ℕ) → v < 2 ^ 64 → to_z w64 (v / 2) ≡ pos (v / 2)
 half-fits v h = to_z_pos w64 (omega arith)
 
-pub even-half : (v next : ℕ) → v < 2 ^ 64 → v % 2 ≡ 0 → Signed.Value (to_z w64 (v / 2)) next ≡ as_signed (Number.Value v next)
+pub even-half : (v next : ℕ) → v < 2 ^ 64 → v % 2 ≡ 0 → Some (to_z w64 (v / 2), next) ≡ as_signed (Some (v, next))
 even-half v next h e = simp (half-fits v h, e)
 
 -- −1 − v / 2, which an i64 holds
@@ -75,7 +74,7 @@ below-zero (suc n) = ap negsuc (omega arith)
 pub odd-fits : (v : ℕ) → v < 2 ^ 64 → SFits w64 (negsuc 0 -ℤ to_z w64 (v / 2))
 odd-fits v h = rw (half-fits v h, below-zero (v / 2)) (record { sfits = omega arith })
 
-pub odd-half : (v next : ℕ) → v < 2 ^ 64 → (v % 2 ≡ 0 → ⊥) → Signed.Value (to_z w64 (of_z w64 (negsuc 0 -ℤ to_z w64 (v / 2)))) next ≡ as_signed (Number.Value v next)
+pub odd-half : (v next : ℕ) → v < 2 ^ 64 → (v % 2 ≡ 0 → ⊥) → Some (to_z w64 (of_z w64 (negsuc 0 -ℤ to_z w64 (v / 2))), next) ≡ as_signed (Some (v, next))
 odd-half v next h n =
     rw (to_z-of_z (odd-fits v h), half-fits v h, below-zero (v / 2))
     (simp (ne_eqb _ _ n))

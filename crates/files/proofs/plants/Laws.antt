@@ -1,5 +1,6 @@
 -- A plant's file behind its beginning: refused by its first mode that is; else its numbers are the plant's numbers, and the plant is judged as a whole.
 -- Relies on page Bodies, and on promises' page Plants.
+use Rattle.std.specs.Prelude.{Some, None, Ok, Err}
 use Prim.Native.Nat.{ℕ, suc, ◌+◌, ◌-◌, ◌*◌, ◌≤◌}
 use mathlib.Core.Path.{◌≡◌, refl, sym, ap, ◌∙◌}
 use mathlib.Core.Bool.{Bool, true, false, cond}
@@ -9,9 +10,8 @@ use lib.ListN.{length, replicate}
 use lib.IntN.{ℤ, pos, nat_abs}
 use Rattle.laws.specs.Lists.{tab, tabs}
 use Rattle.laws.specs.Guards.{guard}
-use Rattle.meaning.specs.declared.Number.{Number}
+use Rattle.meaning.specs.Answers.{Verdict}
 use Rattle.meaning.specs.declared.Refusal.{Refusal}
-use Rattle.meaning.specs.declared.Verdict.{Verdict}
 use Rattle.meaning.specs.declared.PlantRead.{PlantRead}
 use Rattle.meaning.specs.Refusals.{unfit}
 use Rattle.meaning.specs.Numbers.{number_at}
@@ -29,21 +29,21 @@ use Rattle.files.specs.Plants.{modes_told, Answered, body_of, outline_in, plant_
 -- ---- the modes that a file says it has
 
 module _ (s : List ℕ) where
-  pub form-broken : number_at s 0 ≡ Number.Broken → 0 ≡ modes_told s
+  pub form-broken : number_at s 0 ≡ None → 0 ≡ modes_told s
   unfolding modes_told
   form-broken e = rw e refl
 
-  module _ {form a : ℕ} (e : number_at s 0 ≡ Number.Value form a) where
-    pub n-broken : number_at s a ≡ Number.Broken → 0 ≡ modes_told s
+  module _ {form a : ℕ} (e : number_at s 0 ≡ Some (form, a)) where
+    pub n-broken : number_at s a ≡ None → 0 ≡ modes_told s
     unfolding modes_told
     n-broken g = rw (e, g) refl
 
-    module _ {n b : ℕ} (g : number_at s a ≡ Number.Value n b) where
-      pub modes-broken : number_at s b ≡ Number.Broken → 0 ≡ modes_told s
+    module _ {n b : ℕ} (g : number_at s a ≡ Some (n, b)) where
+      pub modes-broken : number_at s b ≡ None → 0 ≡ modes_told s
       unfolding modes_told
       modes-broken h = rw (e, g, h) refl
 
-      pub modes-there : {modes next : ℕ} → number_at s b ≡ Number.Value modes next → modes ≡ modes_told s
+      pub modes-there : {modes next : ℕ} → number_at s b ≡ Some (modes, next) → modes ≡ modes_told s
       unfolding modes_told
       modes-there h = rw (e, g, h) refl
 
@@ -143,14 +143,14 @@ module _ (s : List ℕ) (b : Beginning) (from' : ℕ) where
           ∙ related-verdict b.q (sides_of b.n b.rlo b.rhi) (sides_of b.n b.slo b.shi) (tab (bands_from b.n v.ends) b.m 0) (λ _. good (plant_with b v.ends v.entries))
           ∙ ap (λ (z : Verdict). by_verdict z λ _. good (plant_with b v.ends v.entries)) (sym v.verdict ∙ g)
 
-      pub thin-told : (e : Refusal) → told ≡ Verdict.Refused e → body_of s b from' ≡ bad e
-      thin-told e g = by-verdict (Verdict.Refused e) g
+      pub thin-told : (e : Refusal) → told ≡ Err e → body_of s b from' ≡ bad e
+      thin-told e g = by-verdict (Err e) g
 
-      pub all_told : told ≡ Verdict.Accepted → Answered (body_of s b from') bands₀ coef₀ bands coef (record { verdict = Verdict.Accepted; outline = outline_in b })
+      pub all_told : told ≡ Ok tt → Answered (body_of s b from') bands₀ coef₀ bands coef (record { verdict = Ok tt; outline = outline_in b })
       all_told g =
           let z : 2 * b.n * 0 ≡ 0 = omega arith in
           let o : b.n * (b.n + 1) * 0 ≡ 0 = omega arith in
-          rw (by-verdict Verdict.Accepted g)
+          rw (by-verdict (Ok tt) g)
           (record { answer = refl; bands-left = rw z at v.stored.bands-stored; coef-left = rw o at v.stored.coef-stored })
 
 -- a refusal, told of arrays that were stored to before: they are as long as they were

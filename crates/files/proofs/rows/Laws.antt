@@ -1,4 +1,5 @@
 -- The loop over the coefficients of some rows: c of them are done, and stored as far as there is room. Assumes nothing.
+use Rattle.std.specs.Prelude.{Some, None}
 use Prim.Native.Nat.{ℕ, suc, ◌+◌, ◌-◌, ◌*◌, ◌≤◌, ◌<◌}
 use mathlib.Core.Path.{◌≡◌, refl, sym, ap, ◌∙◌}
 use mathlib.Core.List.{List, [], ◌∷◌, ◌++◌}
@@ -8,7 +9,6 @@ use lib.Seq.{sets}
 use lib.IntN.{ℤ, pos, neg_ℤ}
 use Rattle.laws.specs.Lists.{at, tab}
 use Rattle.laws.specs.Writing.{sets-append}
-use Rattle.meaning.specs.declared.Signed.{Signed}
 use Rattle.meaning.specs.Files.{Form, refused, values_at}
 use Rattle.meaning.specs.Plants.{limited, times, row}
 use Rattle.meaning.specs.Numbers.{bytes_of, stored}
@@ -40,7 +40,7 @@ module _ {s : List ℕ} {start n count from c column p : ℕ} {coef₀ coef : Li
   unfolding entries_from
   one_more h rest = let q : count - c ≡ suc (count - (c + 1)) = omega arith in rw q refl
 
-  pub entries-more : (v : ℤ) (next : ℕ) → c < count → ranged_at s p (neg_ℤ (pos (limit_at n column))) (pos (limit_at n column)) ≡ Signed.Value v next
+  pub entries-more : (v : ℤ) (next : ℕ) → c < count → ranged_at s p (neg_ℤ (pos (limit_at n column))) (pos (limit_at n column)) ≡ Some (v, next)
       → EntriesUpTo s start n count from (c + 1) (next_column n column) next coef₀ (set coef (from + c) v)
   unfolding behind
   entries-more v next h e = record {
@@ -56,7 +56,7 @@ module _ {s : List ℕ} {start n count from c column p : ℕ} {coef₀ coef : Li
         ∙ sym (behind-append w.values (v ∷ []) (values_at more s next));
   }
 
-  pub entries-fails : c < count → ranged_at s p (neg_ℤ (pos (limit_at n column))) (pos (limit_at n column)) ≡ Signed.Broken → (rest : Form) → values_at (entries_from n 0 count rest) s start ≡ refused (fault_at s p)
+  pub entries-fails : c < count → ranged_at s p (neg_ℤ (pos (limit_at n column))) (pos (limit_at n column)) ≡ None → (rest : Form) → values_at (entries_from n 0 count rest) s start ≡ refused (fault_at s p)
   entries-fails h e rest =
       let more = entries_from n (next_column n column) (count - (c + 1)) rest in
       w.done rest
@@ -66,7 +66,7 @@ module _ {s : List ℕ} {start n count from c column p : ℕ} {coef₀ coef : Li
 
 -- as rows
 module _ {s : List ℕ} {start n : ℕ} (rows : ℕ) {from c column p : ℕ} {coef₀ coef : List ℤ} (w : EntriesUpTo s start n (rows * (n + 1)) from c column p coef₀ coef) where
-  pub rows-fails : c < rows * (n + 1) → ranged_at s p (neg_ℤ (pos (limit_at n column))) (pos (limit_at n column)) ≡ Signed.Broken → Fails (times rows (row n)) s start (fault_at s p)
+  pub rows-fails : c < rows * (n + 1) → ranged_at s p (neg_ℤ (pos (limit_at n column))) (pos (limit_at n column)) ≡ None → Fails (times rows (row n)) s start (fault_at s p)
   rows-fails h e = record { fails = λ rest. ap (λ (x : Form). values_at x s start) (rows-entries n rows rest) ∙ entries-fails w h e rest }
 
   pub rows_all : rows * (n + 1) ≤ c → RowsRead s start n rows from coef₀ coef p

@@ -1,14 +1,14 @@
 -- S2 for files of any form of meaning's page Files: values that were written are read back, and values that were read are written back as the
 -- same bytes. What a reader says of written values is told without bytes, value by value, by `judged_values`. Relies on S1 (page Numbers) and on
 -- page Floats. What the values of a plant or a sheet have to satisfy together is left to the pages on those.
-use Rattle.std.specs.Prelude.{ℕ, ◌+◌, ◌^◌, ◌≤◌, ◌<◌, ◌≡◌, refl, Bool, true, false, cond, List, [], ◌∷◌, ◌++◌, length, ltb, eqb, ℤ, pos, nat_abs}
+use Rattle.std.specs.Prelude.{ℕ, ◌+◌, ◌^◌, ◌≤◌, ◌<◌, ◌≡◌, refl, Bool, true, false, cond, List, [], ◌∷◌, ◌++◌, length, ltb, eqb, ℤ, pos, nat_abs, Some, None}
 use Rattle.std.proofs.Common.{sym, ap, ◌∙◌, append-nil, arith, add-zero, length-append, drop_at, lt-ltb, le-ltb, eqb-true, eq-eqb}
 use Rattle.std.proofs.Math.Decide.{dec_lt}
 use Rattle.std.proofs.Math.Seq.{drop-length}
 use Rattle.laws.specs.Guards.{guard}
 use Rattle.laws.specs.Standing.{Stands, stand-nil, stand-join, stand-front, stand-back}
 use Rattle.laws.specs.Tests.{never, guard_passed}
-use Rattle.meaning.specs.declared.Number.{Number}
+use Rattle.meaning.specs.Answers.{Number}
 use Rattle.meaning.specs.declared.Refusal.{Refusal}
 use Rattle.meaning.specs.Refusals.{broken}
 use Rattle.meaning.specs.Numbers.{number_at, as_signed, bytes_of, stored, restored}
@@ -31,22 +31,22 @@ five_bytes signed v = ltb (stored v) (2 ^ 35)
 five_bytes float v = true
 
 -- what is read of a number's bytes
-pub number-back : (v i next : ℕ) (s : List ℕ) → Stands s i (bytes_of v) next → number_at s i ≡ cond (ltb v (2 ^ 35)) (Number.Value v next) Number.Broken
+pub number-back : (v i next : ℕ) (s : List ℕ) → Stands s i (bytes_of v) next → number_at s i ≡ cond (ltb v (2 ^ 35)) (Some (v, next)) None
 number-back v i next s p = go (dec_lt v (2 ^ 35))
   where
-    go : Dec (v < 2 ^ 35) → number_at s i ≡ cond (ltb v (2 ^ 35)) (Number.Value v next) Number.Broken
+    go : Dec (v < 2 ^ 35) → number_at s i ≡ cond (ltb v (2 ^ 35)) (Some (v, next)) None
     go (yes h) = rw (lt-ltb v (2 ^ 35) h) (reads v i next s h p)
     go (no h) = let l : 2 ^ 35 ≤ v = omega arith in rw (le-ltb v (2 ^ 35) l) (too_long v i next s l p)
 
 taken_back : (k : Kind) (v : ℤ) (i next : ℕ) (s : List ℕ) → Storable k v → Stands s i (bytes_as k v) next → taken_as k s i ≡ cond (five_bytes k v) (taken v next) none
 taken_back plain v i next s h p = ap plain_taken (number-back (nat_abs v) i next s p) ∙ go (ltb (nat_abs v) (2 ^ 35))
   where
-    go : (t : Bool) → plain_taken (cond t (Number.Value (nat_abs v) next) Number.Broken) ≡ cond t (taken v next) none
+    go : (t : Bool) → plain_taken (cond t (Some (nat_abs v, next)) None) ≡ cond t (taken v next) none
     go true = ap (λ (z : ℤ). taken z next) h
     go false = refl
 taken_back signed v i next s h p = ap (λ (n : Number). signed_taken (as_signed n)) (number-back (stored v) i next s p) ∙ go (ltb (stored v) (2 ^ 35))
   where
-    go : (t : Bool) → signed_taken (as_signed (cond t (Number.Value (stored v) next) Number.Broken)) ≡ cond t (taken v next) none
+    go : (t : Bool) → signed_taken (as_signed (cond t (Some (stored v, next)) None)) ≡ cond t (taken v next) none
     go true = ap (λ (z : ℤ). taken z next) (restored-stored v)
     go false = refl
 taken_back float v i next s h p = float-reads (nat_abs v) i next s h.1 p ∙ ap (λ (z : ℤ). taken z next) h.0
@@ -61,22 +61,22 @@ pub taken-was : (k : Kind) (v : ℤ) (i next : ℕ) (s : List ℕ) → taken_as 
 taken-was plain v i next s e = go (number_at s i) refl e
   where
     go : (n : Number) → number_at s i ≡ n → plain_taken n ≡ taken v next → Was plain v s i next
-    go (Number.Value u m) q e =
+    go (Some (u, m)) q e =
         let a : v ≡ pos u = cc in
         let b : next ≡ m = cc in
         let w = was u i m s q in
         rw (a, b) (record { storable = refl; short = lt-ltb u (2 ^ 35) w.0; stands = w.1 })
-    go Number.Broken q e = never cc
+    go None q e = never cc
 taken-was signed v i next s e = go (number_at s i) refl e
   where
     go : (n : Number) → number_at s i ≡ n → signed_taken (as_signed n) ≡ taken v next → Was signed v s i next
-    go (Number.Value u m) q e =
+    go (Some (u, m)) q e =
         let a : v ≡ restored u = cc in
         let b : next ≡ m = cc in
         let w = was u i m s q in
         let c = stored-restored u in
         rw (a, b) (record { storable = tt; short = rw c (lt-ltb u (2 ^ 35) w.0); stands = rw c w.1 })
-    go Number.Broken q e = never cc
+    go None q e = never cc
 taken-was float v i next s e =
     let w = float-was v i next s e in
     rw w.1 (record { storable = (refl, w.2); short = refl; stands = w.3 })

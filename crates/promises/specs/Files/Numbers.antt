@@ -1,20 +1,21 @@
 -- S1, numbers: the reader reads what the writer wrote, and every number read is written back as the same bytes.
 -- A number of more than 35 bits is written in more than 5 bytes, which the reader calls broken. Assumes nothing.
-use Rattle.std.specs.Prelude.{ℕ, zero, suc, ◌+◌, ◌-◌, ◌*◌, ◌/◌, ◌%◌, ◌^◌, ◌≤◌, ◌<◌, ◌≡◌, refl, Bool, true, false, cond, List, [], ◌∷◌, ◌++◌, ltb, eqb, length, get_or, drop, ℤ, pos, negsuc}
+use Rattle.std.specs.Prelude.{ℕ, zero, suc, ◌+◌, ◌-◌, ◌*◌, ◌/◌, ◌%◌, ◌^◌, ◌≤◌, ◌<◌, ◌≡◌, refl, Bool, true, false, cond, List, [], ◌∷◌, ◌++◌, ltb, eqb, length, get_or, drop, ℤ, pos, negsuc, Some, None}
 use Rattle.std.proofs.Common.{sym, ap, ◌∙◌, arith, mul_assoc, mul_comm, add-mul, zero-mul, div-add-mod', add-one, drop-cons, pow-add, lt-ltb, le-ltb, ne_eqb, ltb-true, ltb-false, eqb-true}
 use Rattle.std.proofs.Math.Decide.{dec_lt, ℕ_discrete}
 use Rattle.std.proofs.lemmas.Bool.{eqb-false}
+use Rattle.laws.specs.Pairs.{some-first, some-second}
 use Rattle.laws.specs.Standing.{Stands, at-cons}
 use Rattle.laws.specs.Tests.{never}
-use Rattle.meaning.specs.declared.Number.{Number}
+use Rattle.meaning.specs.Answers.{Number}
 use Rattle.meaning.specs.Numbers.{groups_at, last_group, groups_of, number_at, bytes_of, stored, restored}
 
 -- ---- the reader reads what the writer wrote: f more bytes are allowed behind the next, and g are used
 
-last-group : (c at v w : ℕ) → (c ≡ 0 → (w ≡ 1) × (v ≡ 0)) → last_group c at v w ≡ Number.Value (v + c * w) (at + 1)
+last-group : (c at v w : ℕ) → (c ≡ 0 → (w ≡ 1) × (v ≡ 0)) → last_group c at v w ≡ Some (v + c * w, at + 1)
 last-group c at v w z = go (ℕ_discrete c 0)
   where
-    go : Dec (c ≡ 0) → last_group c at v w ≡ Number.Value (v + c * w) (at + 1)
+    go : Dec (c ≡ 0) → last_group c at v w ≡ Some (v + c * w, at + 1)
     go (yes e) = let q = z e in simp (e, q.0, q.1)
     go (no n) = simp (ne_eqb _ _ n)
 
@@ -57,7 +58,7 @@ groups-more g x h = simp (le-ltb x 128 h)
 
 -- as long as the number has at most f + 1 groups, and the writer may use g ≥ f of them
 read-groups : (f g x : ℕ) → f ≤ g → x < 2 ^ (7 * (f + 1)) → (s : List ℕ) (i v w : ℕ) (t : List ℕ) → drop i s ≡ groups_of g x ++ t → (x ≡ 0 → (w ≡ 1) × (v ≡ 0))
-    → groups_at (suc f) s i v w ≡ Number.Value (v + x * w) (i + length (groups_of g x))
+    → groups_at (suc f) s i v w ≡ Some (v + x * w, i + length (groups_of g x))
 read-groups zero g x k h s i v w t e z =
     let l : x < 128 = omega arith in
     let q = groups-last g x l in
@@ -74,8 +75,8 @@ read-groups (suc f) (suc g) x k h s i v w t e z =
 
     go : Dec (x < 128)
         → (128 ≤ x → drop (i + 1) s ≡ groups_of g (x / 128) ++ t
-        → groups_at (suc f) s (i + 1) (v + (x % 128 + 128 - 128) * w) (w * 128) ≡ Number.Value (v + (x % 128 + 128 - 128) * w + (x / 128) * (w * 128)) (i + 1 + length (groups_of g (x / 128))))
-        → groups_at (suc (suc f)) s i v w ≡ Number.Value (v + x * w) (i + length (groups_of (suc g) x))
+        → groups_at (suc f) s (i + 1) (v + (x % 128 + 128 - 128) * w) (w * 128) ≡ Some (v + (x % 128 + 128 - 128) * w + (x / 128) * (w * 128), i + 1 + length (groups_of g (x / 128))))
+        → groups_at (suc (suc f)) s i v w ≡ Some (v + x * w, i + length (groups_of (suc g) x))
     go (yes l) ih =
         let q = groups-last (suc g) x l in
         rw q (one_byte (suc f) s i v w x t (rw q at e) l ∙ last-group x i v w z)
@@ -89,18 +90,18 @@ read-groups (suc f) (suc g) x k h s i v w t e z =
         let m : x % 128 + 128 - 128 ≡ x % 128 = omega arith in
         rw q (next-byte (suc f) s i v w c (groups_of g (x / 128) ++ t) e1 (omega arith) (omega arith) ∙ ih l a.2 ∙ rw (k, m, digits x v w) refl)
 
-pub reads : (v i next : ℕ) (s : List ℕ) → v < 2 ^ 35 → Stands s i (bytes_of v) next → number_at s i ≡ Number.Value v next
+pub reads : (v i next : ℕ) (s : List ℕ) → v < 2 ^ 35 → Stands s i (bytes_of v) next → number_at s i ≡ Some (v, next)
 reads v i next s h p =
     let q : 0 + v * 1 ≡ v = omega arith in
     let e : next ≡ i + length (bytes_of v) = p.end in
     read-groups 4 9 v (omega arith) h s i 0 1 (drop next s) p.bytes (λ z. (refl, refl)) ∙ rw (q, e) refl
 
-no_bytes : (s : List ℕ) (i v w : ℕ) → groups_at 0 s i v w ≡ Number.Broken
+no_bytes : (s : List ℕ) (i v w : ℕ) → groups_at 0 s i v w ≡ None
 unfolding groups_at
 no_bytes s i v w = refl
 
 -- a number of more than f groups is broken for a reader that allows f bytes
-too_many : (f g x : ℕ) → f ≤ g → 2 ^ (7 * f) ≤ x → (s : List ℕ) (i v w : ℕ) (t : List ℕ) → drop i s ≡ groups_of g x ++ t → groups_at f s i v w ≡ Number.Broken
+too_many : (f g x : ℕ) → f ≤ g → 2 ^ (7 * f) ≤ x → (s : List ℕ) (i v w : ℕ) (t : List ℕ) → drop i s ≡ groups_of g x ++ t → groups_at f s i v w ≡ None
 too_many zero g x k h s i v w t e = no_bytes s i v w
 too_many (suc f) zero x k h s i v w t e = absurd (omega arith)
 too_many (suc f) (suc g) x k h s i v w t e =
@@ -120,7 +121,7 @@ too_many (suc f) (suc g) x k h s i v w t e =
     one-le zero = omega arith
     one-le (suc f) = rw (seven f) (omega (arith, one-le f))
 
-pub too_long : (v i next : ℕ) (s : List ℕ) → 2 ^ 35 ≤ v → Stands s i (bytes_of v) next → number_at s i ≡ Number.Broken
+pub too_long : (v i next : ℕ) (s : List ℕ) → 2 ^ 35 ≤ v → Stands s i (bytes_of v) next → number_at s i ≡ None
 too_long v i next s h p = too_many 5 9 v (omega arith) h s i 0 1 (drop next s) p.bytes
 
 -- ---- a number read is written back as the same bytes
@@ -145,8 +146,8 @@ last-was f g s at v w x n l h e q z =
 
 -- one byte: the last, or one with more behind it
 turn : (f g : ℕ) (s : List ℕ) (at v w x n : ℕ) → (w ≡ 1 → v ≡ 0)
-    → (at < length s → 128 ≤ get_or s at 0 → get_or s at 0 < 256 → groups_at f s (at + 1) (v + (get_or s at 0 - 128) * w) (w * 128) ≡ Number.Value x n → Was f g s at v w x n)
-    → groups_at (suc f) s at v w ≡ Number.Value x n → Was f g s at v w x n
+    → (at < length s → 128 ≤ get_or s at 0 → get_or s at 0 < 256 → groups_at f s (at + 1) (v + (get_or s at 0 - 128) * w) (w * 128) ≡ Some (x, n) → Was f g s at v w x n)
+    → groups_at (suc f) s at v w ≡ Some (x, n) → Was f g s at v w x n
 unfolding groups_at
 turn f g s at v w x n z rest e = there (ltb at (length s)) refl e
   where
@@ -156,30 +157,30 @@ turn f g s at v w x n z rest e = there (ltb at (length s)) refl e
     more : Number
     more = groups_at f s (at + 1) (v + (c - 128) * w) (w * 128)
 
-    zeroed : at < length s → c < 128 → c ≡ 0 → (t : Bool) → eqb w 1 ≡ t → cond t (Number.Value 0 (at + 1)) Number.Broken ≡ Number.Value x n → Was f g s at v w x n
+    zeroed : at < length s → c < 128 → c ≡ 0 → (t : Bool) → eqb w 1 ≡ t → cond {A = Number} t (Some (0, at + 1)) None ≡ Some (x, n) → Was f g s at v w x n
     zeroed l h y true q e =
-        let a : x ≡ 0 = cc in
-        let b : n ≡ at + 1 = cc in
+        let a : x ≡ 0 = sym (some-first e) in
+        let b : n ≡ at + 1 = sym (some-second e) in
         let i : w ≡ 1 = eqb-true w 1 q in
         last-was f g s at v w x n l h (let k = z i in rw (a, y, k, zero-mul) refl) b (λ _. i)
     zeroed l h y false q e = never cc
 
-    ends : at < length s → c < 128 → (t : Bool) → eqb c 0 ≡ t → cond t (cond (eqb w 1) (Number.Value 0 (at + 1)) Number.Broken) (Number.Value (v + c * w) (at + 1)) ≡ Number.Value x n → Was f g s at v w x n
+    ends : at < length s → c < 128 → (t : Bool) → eqb c 0 ≡ t → cond {A = Number} t (cond {A = Number} (eqb w 1) (Some (0, at + 1)) None) (Some (v + c * w, at + 1)) ≡ Some (x, n) → Was f g s at v w x n
     ends l h true q e = zeroed l h (eqb-true c 0 q) (eqb w 1) refl e
     ends l h false q e =
-        let a : x ≡ v + c * w = cc in
-        let b : n ≡ at + 1 = cc in
+        let a : x ≡ v + c * w = sym (some-first e) in
+        let b : n ≡ at + 1 = sym (some-second e) in
         last-was f g s at v w x n l h a b (λ y. absurd (eqb-false c 0 q y))
 
-    goes : at < length s → 128 ≤ c → (t : Bool) → ltb c 256 ≡ t → cond t more Number.Broken ≡ Number.Value x n → Was f g s at v w x n
+    goes : at < length s → 128 ≤ c → (t : Bool) → ltb c 256 ≡ t → cond t more None ≡ Some (x, n) → Was f g s at v w x n
     goes l h true q e = rest l h (ltb-true c 256 q) e
     goes l h false q e = never cc
 
-    byte : at < length s → (t : Bool) → ltb c 128 ≡ t → cond t (last_group c at v w) (cond (ltb c 256) more Number.Broken) ≡ Number.Value x n → Was f g s at v w x n
+    byte : at < length s → (t : Bool) → ltb c 128 ≡ t → cond t (last_group c at v w) (cond (ltb c 256) more None) ≡ Some (x, n) → Was f g s at v w x n
     byte l true q e = ends l (ltb-true c 128 q) (eqb c 0) refl e
     byte l false q e = goes l (ltb-false c 128 q) (ltb c 256) refl e
 
-    there : (t : Bool) → ltb at (length s) ≡ t → cond t (cond (ltb c 128) (last_group c at v w) (cond (ltb c 256) more Number.Broken)) Number.Broken ≡ Number.Value x n → Was f g s at v w x n
+    there : (t : Bool) → ltb at (length s) ≡ t → cond t (cond (ltb c 128) (last_group c at v w) (cond (ltb c 256) more None)) None ≡ Some (x, n) → Was f g s at v w x n
     there true q e = byte (ltb-true at (length s) q) (ltb c 128) refl e
     there false q e = never cc
 
@@ -204,7 +205,7 @@ more-was f g s at v w x n p l h k m =
     some (yes q) = absurd (let y = m.nonzero q in omega arith)
     some (no q) = omega arith
 
-was-groups : (f g : ℕ) → f ≤ g → (s : List ℕ) (at v w x n : ℕ) → (w ≡ 1 → v ≡ 0) → 1 ≤ w → groups_at (suc f) s at v w ≡ Number.Value x n → Was f g s at v w x n
+was-groups : (f g : ℕ) → f ≤ g → (s : List ℕ) (at v w x n : ℕ) → (w ≡ 1 → v ≡ 0) → 1 ≤ w → groups_at (suc f) s at v w ≡ Some (x, n) → Was f g s at v w x n
 was-groups zero g k s at v w x n z p e = turn zero g s at v w x n z (λ l h b q. let y = sym (no_bytes s (at + 1) (v + (get_or s at 0 - 128) * w) (w * 128)) ∙ q in never cc) e
 was-groups (suc f) zero k s at v w x n z p e = absurd (omega arith)
 was-groups (suc f) (suc g) k s at v w x n z p e =
@@ -213,7 +214,7 @@ was-groups (suc f) (suc g) k s at v w x n z p e =
     (was-groups f g (omega arith) s (at + 1) (v + (get_or s at 0 - 128) * w) (w * 128) x n (λ y. absurd (omega arith)) (omega arith) q))
     e
 
-pub was : (v i next : ℕ) (s : List ℕ) → number_at s i ≡ Number.Value v next → (v < 2 ^ 35) × Stands s i (bytes_of v) next
+pub was : (v i next : ℕ) (s : List ℕ) → number_at s i ≡ Some (v, next) → (v < 2 ^ 35) × Stands s i (bytes_of v) next
 was v i next s e =
     let m = was-groups 4 9 (omega arith) s i 0 1 v next (λ y. refl) (omega arith) e in
     let q : v ≡ m.d = omega (arith, m.value) in

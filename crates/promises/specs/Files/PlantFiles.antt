@@ -1,11 +1,9 @@
 -- S2 for plants, the files: a plant that was written is read back as itself, a file that was read is written back as the same bytes, and reader and
 -- writer refuse alike. Relies on pages Files, Writers, Plants and PlantShapes; how long a file may be is told on page PlantLengths.
-use Rattle.std.specs.Prelude.{ℕ, ◌≤◌, ◌<◌, ◌≡◌, refl, List, length, take, ℤ}
+use Rattle.std.specs.Prelude.{ℕ, ◌≤◌, ◌<◌, ◌≡◌, refl, List, length, take, ℤ, Ok}
 use Rattle.std.proofs.Common.{sym, ap, ◌∙◌, subst}
 use Rattle.std.proofs.lemmas.List.Edits.{sets}
 use Rattle.meaning.specs.declared.Refusal.{Refusal}
-use Rattle.meaning.specs.declared.Verdict.{Verdict}
-use Rattle.meaning.specs.declared.Written.{Written}
 use Rattle.meaning.specs.Refusals.{short}
 use Rattle.meaning.specs.Files.{values_of, good, bad, file_of}
 use Rattle.meaning.specs.Buffers.{refused_with}
@@ -35,7 +33,7 @@ judged-itself p p' e =
     ap plant_of (sym (judged-back plant_form (numbers_of p) 0 (plant-shaped p) g.was).0) ∙ g.plant
 
 -- of any plant, its edges beyond n rooms are read back as zeros, its lists with just what N modes have
-pub written-read-zeros : (p : Plant) (buf : List ℕ) (m : ℕ) → (plant_left p buf).answer ≡ Written.Length m
+pub written-read-zeros : (p : Plant) (buf : List ℕ) (m : ℕ) → (plant_left p buf).answer ≡ Ok m
     → plant_judged (take m (plant_left p buf).buffer) ≡ good (plant_of (numbers_of p))
 unfolding plant_left
 written-read-zeros p buf m e =
@@ -43,13 +41,13 @@ written-read-zeros p buf m e =
     ap plant_judged w.2 ∙ w.1 ∙ ap good (sym (judged-itself p w.0 w.1))
 
 -- and a plant that is such is read back as itself, its bands and coefficients too
-pub written_read : (p : Plant) → Tidy p → (buf : List ℕ) (m : ℕ) → (plant_left p buf).answer ≡ Written.Length m → plant_judged (take m (plant_left p buf).buffer) ≡ good p
+pub written_read : (p : Plant) → Tidy p → (buf : List ℕ) (m : ℕ) → (plant_left p buf).answer ≡ Ok m → plant_judged (take m (plant_left p buf).buffer) ≡ good p
 written_read p t buf m e = written-read-zeros p buf m e ∙ ap good (plant-back p t)
 
 -- so what a reader answers of it, and leaves in arrays that it is lent
-pub written-answered : (p : Plant) → Tidy p → (buf : List ℕ) (m : ℕ) → (plant_left p buf).answer ≡ Written.Length m → (bands coef : List ℤ)
+pub written-answered : (p : Plant) → Tidy p → (buf : List ℕ) (m : ℕ) → (plant_left p buf).answer ≡ Ok m → (bands coef : List ℤ)
     → let s = take m (plant_left p buf).buffer in
-    (plant_read s ≡ record { verdict = Verdict.Accepted; outline = outline_of p }) × (bands_left s bands ≡ sets bands 0 p.bands) × (coef_left s coef ≡ sets coef 0 p.coef)
+    (plant_read s ≡ record { verdict = Ok tt; outline = outline_of p }) × (bands_left s bands ≡ sets bands 0 p.bands) × (coef_left s coef ≡ sets coef 0 p.coef)
 written-answered p t buf m e bands coef = let w = written_read p t buf m e in (rw w refl, rw w refl, rw w refl)
 
 -- ---- reader and writer refuse alike: what the reader says of the file that a plant would be, its writer says of the plant

@@ -1,12 +1,11 @@
 -- Two lists with the same bytes from one place up to another: what stands there in one stands there in the other, and a number that is read there in one is read in the
 -- other. Assumes nothing but the laws of numbers.
-use Rattle.std.specs.Prelude.{ℕ, ◌+◌, ◌≤◌, ◌<◌, ◌≡◌, ◌⊎◌, length, get_or, drop, take}
+use Rattle.std.specs.Prelude.{ℕ, ◌+◌, ◌≤◌, ◌<◌, ◌≡◌, ◌⊎◌, length, get_or, drop, take, Some}
 use Rattle.std.proofs.Common.{sym, ap, ◌∙◌, inl, inr, add-one, arith, length-take, drop-cons, get_or-take}
 use mathlib.Core.List.{List, [], ◌∷◌, ◌++◌}
 use Rattle.laws.specs.Every as E
 use Rattle.laws.specs.Every.{Every}
 use Rattle.laws.specs.Standing.{Stands, stand-nil, at-cons}
-use Rattle.meaning.specs.declared.Number.{Number}
 use Rattle.meaning.specs.Numbers.{number_at, bytes_of}
 use Rattle.promises.specs.Files.Numbers.{reads, was}
 
@@ -45,7 +44,7 @@ module _ (s z : List ℕ) where
       let byte : get_or z at 0 ≡ b = a at (omega arith) (omega (arith, h.end)) ∙ q.1 in
       record { end = h.end; bytes = drop-cons z at 0 (omega (arith, h.end)) ∙ rw byte (ap (λ (t : List ℕ). b ∷ t) (rw add-one at rest.bytes)) }
 
-  pub number_same : (v at m : ℕ) → m ≤ length z → Same at m → number_at s at ≡ Number.Value v m → number_at z at ≡ Number.Value v m
+  pub number_same : (v at m : ℕ) → m ≤ length z → Same at m → number_at s at ≡ Some (v, m) → number_at z at ≡ Some (v, m)
   number_same v at m l a e = let w = was v at m s e in reads v at m z w.0 (stand-same (bytes_of v) at m l a w.1)
 
   -- lists that agree up to e

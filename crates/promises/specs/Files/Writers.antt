@@ -1,10 +1,9 @@
 -- Writers of values that are judged as the file they would be (document 01, "A plant or sheet handed to a writer as values ..."), whatever is judged: they
 -- refuse what the reader refuses, then 10, and else leave the file. Relies on page Buffers.
-use Rattle.std.specs.Prelude.{ℕ, ◌≤◌, ◌<◌, ◌≡◌, refl, List, length, take}
+use Rattle.std.specs.Prelude.{ℕ, ◌≤◌, ◌<◌, ◌≡◌, refl, List, length, take, Ok}
 use Rattle.std.proofs.Common.{ap, ◌∙◌}
 use Rattle.laws.specs.Tests.{never}
 use Rattle.meaning.specs.declared.Refusal.{Refusal}
-use Rattle.meaning.specs.declared.Written.{Written}
 use Rattle.meaning.specs.Refusals.{short}
 use Rattle.meaning.specs.Buffers.{Left, left, refused_with}
 use Rattle.meaning.specs.Files.{Judged, good, bad, file_judged}
@@ -26,10 +25,10 @@ module _ {A : Type 0} (judged : List ℕ → Judged A) (bytes buf : List ℕ) wh
   long-enough a h l = ap (λ (j : Judged A). left (file_judged bytes j) buf) h ∙ left-fits bytes buf l
 
   -- a length that was answered: the file is good, and it stands in front
-  pub was-written : (m : ℕ) → leaves.answer ≡ Written.Length m → (a : A) × (judged bytes ≡ good a) × (take m leaves.buffer ≡ bytes)
+  pub was-written : (m : ℕ) → leaves.answer ≡ Ok m → (a : A) × (judged bytes ≡ good a) × (take m leaves.buffer ≡ bytes)
   was-written m e = go (judged bytes) refl e
     where
-      go : (j : Judged A) → judged bytes ≡ j → (left (file_judged bytes j) buf).answer ≡ Written.Length m
+      go : (j : Judged A) → judged bytes ≡ j → (left (file_judged bytes j) buf).answer ≡ Ok m
           → (a : A) × (judged bytes ≡ good a) × (take m (left (file_judged bytes j) buf).buffer ≡ bytes)
       go (bad r) q e = never (let k = left-length (bad r) buf m e in cc)
       go (good a) q e = (a, q, let k = left-length (good bytes) buf m e in cc)

@@ -2,7 +2,7 @@
 -- the code meet each: `checked`, `maker_left`, `controlled`. How tight they are: what is asked of a maker settles every answer and every byte, of a controller
 -- every call on an accepted table, of a checker every verdict on a table that keeps the file's rules. Relies on pages Checked, Promise, FirstFault, Made and
 -- Chosen. What is told of tables that break the file's rules is left out: the definitions say it. Which programs each demand shuts out is page ShutOut.
-use Rattle.std.specs.Prelude.{ℕ, zero, suc, ◌^◌, ◌≤◌, ◌<◌, ◌≡◌, Bool, true, false, ◌&&◌, ◌↔◌, List, [], ◌∷◌, leb, length, replicate, ℤ}
+use Rattle.std.specs.Prelude.{ℕ, zero, suc, ◌^◌, ◌≤◌, ◌<◌, ◌≡◌, Bool, true, false, ◌&&◌, ◌↔◌, List, [], ◌∷◌, leb, length, replicate, ℤ, Some, Ok, Err}
 use Rattle.std.proofs.Math.Path.{refl}
 use Rattle.std.proofs.Common.{sym, ap, ◌∙◌, append-nil, arith, le-leb, leb-true}
 use Rattle.std.proofs.Math.Option.{Option, none, some}
@@ -12,13 +12,9 @@ use Rattle.std.proofs.lemmas.List.Edits.{sets}
 use Rattle.laws.specs.Guards.{guard}
 use Rattle.laws.specs.Standing.{Stands}
 use Rattle.laws.specs.Tests.{never, first, second, both}
-use Rattle.meaning.specs.declared.Answer.{Answer}
-use Rattle.meaning.specs.declared.Number.{Number}
+use Rattle.meaning.specs.Answers.{Verdict, Written, Answer}
 use Rattle.meaning.specs.declared.Refusal.{Refusal}
 use Rattle.meaning.specs.declared.State.{State}
-use Rattle.meaning.specs.declared.Verdict.{Verdict}
-use Rattle.meaning.specs.declared.Walk.{Walk}
-use Rattle.meaning.specs.declared.Written.{Written}
 use Rattle.meaning.specs.Buffers.{Left, refused_with, left}
 use Rattle.meaning.specs.Control as C
 use Rattle.meaning.specs.Control.{idle, state_at, state_with, are_read, can_run, idle_call, running_call}
@@ -77,11 +73,11 @@ tiled-laid plant table t =
 
 -- its last sentence: every table that keeps the file's rules and whose tiles keep the tile rule is accepted
 abbrev pub AcceptsWorking : Checker → Type 0
-AcceptsWorking check = (plant table : List ℕ) → Tiled plant table → check plant table ≡ Verdict.Accepted
+AcceptsWorking check = (plant table : List ℕ) → Tiled plant table → check plant table ≡ Ok tt
 
 -- the run: every accepted table keeps the file's rules and drives as page Promise says, by the controller and within its longest pattern
 abbrev pub KeepsPromise : Checker → Type 0
-KeepsPromise check = (plant table : List ℕ) → check plant table ≡ Verdict.Accepted → (t : Laid plant table) × Promised plant table (longest t.tree)
+KeepsPromise check = (plant table : List ℕ) → check plant table ≡ Ok tt → (t : Laid plant table) × Promised plant table (longest t.tree)
 
 pub checked-accepts : AcceptsWorking checked
 checked-accepts plant table t = (checked-exactly plant table).1 t
@@ -94,9 +90,9 @@ checked-keeps plant table a = let w = promise plant table a in (tiled-laid plant
 
 pub record Tells (check : Checker) : Type 0 where
   pub leaving : (plant table : List ℕ) (t : Laid plant table) (one : Tile (rules_of (form_of table) t.p)) → FirstBad (rules_of (form_of table) t.p) t.tree one
-      → (i : ℕ) → LeavesAt (rules_of (form_of table) t.p) one.box one.modes i → check plant table ≡ Verdict.Refused (leaves one.place i)
+      → (i : ℕ) → LeavesAt (rules_of (form_of table) t.p) one.box one.modes i → check plant table ≡ Err (leaves one.place i)
   pub missing : (plant table : List ℕ) (t : Laid plant table) (one : Tile (rules_of (form_of table) t.p)) → FirstBad (rules_of (form_of table) t.p) t.tree one
-      → (i : ℕ) → MissesAt (rules_of (form_of table) t.p) one.box one.modes i → check plant table ≡ Verdict.Refused (misses one.place i)
+      → (i : ℕ) → MissesAt (rules_of (form_of table) t.p) one.box one.modes i → check plant table ≡ Err (misses one.place i)
 
 pub checked-tells : Tells checked
 checked-tells = record {
@@ -136,15 +132,15 @@ pub record Makes (make : Maker) : Type 0 where
   pub writes : (plant : List ℕ) (form : ℕ) (buf bytes : List ℕ) → DefinedTable plant form bytes → length bytes ≤ length buf → make plant form buf ≡ wrote bytes buf
   -- 9 exactly where the plant is good, the form is known and no table at all of that form is accepted; 10 exactly where the defined table does not fit; and
   -- before them the plant's own refusal, then 2 where the form is not known
-  pub nine : (plant : List ℕ) (form : ℕ) (buf : List ℕ) → ((make plant form buf).answer ≡ Written.Refused (no_table 0))
-      ↔ ((p : Plant) × (plant_judged plant ≡ good p) × (known_form form ≡ true) × ((table : List ℕ) → form_of table ≡ form → checked plant table ≡ Verdict.Accepted → ⊥))
-  pub ten : (plant : List ℕ) (form : ℕ) (buf : List ℕ) → ((make plant form buf).answer ≡ Written.Refused short)
+  pub nine : (plant : List ℕ) (form : ℕ) (buf : List ℕ) → ((make plant form buf).answer ≡ Err (no_table 0))
+      ↔ ((p : Plant) × (plant_judged plant ≡ good p) × (known_form form ≡ true) × ((table : List ℕ) → form_of table ≡ form → checked plant table ≡ Ok tt → ⊥))
+  pub ten : (plant : List ℕ) (form : ℕ) (buf : List ℕ) → ((make plant form buf).answer ≡ Err short)
       ↔ ((bytes : List ℕ) × DefinedTable plant form bytes × (length buf < length bytes))
-  pub plant-first : (plant : List ℕ) (form : ℕ) (buf : List ℕ) (e : Refusal) → plant_judged plant ≡ bad e → (make plant form buf).answer ≡ Written.Refused e
+  pub plant-first : (plant : List ℕ) (form : ℕ) (buf : List ℕ) (e : Refusal) → plant_judged plant ≡ bad e → (make plant form buf).answer ≡ Err e
   pub then-form : (plant : List ℕ) (form : ℕ) (buf : List ℕ) (p : Plant) → plant_judged plant ≡ good p → known_form form ≡ false
-      → (make plant form buf).answer ≡ Written.Refused wrong_form
+      → (make plant form buf).answer ≡ Err wrong_form
   -- a refused write zeros the whole buffer
-  pub zeros : (plant : List ℕ) (form : ℕ) (buf : List ℕ) (e : Refusal) → (make plant form buf).answer ≡ Written.Refused e
+  pub zeros : (plant : List ℕ) (form : ℕ) (buf : List ℕ) (e : Refusal) → (make plant form buf).answer ≡ Err e
       → (make plant form buf).buffer ≡ replicate (length buf) 0
 
 -- what is made is the defined table
@@ -158,14 +154,14 @@ made-defined plant form bytes = (
   λ t. (made-exactly plant t.p t.judged form t.known bytes).1 (t.tree, t.defined, t.is),
 )
 
-refused-zeros : (j : Judged (List ℕ)) (buf : List ℕ) (e : Refusal) → (left j buf).answer ≡ Written.Refused e → (left j buf).buffer ≡ replicate (length buf) 0
+refused-zeros : (j : Judged (List ℕ)) (buf : List ℕ) (e : Refusal) → (left j buf).answer ≡ Err e → (left j buf).buffer ≡ replicate (length buf) 0
 refused-zeros (bad f) buf e q = refl
 refused-zeros (good bytes) buf e q = go (leb (length bytes) (length buf)) q
   where
     given : Bool → Left
-    given c = guard c (refused_with short buf) λ _. record { answer = Written.Length (length bytes); buffer = sets buf 0 bytes }
+    given c = guard c (refused_with short buf) λ _. record { answer = Ok (length bytes); buffer = sets buf 0 bytes }
 
-    go : (c : Bool) → (given c).answer ≡ Written.Refused e → (given c).buffer ≡ replicate (length buf) 0
+    go : (c : Bool) → (given c).answer ≡ Err e → (given c).buffer ≡ replicate (length buf) 0
     go true q = never cc
     go false q = refl
 
@@ -186,13 +182,13 @@ maker-makes = record {
 
 -- two makers of which this is true answer alike and leave the same bytes
 module _ (f g : Maker) (F : Makes f) (G : Makes g) (plant : List ℕ) (form : ℕ) (buf : List ℕ) where
-  refused-left : (make : Maker) → Makes make → (e : Refusal) → (make plant form buf).answer ≡ Written.Refused e → make plant form buf ≡ refused_with e buf
+  refused-left : (make : Maker) → Makes make → (e : Refusal) → (make plant form buf).answer ≡ Err e → make plant form buf ≡ refused_with e buf
   refused-left make m e q = same q (m.zeros plant form buf e q)
     where
       same : {a b : Written} {x y : List ℕ} → a ≡ b → x ≡ y → ◌≡◌ {A = Left} (record { answer = a; buffer = x }) (record { answer = b; buffer = y })
       same p q = rw (p, q) refl
 
-  refused-alike : (e : Refusal) → (f plant form buf).answer ≡ Written.Refused e → (g plant form buf).answer ≡ Written.Refused e → f plant form buf ≡ g plant form buf
+  refused-alike : (e : Refusal) → (f plant form buf).answer ≡ Err e → (g plant form buf).answer ≡ Err e → f plant form buf ≡ g plant form buf
   refused-alike e p q = refused-left f F e p ∙ sym (refused-left g G e q)
 
   pub one_answer : f plant form buf ≡ g plant form buf
@@ -239,27 +235,27 @@ pub record Answers (control : Controller) : Type 0 where
   -- idle, the reading in R: its tile is the one of the table's that holds it; its first mode is answered, and the others are left
   pub first-mode : (plant table : List ℕ) (t : Tiled plant table) (x : List ℤ) → starts_in plant x ≡ true
       → (one : Tile (rules_of (form_of table) t.p)) → having (rules_of (form_of table) t.p) x (tiles_of (rules_of (form_of table) t.p) t.tree (root_of t.p) 2) ≡ one ∷ []
-      → (u : ℕ) (us : List ℕ) → one.modes ≡ u ∷ us → control plant table idle x ≡ Answer.Mode u (state_with us (next_place (first_place (rules_of (form_of table) t.p) one) u))
+      → (u : ℕ) (us : List ℕ) → one.modes ≡ u ∷ us → control plant table idle x ≡ Ok (u, state_with us (next_place (first_place (rules_of (form_of table) t.p) one) u))
   -- running, the reading in S: the mode at the place is answered; with modes left the state moves behind it, else it is idle
   pub next-mode : (plant table : List ℕ) (t : Tiled plant table) (x : List ℤ) → safe_in plant x ≡ true
-      → (place m : ℕ) (k : CanRun t.p table place (suc m)) → control plant table (state_of place (suc m)) x ≡ Answer.Mode k.mode (state_at (next_place place k.mode) m)
+      → (place m : ℕ) (k : CanRun t.p table place (suc m)) → control plant table (state_of place (suc m)) x ≡ Ok (k.mode, state_at (next_place place k.mode) m)
   -- 11: the reading is outside R, idle, or outside S, running; the first dimension in which it is
   pub outside-root : (plant table : List ℕ) (t : Tiled plant table) (x : List ℤ) → starts_in plant x ≡ false
-      → control plant table idle x ≡ Answer.Refused (outside (missed (rules_of (form_of table) t.p) (root_of t.p) x))
+      → control plant table idle x ≡ Err (outside (missed (rules_of (form_of table) t.p) (root_of t.p) x))
   pub outside-safe : (plant table : List ℕ) (t : Tiled plant table) (x : List ℤ) → safe_in plant x ≡ false
       → (place m : ℕ) → CanRun t.p table place (suc m)
-      → control plant table (state_of place (suc m)) x ≡ Answer.Refused (outside (missed (rules_of (form_of table) t.p) (safe_of t.p) x))
+      → control plant table (state_of place (suc m)) x ≡ Err (outside (missed (rules_of (form_of table) t.p) (safe_of t.p) x))
   -- 12, before 11: a state that cannot be
-  pub no_place : (plant table : List ℕ) (t : Tiled plant table) (x : List ℤ) (place : ℕ) → control plant table (state_of (suc place) 0) x ≡ Answer.Refused bad_state
+  pub no_place : (plant table : List ℕ) (t : Tiled plant table) (x : List ℤ) (place : ℕ) → control plant table (state_of (suc place) 0) x ≡ Err bad_state
   pub cannot-run : (plant table : List ℕ) (t : Tiled plant table) (x : List ℤ) (place m : ℕ) → (CanRun t.p table place (suc m) → ⊥)
-      → control plant table (state_of place (suc m)) x ≡ Answer.Refused bad_state
+      → control plant table (state_of place (suc m)) x ≡ Err bad_state
 
 -- the test of a state
 module _ (plant : List ℕ) (p : Plant) (good-plant : plant_judged plant ≡ good p) (table : List ℕ) (place m : ℕ) where
   small : p.modes ≤ 2 ^ 35
   small = (judged-sizes plant p good-plant 1 refl).modes
 
-  mode-there : (k : CanRun p table place (suc m)) → number_at table place ≡ Number.Value k.mode (next_place place k.mode)
+  mode-there : (k : CanRun p table place (suc m)) → number_at table place ≡ Some (k.mode, next_place place k.mode)
   mode-there k = first_read p.modes small k.mode k.later table place k.end k.are-modes k.stand
 
   modes-there : (k : CanRun p table place (suc m)) → modes_at p.modes (suc m) table place ≡ read (k.mode ∷ k.later) k.end
@@ -292,7 +288,7 @@ module _ (plant table : List ℕ) (t : Tiled plant table) (x : List ℤ) where
   abbrev rules : Rules
   rules = rules_of (form_of table) t.p
 
-  header_is : header (form_of table) t.p.n table ≡ Walk.Next (headed (form_of table) t.p.n)
+  header_is : header (form_of table) t.p.n table ≡ Ok (headed (form_of table) t.p.n)
   header_is = table-header rules (judged-sizes plant t.p t.judged (form_of table) (form-known table)) table [] t.tree (t.is ∙ sym (append-nil (table_of rules t.tree)))
 
   idle-as : (place : ℕ) → controlled plant table (state_of place 0) x ≡ idle_call rules table (headed (form_of table) t.p.n) place x

@@ -1,16 +1,15 @@
 -- The whole numbers that a sheet makes of its floats, by what each shows (document 01, "The sheet" and row 14): 0 with the nearest whole number exactly where
 -- the float is finite and the plant can hold it, and else 14 with which number of the plant file it is; and a sheet's reader shows 14 exactly with the
 -- first that does. Relies on pages Nearest and Firsts, and on pages Faults and Told for that nothing else is told by 14, and nothing by 0.
-use Rattle.std.specs.Prelude.{ℕ, ◌<◌, ◌≡◌, refl, Bool, true, false, List, [], ◌∷◌, map, ◌↔◌, length, get_or, ℤ}
+use Rattle.std.specs.Prelude.{ℕ, ◌<◌, ◌≡◌, refl, Bool, true, false, List, [], ◌∷◌, map, ◌↔◌, length, get_or, ℤ, Some, None, Err}
 use Rattle.std.proofs.Common.{sym, ap, arith}
 use Rattle.std.proofs.Math.Logic.Iff
 use Rattle.laws.specs.Guards.{guard}
 use Rattle.laws.specs.Lists.{all, first_false}
 use Rattle.laws.specs.Tests.{never}
+use Rattle.meaning.specs.Answers.{Whole, Verdict}
 use Rattle.meaning.specs.declared.Refusal.{Refusal}
-use Rattle.meaning.specs.declared.Whole.{Whole}
 use Rattle.meaning.specs.declared.Sheet.{Sheet}
-use Rattle.meaning.specs.declared.Verdict.{Verdict}
 use Rattle.meaning.specs.Refusals.{whole_shown, verdict_shown, not_in_safe, narrow, bad_result}
 use Rattle.meaning.specs.Boxes.{lies, within}
 use Rattle.meaning.specs.Files.{Read, read, refused, values_of, good, bad}
@@ -30,8 +29,8 @@ use Rattle.promises.specs.Paper.Told.{sheet-some}
 -- the k-th number is the first that the plant cannot hold
 pub record FirstOut (numbers : List Whole) (k : ℕ) : Type 0 where
   pub inside : k < length numbers
-  pub out : whole_shown k (get_or numbers k Whole.Out) ≡ shows 14 k 0 []
-  pub before : (j : ℕ) → j < k → (v : ℤ) × (whole_shown j (get_or numbers j Whole.Out) ≡ shows 0 0 0 (v ∷ []))
+  pub out : whole_shown k (get_or numbers k None) ≡ shows 14 k 0 []
+  pub before : (j : ℕ) → j < k → (v : ℤ) × (whole_shown j (get_or numbers j None) ≡ shows 0 0 0 (v ∷ []))
 
 pub record BadResult (sheet : List ℕ) (k : ℕ) : Type 0 where
   pub values : List ℤ
@@ -42,49 +41,49 @@ pub record BadResult (sheet : List ℕ) (k : ℕ) : Type 0 where
   pub first : FirstOut (made_numbers (sheet_of values)) k
 
 first_out : (l : List Whole) (k : ℕ) → ((all (map is_near l) ≡ false) × (first_false (map is_near l) ≡ k)) ↔ FirstOut l k
-first_out l k = Iff.trans (first-exactly is_near Whole.Out l k) (
+first_out l k = Iff.trans (first-exactly is_near None l k) (
   λ f. record {
     inside = f.inside;
-    out = out (get_or l k Whole.Out) f.fails;
-    before = λ j h. let w = get_or l j Whole.Out in (near_value w, ap (whole_shown j) (near-is w (f.before j h)));
+    out = out (get_or l k None) f.fails;
+    before = λ j h. let w = get_or l j None in (near_value w, ap (whole_shown j) (near-is w (f.before j h)));
   },
   λ f. record {
     inside = f.inside;
-    fails = rw ((whole-exactly k (get_or l k Whole.Out) Whole.Out).0 f.out) refl;
-    before = λ j h. let w = f.before j h in rw ((whole-exactly j (get_or l j Whole.Out) (Whole.Near w.0)).0 w.1) refl;
+    fails = rw ((whole-exactly k (get_or l k None) None).0 f.out) refl;
+    before = λ j h. let w = f.before j h in rw ((whole-exactly j (get_or l j None) (Some w.0)).0 w.1) refl;
   },
 )
   where
     out : (w : Whole) → is_near w ≡ false → whole_shown k w ≡ shows 14 k 0 []
-    out Whole.Out e = refl
-    out (Whole.Near v) e = never (sym e)
+    out None e = refl
+    out (Some v) e = never (sym e)
 
 -- the sheet's reader
 pub fourteen-shown : (sheet : List ℕ) (k : ℕ) → (verdict_shown (sheet_read sheet).verdict ≡ shows 14 k 0 []) ↔ BadResult sheet k
 unfolding S.sheet_judged P.wide_modes
 fourteen-shown sheet k =
-    Iff.trans (verdict-exactly (sheet_read sheet).verdict (Verdict.Refused (bad_result k)) (sheet-some sheet) (refused-some (bad_result k) (λ q. omega arith))) (
+    Iff.trans (verdict-exactly (sheet_read sheet).verdict (Err (bad_result k)) (sheet-some sheet) (refused-some (bad_result k) (λ q. omega arith))) (
       λ e. there (values_of sheet_form sheet) refl e,
       λ b. back b,
     )
   where
-    other : (e : Refusal) → (e.number ≡ 14 → ⊥) → Verdict.Refused e ≡ Verdict.Refused (bad_result k) → BadResult sheet k
+    other : (e : Refusal) → (e.number ≡ 14 → ⊥) → ◌≡◌ {A = Verdict} (Err e) (Err (bad_result k)) → BadResult sheet k
     other e h a = let z : e ≡ bad_result k = cc in absurd (h (ap (λ (f : Refusal). f.number) z))
 
-    there : (t : Read (List ℤ)) → values_of sheet_form sheet ≡ t → (sheet_read_of (sheet_related t)).verdict ≡ Verdict.Refused (bad_result k) → BadResult sheet k
+    there : (t : Read (List ℤ)) → values_of sheet_form sheet ≡ t → (sheet_read_of (sheet_related t)).verdict ≡ Err (bad_result k) → BadResult sheet k
     there (refused e) q a = let z : e.number ≡ 14 = cc in absurd (not-told (sheet-values-told sheet e q) 14 refl z)
     there (read vs next) q a = go (all (lies (root_sheet h) (safe_sheet h))) refl (all (map (wide h.q) (bands_sheet h))) refl (all (map is_near (made_numbers h))) refl a
       where
         h : Sheet
         h = sheet_of vs
 
-        at_place : Verdict.Refused (bad_result (first_false (map is_near (made_numbers h)))) ≡ Verdict.Refused (bad_result k) → first_false (map is_near (made_numbers h)) ≡ k
+        at_place : ◌≡◌ {A = Verdict} (Err (bad_result (first_false (map is_near (made_numbers h))))) (Err (bad_result k)) → first_false (map is_near (made_numbers h)) ≡ k
         at_place a = let z : bad_result (first_false (map is_near (made_numbers h))) ≡ bad_result k = cc in ap (λ (f : Refusal). f.place) z
 
         go : (a : Bool) → within (root_sheet h) (safe_sheet h) ≡ a → (b : Bool) → all (map (wide h.q) (bands_sheet h)) ≡ b → (c : Bool) → all (map is_near (made_numbers h)) ≡ c
             → (sheet_read_of (guard a (bad (not_in_safe (first_false (lies (root_sheet h) (safe_sheet h))))) λ _.
             guard b (bad (narrow 0 (first_false (map (wide h.q) (bands_sheet h))))) λ _.
-            guard c (bad (bad_result (first_false (map is_near (made_numbers h))))) λ _. good h)).verdict ≡ Verdict.Refused (bad_result k)
+            guard c (bad (bad_result (first_false (map is_near (made_numbers h))))) λ _. good h)).verdict ≡ Err (bad_result k)
             → BadResult sheet k
         go false p b r c u e = other (not_in_safe (first_false (lies (root_sheet h) (safe_sheet h)))) (λ z. omega arith) e
         go true p false r c u e = other (narrow 0 (first_false (map (wide h.q) (bands_sheet h)))) (λ z. omega arith) e
@@ -92,7 +91,7 @@ fourteen-shown sheet k =
         go true p true r false u e =
             record { values = vs; next = next; was_read = q; root-safe = p; bands-wide = r; first = (first_out (made_numbers h) k).0 (u, at_place e) }
 
-    back : BadResult sheet k → (sheet_read sheet).verdict ≡ Verdict.Refused (bad_result k)
+    back : BadResult sheet k → (sheet_read sheet).verdict ≡ Err (bad_result k)
     back b =
         let w = (first_out (made_numbers (sheet_of b.values)) k).1 b.first in
         rw b.was_read (rw (b.root-safe, b.bands-wide, w.0, w.1) refl)

@@ -1,18 +1,12 @@
 -- What an answer shows (meaning's page Refusals) says which answer it is: two that show the same number, place, step and values are the same; of verdicts and
 -- of a controller's answers where no refusal's number is 0 (page Told says so). So a promise may be stated by what is shown (page Shown). Assumes nothing.
-use Rattle.std.specs.Prelude.{ℕ, ◌≡◌, refl, List, [], ◌∷◌, ◌↔◌, ℤ, pos}
+use Rattle.std.specs.Prelude.{ℕ, ◌≡◌, refl, List, [], ◌∷◌, ◌↔◌, ℤ, pos, Some, None, Ok, Err}
 use Rattle.std.proofs.Common.{sym, ap, arith}
 use Rattle.laws.specs.Tests.{never}
+use Rattle.meaning.specs.Answers.{Number, Signed, Walk, Verdict, Written, Answer, Whole}
 use Rattle.meaning.specs.declared.Refusal.{Refusal}
-use Rattle.meaning.specs.declared.Number.{Number}
-use Rattle.meaning.specs.declared.Signed.{Signed}
 use Rattle.meaning.specs.declared.Tried.{Tried}
-use Rattle.meaning.specs.declared.Walk.{Walk}
-use Rattle.meaning.specs.declared.Whole.{Whole}
-use Rattle.meaning.specs.declared.Verdict.{Verdict}
-use Rattle.meaning.specs.declared.Written.{Written}
 use Rattle.meaning.specs.declared.State.{State}
-use Rattle.meaning.specs.declared.Answer.{Answer}
 use Rattle.meaning.specs.Refusals.{Shown, number_shown, signed_shown, tried_shown, walk_shown, whole_shown, verdict_shown, written_shown, answer_shown}
 
 -- number, place, step and values
@@ -57,19 +51,19 @@ module _ (at : ℕ) where
   number-exactly a b = (go a b, λ e. ap (number_shown at) e)
     where
       go : (a b : Number) → number_shown at a ≡ number_shown at b → a ≡ b
-      go (Number.Value u m) (Number.Value v n) e = let q = same-values e in cc
-      go (Number.Value u m) Number.Broken e = differ 0 1 (λ q. omega arith) e
-      go Number.Broken (Number.Value v n) e = differ 1 0 (λ q. omega arith) e
-      go Number.Broken Number.Broken e = refl
+      go (Some (u, m)) (Some (v, n)) e = let q = same-values e in cc
+      go (Some (u, m)) None e = differ 0 1 (λ q. omega arith) e
+      go None (Some (v, n)) e = differ 1 0 (λ q. omega arith) e
+      go None None e = refl
 
   pub signed-exactly : (a b : Signed) → (signed_shown at a ≡ signed_shown at b) ↔ (a ≡ b)
   signed-exactly a b = (go a b, λ e. ap (signed_shown at) e)
     where
       go : (a b : Signed) → signed_shown at a ≡ signed_shown at b → a ≡ b
-      go (Signed.Value u m) (Signed.Value v n) e = let q = same-values e in cc
-      go (Signed.Value u m) Signed.Broken e = differ 0 1 (λ q. omega arith) e
-      go Signed.Broken (Signed.Value v n) e = differ 1 0 (λ q. omega arith) e
-      go Signed.Broken Signed.Broken e = refl
+      go (Some (u, m)) (Some (v, n)) e = let q = same-values e in cc
+      go (Some (u, m)) None e = differ 0 1 (λ q. omega arith) e
+      go None (Some (v, n)) e = differ 1 0 (λ q. omega arith) e
+      go None None e = refl
 
   pub tried-exactly : (a b : Tried) → (tried_shown at a ≡ tried_shown at b) ↔ (a ≡ b)
   tried-exactly a b = (go a b, λ e. ap (tried_shown at) e)
@@ -89,10 +83,10 @@ pub whole-exactly : (k : ℕ) (a b : Whole) → (whole_shown k a ≡ whole_shown
 whole-exactly k a b = (go a b, λ e. ap (whole_shown k) e)
   where
     go : (a b : Whole) → whole_shown k a ≡ whole_shown k b → a ≡ b
-    go (Whole.Near u) (Whole.Near v) e = let q = same-values e in cc
-    go (Whole.Near u) Whole.Out e = differ 0 14 (λ q. omega arith) e
-    go Whole.Out (Whole.Near v) e = differ 14 0 (λ q. omega arith) e
-    go Whole.Out Whole.Out e = refl
+    go (Some u) (Some v) e = let q = same-values e in cc
+    go (Some u) None e = differ 0 14 (λ q. omega arith) e
+    go None (Some v) e = differ 14 0 (λ q. omega arith) e
+    go None None e = refl
 
 -- ---- answers that pass a refusal on: where they are done they show values, and a refusal shows none
 
@@ -100,66 +94,66 @@ pub written-exactly : (a b : Written) → (written_shown a ≡ written_shown b) 
 written-exactly a b = (go a b, λ e. ap written_shown e)
   where
     go : (a b : Written) → written_shown a ≡ written_shown b → a ≡ b
-    go (Written.Length m) (Written.Length n) e = let q = same-values e in cc
-    go (Written.Length m) (Written.Refused f) e = let q = same-values e in never cc
-    go (Written.Refused f) (Written.Length n) e = let q = same-values e in never cc
-    go (Written.Refused f) (Written.Refused g) e = ap Written.Refused (same-refusal f g [] [] e)
+    go (Ok m) (Ok n) e = let q = same-values e in cc
+    go (Ok m) (Err f) e = let q = same-values e in never cc
+    go (Err f) (Ok n) e = let q = same-values e in never cc
+    go (Err f) (Err g) e = ap Err (same-refusal f g [] [] e)
 
 pub walk-exactly : (a b : Walk) → (walk_shown a ≡ walk_shown b) ↔ (a ≡ b)
 walk-exactly a b = (go a b, λ e. ap walk_shown e)
   where
     go : (a b : Walk) → walk_shown a ≡ walk_shown b → a ≡ b
-    go (Walk.Next m) (Walk.Next n) e = let q = same-values e in cc
-    go (Walk.Next m) (Walk.Refused f) e = let q = same-values e in never cc
-    go (Walk.Refused f) (Walk.Next n) e = let q = same-values e in never cc
-    go (Walk.Refused f) (Walk.Refused g) e = ap Walk.Refused (same-refusal f g [] [] e)
+    go (Ok m) (Ok n) e = let q = same-values e in cc
+    go (Ok m) (Err f) e = let q = same-values e in never cc
+    go (Err f) (Ok n) e = let q = same-values e in never cc
+    go (Err f) (Err g) e = ap Err (same-refusal f g [] [] e)
 
 -- ---- those that a refusal of number 0 could be taken for
 
 -- a refusal's number is not 0
-abbrev pub Some : Refusal → Type 0
-Some e = e.number ≡ 0 → ⊥
+abbrev pub Numbered : Refusal → Type 0
+Numbered e = e.number ≡ 0 → ⊥
 
 abbrev pub SomeVerdict : Verdict → Type 0
-SomeVerdict v = (e : Refusal) → v ≡ Verdict.Refused e → Some e
+SomeVerdict v = (e : Refusal) → v ≡ Err e → Numbered e
 
 pub verdict-exactly : (a b : Verdict) → SomeVerdict a → SomeVerdict b → (verdict_shown a ≡ verdict_shown b) ↔ (a ≡ b)
 verdict-exactly a b h k = (go a b h k, λ e. ap verdict_shown e)
   where
     go : (a b : Verdict) → SomeVerdict a → SomeVerdict b → verdict_shown a ≡ verdict_shown b → a ≡ b
-    go Verdict.Accepted Verdict.Accepted h k e = refl
-    go Verdict.Accepted (Verdict.Refused f) h k e = absurd (k f refl (sym (same_number e)))
-    go (Verdict.Refused f) Verdict.Accepted h k e = absurd (h f refl (same_number e))
-    go (Verdict.Refused f) (Verdict.Refused g) h k e = ap Verdict.Refused (same-refusal f g [] [] e)
+    go (Ok _) (Ok _) h k e = refl
+    go (Ok _) (Err f) h k e = absurd (k f refl (sym (same_number e)))
+    go (Err f) (Ok _) h k e = absurd (h f refl (same_number e))
+    go (Err f) (Err g) h k e = ap Err (same-refusal f g [] [] e)
 
 abbrev pub SomeAnswer : Answer → Type 0
-SomeAnswer a = (e : Refusal) → a ≡ Answer.Refused e → Some e
+SomeAnswer a = (e : Refusal) → a ≡ Err e → Numbered e
 
-same-state : (u v : ℕ) (s t : State) → pos u ∷ pos s.place ∷ pos s.left ∷ [] ≡ pos v ∷ pos t.place ∷ pos t.left ∷ [] → Answer.Mode u s ≡ Answer.Mode v t
+same-state : (u v : ℕ) (s t : State) → pos u ∷ pos s.place ∷ pos s.left ∷ [] ≡ pos v ∷ pos t.place ∷ pos t.left ∷ [] → ◌≡◌ {A = Answer} (Ok (u, s)) (Ok (v, t))
 same-state u v s t e =
     let a : u ≡ v = cc in
     let p : s.place ≡ t.place = cc in
     let l : s.left ≡ t.left = cc in
-    λ k. Answer.Mode (a k) (record { place = p k; left = l k })
+    λ k. Ok (a k, record { place = p k; left = l k })
 
 pub answer-exactly : (a b : Answer) → SomeAnswer a → SomeAnswer b → (answer_shown a ≡ answer_shown b) ↔ (a ≡ b)
 answer-exactly a b h k = (go a b h k, λ e. ap answer_shown e)
   where
     go : (a b : Answer) → SomeAnswer a → SomeAnswer b → answer_shown a ≡ answer_shown b → a ≡ b
-    go (Answer.Mode u s) (Answer.Mode v t) h k e = same-state u v s t (same-values e)
-    go (Answer.Mode u s) (Answer.Refused f) h k e = absurd (k f refl (sym (same_number e)))
-    go (Answer.Refused f) (Answer.Mode v t) h k e = absurd (h f refl (same_number e))
-    go (Answer.Refused f) (Answer.Refused g) h k e = ap Answer.Refused (same-refusal f g no_mode no_mode e)
+    go (Ok (u, s)) (Ok (v, t)) h k e = same-state u v s t (same-values e)
+    go (Ok (u, s)) (Err f) h k e = absurd (k f refl (sym (same_number e)))
+    go (Err f) (Ok (v, t)) h k e = absurd (h f refl (same_number e))
+    go (Err f) (Err g) h k e = ap Err (same-refusal f g no_mode no_mode e)
 
 -- what is done is no refusal
-pub accepted-some : SomeVerdict Verdict.Accepted
+pub accepted-some : SomeVerdict (Ok tt)
 accepted-some e q = never cc
 
-pub refused-some : (f : Refusal) → Some f → SomeVerdict (Verdict.Refused f)
+pub refused-some : (f : Refusal) → Numbered f → SomeVerdict (Err f)
 refused-some f s e q = let z : f ≡ e = cc in rw z at s
 
-pub mode-some : (u : ℕ) (then : State) → SomeAnswer (Answer.Mode u then)
+pub mode-some : (u : ℕ) (then : State) → SomeAnswer (Ok (u, then))
 mode-some u then e q = never cc
 
-pub call-some : (f : Refusal) → Some f → SomeAnswer (Answer.Refused f)
+pub call-some : (f : Refusal) → Numbered f → SomeAnswer (Err f)
 call-some f s e q = let z : f ≡ e = cc in rw z at s

@@ -2,17 +2,14 @@
 -- line, and the two together are absurd. The demands are those of page AsStated, of any checker, maker or controller, so it is the demand that shuts the program
 -- out, not only the contract's equation; plants and tables are those of page Starred, and the prover computes what is said of them.
 -- That the demands themselves can be met is page AsStated.
-use Rattle.std.specs.Prelude.{ℕ, ◌≤◌, ◌≡◌, true, List, [], ◌∷◌, length, take, get_or, ℤ, pos}
+use Rattle.std.specs.Prelude.{ℕ, ◌≤◌, ◌≡◌, true, List, [], ◌∷◌, length, take, get_or, ℤ, pos, Ok, Err}
 use Rattle.std.proofs.Math.Path.{refl}
 use Rattle.std.proofs.Common.{sym, ap, ◌∙◌}
 use native.Mathlib.Omega.{arith}
 use Rattle.laws.specs.Every as E
 use Rattle.laws.specs.Tests.{never}
-use Rattle.meaning.specs.declared.Answer.{Answer}
 use Rattle.meaning.specs.declared.Refusal.{Refusal}
 use Rattle.meaning.specs.declared.State.{State}
-use Rattle.meaning.specs.declared.Verdict.{Verdict}
-use Rattle.meaning.specs.declared.Written.{Written}
 use Rattle.meaning.specs.Computing.{computing}
 use Rattle.meaning.specs.Control.{idle}
 use Rattle.meaning.specs.Files.{good}
@@ -45,7 +42,7 @@ judged' : plant_judged P' ≡ good plant_p'
 unfolding computing
 judged' = refl
 
-accepted₁ : checked P table₁ ≡ Verdict.Accepted
+accepted₁ : checked P table₁ ≡ Ok tt
 unfolding computing
 accepted₁ = refl
 
@@ -55,7 +52,7 @@ just x = pos x ∷ []
 
 -- ---- a checker that refuses all tables: demand 3, last sentence, at line 1's table
 
-pub refuses-all : (check : Checker) → ((plant table : List ℕ) → check plant table ≡ Verdict.Accepted → ⊥) → AcceptsWorking check → ⊥
+pub refuses-all : (check : Checker) → ((plant table : List ℕ) → check plant table ≡ Ok tt → ⊥) → AcceptsWorking check → ⊥
 refuses-all check none demand = none P table₁ (demand P table₁ ((checked-exactly P table₁).0 accepted₁))
 
 -- ---- one that accepts all: demand 3, the run, at line 4's table, mode 1 everywhere
@@ -95,7 +92,7 @@ defined₅ : DefinedTable P' 1 table₅
 unfolding computing
 defined₅ = let t = (made-exactly P' plant_p' judged' 1 refl table₅).0 refl in record { p = plant_p'; judged = judged'; known = refl; tree = t.0; defined = t.1; is = t.2 }
 
-pub always-nine : (make : Maker) → ((plant : List ℕ) (form : ℕ) (buf : List ℕ) → (make plant form buf).answer ≡ Written.Refused (no_table 0)) → Makes make → ⊥
+pub always-nine : (make : Maker) → ((plant : List ℕ) (form : ℕ) (buf : List ℕ) → (make plant form buf).answer ≡ Err (no_table 0)) → Makes make → ⊥
 unfolding computing
 always-nine make nine demand = let w = (demand.nine P 1 []).0 (nine P 1 []) in w.3 table₁ refl accepted₁
 
@@ -108,7 +105,7 @@ writes_nothing make nothing demand =
 
 -- ---- one fixed table: demand 2, at lines 1 and 5
 
-pub one_table : (make : Maker) (table : List ℕ) → ((plant : List ℕ) (form : ℕ) (buf : List ℕ) (m : ℕ) → (make plant form buf).answer ≡ Written.Length m → take m (make plant form buf).buffer ≡ table)
+pub one_table : (make : Maker) (table : List ℕ) → ((plant : List ℕ) (form : ℕ) (buf : List ℕ) (m : ℕ) → (make plant form buf).answer ≡ Ok m → take m (make plant form buf).buffer ≡ table)
     → Makes make → ⊥
 one_table make table fixed demand =
     let a = demand.writes P 1 (lent 7) table₁ defined₁ (omega arith) in
@@ -134,14 +131,14 @@ then₉ = record { place = 4; left = 1 }
 
 -- line 9, of every controller of which the demand is true
 module _ (control : Controller) (demand : Answers control) where
-  line-9 : (control P' table₅ idle (just 200) ≡ Answer.Mode 0 then₉) × (control P' table₅ then₉ (just 186) ≡ Answer.Mode 1 idle)
+  line-9 : (control P' table₅ idle (just 200) ≡ Ok (0, then₉)) × (control P' table₅ then₉ (just 186) ≡ Ok (1, idle))
   unfolding computing tiled₅ Y.having
   line-9 = (
     demand.first-mode P' table₅ tiled₅ (just 200) refl (record { box = root_of plant_p'; modes = 0 ∷ 1 ∷ []; place = 2 }) refl 0 (1 ∷ []) refl,
     demand.next-mode P' table₅ tiled₅ (just 186) refl 4 0 (record { few = omega arith; behind-header = omega arith; mode = 1; later = []; all_left = refl; end = 5; stand = record { end = refl; bytes = refl }; are-modes = (omega arith, tt) }),
   )
 
-pub one-mode : (control : Controller) (u : ℕ) → ((plant table : List ℕ) (st then : State) (x : List ℤ) (v : ℕ) → control plant table st x ≡ Answer.Mode v then → v ≡ u)
+pub one-mode : (control : Controller) (u : ℕ) → ((plant table : List ℕ) (st then : State) (x : List ℤ) (v : ℕ) → control plant table st x ≡ Ok (v, then) → v ≡ u)
     → Answers control → ⊥
 one-mode control u fixed demand =
     let w = line-9 control demand in
@@ -150,7 +147,7 @@ one-mode control u fixed demand =
 -- while modes are left, the mode of the call before
 pub first-again : (control : Controller)
     → ((plant table : List ℕ) (st then after : State) (x y : List ℤ) (u v : ℕ)
-    → control plant table st x ≡ Answer.Mode u then → 1 ≤ then.left → control plant table then y ≡ Answer.Mode v after → v ≡ u)
+    → control plant table st x ≡ Ok (u, then) → 1 ≤ then.left → control plant table then y ≡ Ok (v, after) → v ≡ u)
     → Answers control → ⊥
 first-again control again demand =
     let w = line-9 control demand in
@@ -159,12 +156,12 @@ first-again control again demand =
 -- ---- a step or place made up: the table of refusals, line 4
 
 -- line 4, of every checker of which the demand is true
-line-4 : (check : Checker) → Tells check → check P table₄ ≡ Verdict.Refused (leaves 2 1)
+line-4 : (check : Checker) → Tells check → check P table₄ ≡ Err (leaves 2 1)
 unfolding computing laid₄ S.images E.Every
 line-4 check demand =
     demand.leaving P table₄ laid₄ (record { box = root_of plant_p; modes = 1 ∷ []; place = 2 }) (record { front = []; back = []; are = refl; work = tt })
     1 (record { before = []; it = (rules_of 1 plant_p).image 1 (root_of plant_p); behind = []; are = refl; inside = tt; outside = refl; step = refl })
 
 -- another number, place or step
-pub made_up : (check : Checker) (e : Refusal) → (e ≡ leaves 2 1 → ⊥) → check P table₄ ≡ Verdict.Refused e → Tells check → ⊥
-made_up check e other told demand = let q : Verdict.Refused e ≡ Verdict.Refused (leaves 2 1) = sym told ∙ line-4 check demand in other (cc)
+pub made_up : (check : Checker) (e : Refusal) → (e ≡ leaves 2 1 → ⊥) → check P table₄ ≡ Err e → Tells check → ⊥
+made_up check e other told demand = let q : Err e ≡ Err (leaves 2 1) = sym told ∙ line-4 check demand in other (cc)

@@ -1,13 +1,9 @@
 -- The starred lines of document 01 ("Readings and tables on both sides"), line 13 with the second mode that request 2026-02 gives it, one statement about
 -- the definitions: the checker computes each line. Relies on crates/meaning alone. Lines 10 and 12 are not starred: crates/examples, page Worked, computes
 -- them, and the second program's tests run them.
-use Rattle.std.specs.Prelude.{ℕ, ◌≡◌, refl, List, [], ◌∷◌, ◌++◌, length, replicate, ℤ, pos, neg_ℤ, Float}
+use Rattle.std.specs.Prelude.{ℕ, ◌≡◌, refl, List, [], ◌∷◌, ◌++◌, length, replicate, ℤ, pos, neg_ℤ, Float, Some, Ok, Err}
 use Rattle.std.specs.Float.{binary64}
 use Rattle.std.specs.Float.Ieee.{of_bits}
-use Rattle.meaning.specs.declared.Verdict.{Verdict}
-use Rattle.meaning.specs.declared.Written.{Written}
-use Rattle.meaning.specs.declared.Answer.{Answer}
-use Rattle.meaning.specs.declared.Whole.{Whole}
 use Rattle.meaning.specs.Refusals.{leaves, misses, no_table, short}
 use Rattle.meaning.specs.Files.{file_of}
 use Rattle.meaning.specs.Buffers.{Left, refused_with}
@@ -63,7 +59,7 @@ lent m = replicate m 0xAA
 
 -- written, with m bytes behind that were left alone
 abbrev wrote : List ℕ → ℕ → Left
-wrote bytes m = record { answer = Written.Length (length bytes); buffer = bytes ++ lent m }
+wrote bytes m = record { answer = Ok (length bytes); buffer = bytes ++ lent m }
 
 -- ---- line 13's sheet: form, n, r, q, K, D; R; S; w; time 1, outside 8, loss 0.125; a heater of 0.125 at 40; and the plant made of it
 
@@ -102,9 +98,9 @@ pub record StarredLines : Type 0 where
       × (maker_left P₀ 1 (lent 6) ≡ refused_with (no_table 0) (lent 6))
   pub line2 : (image_by 1 195 225 ≡ one (pos 205) (pos 232)) × (image_by 0 195 225 ≡ one (pos 185) (pos 212))
   pub line3 : (image_by 1 195 210 ≡ one (pos 205) (pos 219)) × (image_by 0 211 225 ≡ one (pos 200) (pos 212))
-  pub line4 : (checked P table₄ ≡ Verdict.Refused (leaves 2 1))
-      × (checked P' table₄ ≡ Verdict.Refused (misses 2 1))
-      × (checked P table₅ ≡ Verdict.Refused (leaves 2 1))
+  pub line4 : (checked P table₄ ≡ Err (leaves 2 1))
+      × (checked P' table₄ ≡ Err (misses 2 1))
+      × (checked P table₅ ≡ Err (leaves 2 1))
   pub line5 : (maker_left P' 1 (lent 5) ≡ wrote table₅ 0)
       × (image_by 0 195 225 ≡ one (pos 185) (pos 212))
       × (image_by 1 185 212 ≡ one (pos 196) (pos 221))
@@ -113,9 +109,9 @@ pub record StarredLines : Type 0 where
   pub line7 : image (record { q = 2; rows = record { entries = pos 3 ∷ minus 2 ∷ []; offset = pos 0; low = minus 1; high = pos 0 } ∷ [] })
       (side (pos 10) (pos 20) ∷ side (pos 5) (pos 8) ∷ []) ≡ one (pos 7) (pos 25)
   pub line8 : (children (one (pos 7) (pos 8)) ≡ one (pos 7) (pos 7) ∷ one (pos 8) (pos 8) ∷ []) × (children (one (pos 7) (pos 7)) ≡ [])
-  pub line9 : (controlled P' table₅ idle (pos 200 ∷ []) ≡ Answer.Mode 0 (record { place = 4; left = 1 }))
-      × (controlled P' table₅ (record { place = 4; left = 1 }) (pos 186 ∷ []) ≡ Answer.Mode 1 idle)
-  pub line11 : (whole_of 20_000 2 three_quarters ≡ Whole.Near (pos 2)) × (whole_of 20_000 2 minus_three_quarters ≡ Whole.Near (minus 2))
+  pub line9 : (controlled P' table₅ idle (pos 200 ∷ []) ≡ Ok (0, record { place = 4; left = 1 }))
+      × (controlled P' table₅ (record { place = 4; left = 1 }) (pos 186 ∷ []) ≡ Ok (1, idle))
+  pub line11 : (whole_of 20_000 2 three_quarters ≡ Some (pos 2)) × (whole_of 20_000 2 minus_three_quarters ≡ Some (minus 2))
   pub line13 : (file_of sheet_form sheet₁₃ ≡ bytes₁₃) × (made_left bytes₁₃ (lent 30) ≡ wrote (file_of plant_form plant₁₃) 6)
 
 pub starred : StarredLines

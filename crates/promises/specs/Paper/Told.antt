@@ -3,7 +3,7 @@
 -- controller the plant's own refusal, or, the plant being good, the table's: the checker 1, 2, 6, 7 and 8, the controller 1, 2, 6, 11 and 12. Places and steps are
 -- as page Telling says. And what is shown is 0 exactly where it is accepted, written, answered. Of all inputs. Relies on pages Faults, WalkTold and Made; that each
 -- of these numbers is told of some input is page EachTold. Which refusal it is the definitions say.
-use Rattle.std.specs.Prelude.{ℕ, ◌≤◌, ◌≡◌, Bool, true, false, List, [], ◌∷◌, ◌↔◌, leb, eqb, length, ℤ}
+use Rattle.std.specs.Prelude.{ℕ, ◌≤◌, ◌≡◌, Bool, true, false, List, [], ◌∷◌, ◌↔◌, leb, eqb, length, ℤ, Ok, Err}
 use Rattle.std.proofs.Math.Path.{refl}
 use Rattle.std.proofs.Common.{ap, arith}
 use Rattle.std.proofs.lemmas.List.{length-map}
@@ -12,13 +12,10 @@ use Rattle.laws.specs.Guards.{guard}
 use Rattle.laws.specs.Lists.{at}
 use Rattle.laws.specs.Tabs.{length-tab}
 use Rattle.laws.specs.Tests.{never}
+use Rattle.meaning.specs.Answers.{Verdict, Written, Answer}
 use Rattle.meaning.specs.declared.Sheet.{Sheet}
 use Rattle.meaning.specs.declared.Refusal.{Refusal}
-use Rattle.meaning.specs.declared.Walk.{Walk}
-use Rattle.meaning.specs.declared.Verdict.{Verdict}
-use Rattle.meaning.specs.declared.Written.{Written}
 use Rattle.meaning.specs.declared.State.{State}
-use Rattle.meaning.specs.declared.Answer.{Answer}
 use Rattle.meaning.specs.Refusals.{Shown, bad_state, short, verdict_shown, written_shown, answer_shown}
 use Rattle.meaning.specs.Boxes.{Side, side, fits}
 use Rattle.meaning.specs.Buffers.{left, refused_with}
@@ -39,7 +36,7 @@ use Rattle.promises.specs.Files.Judged.{judged-sound}
 use Rattle.promises.specs.Tables.Made.{made_told}
 use Rattle.promises.specs.Files.PlantFiles.{plant_file}
 use Rattle.promises.specs.Sheets.SheetFiles.{sheet_file}
-use Rattle.promises.specs.Paper.Shows.{refusing, no_mode, Some}
+use Rattle.promises.specs.Paper.Shows.{refusing, no_mode, Numbered}
 use Rattle.promises.specs.Files.Telling.{one_of, are_of, Place, TellingBy, Telling, SheetTelling, guard-keeps, told_more, not-told}
 use Rattle.promises.specs.Tables.WalkTold.{WalkTells, walk-keeps, table-told, header-tells, walk-tells, rule-tells}
 
@@ -72,24 +69,24 @@ controller_numbers = 1 ∷ 2 ∷ 6 ∷ 11 ∷ 12 ∷ []
 module _ (r : Rules) (s : List ℕ) where
   -- accepted, or refused so
   abbrev VerdictTells : Verdict → Type 0
-  VerdictTells Verdict.Accepted = Unit {0}
-  VerdictTells (Verdict.Refused e) = Telling checker_numbers (length s) e
+  VerdictTells (Ok _) = Unit {0}
+  VerdictTells (Err e) = Telling checker_numbers (length s) e
 
   pub end-tells : r.K ≤ 6 → WalkTells checker_numbers (length s) (table_end r s)
   end-tells most =
-      walk-keeps checker_numbers (length s) (WalkTells checker_numbers (length s)) (header r.form r.n s) Walk.Refused _ (header-tells checker_numbers s refl refl refl r.form r.n) (λ e t. t)
+      walk-keeps checker_numbers (length s) (WalkTells checker_numbers (length s)) (header r.form r.n s) Err _ (header-tells checker_numbers s refl refl refl r.form r.n) (λ e t. t)
       (λ at l. walk-tells checker_numbers s refl refl r (rule r) (rule-tells r checker_numbers s refl refl most) r.D at r.root l)
 
   verdict-tells : r.K ≤ 6 → VerdictTells (verdict r s)
   unfolding W.verdict
   verdict-tells most =
-      walk-keeps checker_numbers (length s) VerdictTells (table_end r s) Verdict.Refused _ (end-tells most) (λ e t. t)
+      walk-keeps checker_numbers (length s) VerdictTells (table_end r s) Err _ (end-tells most) (λ e t. t)
       (λ next m. guard-keeps VerdictTells (eqb next (length s)) _ (λ _. table-told checker_numbers s refl refl next m) (λ _. tt))
 
   -- answered, or refused so
   abbrev pub AnswerTells : Answer → Type 0
-  AnswerTells (Answer.Mode u then) = Unit {0}
-  AnswerTells (Answer.Refused e) = Telling controller_numbers (length s) e
+  AnswerTells (Ok (u, then)) = Unit {0}
+  AnswerTells (Err e) = Telling controller_numbers (length s) e
 
   pub state-told : Telling controller_numbers (length s) bad_state
   state-told = record { number = refl; place = refl; step = refl }
@@ -113,41 +110,41 @@ pub data Told (plant table numbers : List ℕ) (e : Refusal) : Type 0 where
   of-plant : plant_judged plant ≡ bad e → Telling plant_numbers (length plant) e → Told plant table numbers e
   of-table : (p : Plant) → plant_judged plant ≡ good p → Telling numbers (length table) e → Told plant table numbers e
 
-pub checker-told : (plant table : List ℕ) (e : Refusal) → checked plant table ≡ Verdict.Refused e → Told plant table checker_numbers e
+pub checker-told : (plant table : List ℕ) (e : Refusal) → checked plant table ≡ Err e → Told plant table checker_numbers e
 unfolding T.checked
 checker-told plant table e = go (plant_judged plant) refl
   where
-    of : (r : Rules) (v : Verdict) → VerdictTells r table v → v ≡ Verdict.Refused e → Telling checker_numbers (length table) e
-    of r Verdict.Accepted h a = never cc
-    of r (Verdict.Refused f) h a = let z : f ≡ e = cc in rw z at h
+    of : (r : Rules) (v : Verdict) → VerdictTells r table v → v ≡ Err e → Telling checker_numbers (length table) e
+    of r (Ok _) h a = never cc
+    of r (Err f) h a = let z : f ≡ e = cc in rw z at h
 
-    go : (j : Judged Plant) → plant_judged plant ≡ j → on_plant j Verdict.Refused (λ p. verdict (rules_of (form_of table) p) table) ≡ Verdict.Refused e → Told plant table checker_numbers e
+    go : (j : Judged Plant) → plant_judged plant ≡ j → on_plant j Err (λ p. verdict (rules_of (form_of table) p) table) ≡ Err e → Told plant table checker_numbers e
     go (bad f) q a = let z : f ≡ e = cc in let w = rw z at q in of-plant w (plant-told plant e w)
     go (good p) q a = of-table p q (of (rules_of (form_of table) p) (verdict (rules_of (form_of table) p) table) (verdict-tells (rules_of (form_of table) p) table (judged-sound plant p q).ranges.k-high) a)
 
 -- ---- writers into a lent buffer: 10 besides
 
 pub left-refused : (P : Refusal → Type 0) (j : Judged (List ℕ)) → ((e : Refusal) → j ≡ bad e → P e) → ((bytes : List ℕ) → j ≡ good bytes → P short)
-    → (buf : List ℕ) (e : Refusal) → (left j buf).answer ≡ Written.Refused e → P e
+    → (buf : List ℕ) (e : Refusal) → (left j buf).answer ≡ Err e → P e
 left-refused P (bad f) h ten buf e a = let z : f ≡ e = cc in h e (ap bad z)
 left-refused P (good bytes) h ten buf e a = go (leb (length bytes) (length buf)) a
   where
-    go : (t : Bool) → (guard t (refused_with short buf) λ _. record { answer = Written.Length (length bytes); buffer = sets buf 0 bytes }).answer ≡ Written.Refused e → P e
+    go : (t : Bool) → (guard t (refused_with short buf) λ _. record { answer = Ok (length bytes); buffer = sets buf 0 bytes }).answer ≡ Err e → P e
     go true a = never cc
     go false a = let z : e ≡ short = cc in rw z (ten bytes refl)
 
 left-told : {column : List Place} (numbers more : List ℕ) (size : ℕ) (j : Judged (List ℕ)) → ((e : Refusal) → j ≡ bad e → TellingBy column numbers size e)
     → are_of more numbers ≡ true → TellingBy column more size short
-    → (buf : List ℕ) (e : Refusal) → (left j buf).answer ≡ Written.Refused e → TellingBy column more size e
+    → (buf : List ℕ) (e : Refusal) → (left j buf).answer ≡ Err e → TellingBy column more size e
 left-told {column} numbers more size j h some ten = left-refused (TellingBy column more size) j (λ e q. told_more (h e q) more some) (λ _ _. ten)
 
-pub maker-told : (plant : List ℕ) (form : ℕ) (buf : List ℕ) (e : Refusal) → (maker_left plant form buf).answer ≡ Written.Refused e
+pub maker-told : (plant : List ℕ) (form : ℕ) (buf : List ℕ) (e : Refusal) → (maker_left plant form buf).answer ≡ Err e
     → Telling maker_numbers (length plant) e
 unfolding T.maker_left
 maker-told plant form buf = left-told (9 ∷ plant_numbers) maker_numbers (length plant) (made plant form) (made_told plant form) refl (record { number = refl; place = refl; step = refl }) buf
 
 -- sheet to plant
-pub sheet-maker-told : (sheet buf : List ℕ) (e : Refusal) → (made_left sheet buf).answer ≡ Written.Refused e
+pub sheet-maker-told : (sheet buf : List ℕ) (e : Refusal) → (made_left sheet buf).answer ≡ Err e
     → SheetTelling sheet_maker_numbers (length sheet) e
 unfolding S.made_left
 sheet-maker-told sheet buf =
@@ -164,7 +161,7 @@ file-told : {A : Type 0} (tells : Refusal → Type 0) (bytes : List ℕ) (j : Ju
 file-told tells bytes (good a) h e q = never cc
 file-told tells bytes (bad f) h e q = let z : f ≡ e = cc in h e (ap bad z)
 
-pub plant-writer-told : (p : Plant) (buf : List ℕ) (e : Refusal) → (plant_left p buf).answer ≡ Written.Refused e → Telling plant_writer_numbers (length (plant_file p)) e
+pub plant-writer-told : (p : Plant) (buf : List ℕ) (e : Refusal) → (plant_left p buf).answer ≡ Err e → Telling plant_writer_numbers (length (plant_file p)) e
 unfolding P.plant_left
 plant-writer-told p buf =
     let s = plant_file p in
@@ -173,14 +170,14 @@ plant-writer-told p buf =
 
 -- by 2 only where its form is not known
 pub formed-writer-told : (p : Plant) → 1 ≤ p.form → p.form ≤ plant_forms
-    → (buf : List ℕ) (e : Refusal) → (plant_left p buf).answer ≡ Written.Refused e → Telling formed_writer_numbers (length (plant_file p)) e
+    → (buf : List ℕ) (e : Refusal) → (plant_left p buf).answer ≡ Err e → Telling formed_writer_numbers (length (plant_file p)) e
 unfolding P.plant_left
 formed-writer-told p least known buf =
     let s = plant_file p in
     left-told plant_value_numbers formed_writer_numbers (length s) (file_judged s (plant_judged s))
     (file-told (Telling plant_value_numbers (length s)) s (plant_judged s) (plant-file-told p least known)) refl (record { number = refl; place = refl; step = refl }) buf
 
-pub sheet-writer-told : (h : Sheet) (buf : List ℕ) (e : Refusal) → (sheet_left h buf).answer ≡ Written.Refused e → SheetTelling sheet_writer_numbers (length (sheet_file h)) e
+pub sheet-writer-told : (h : Sheet) (buf : List ℕ) (e : Refusal) → (sheet_left h buf).answer ≡ Err e → SheetTelling sheet_writer_numbers (length (sheet_file h)) e
 unfolding S.sheet_left
 sheet-writer-told h buf =
     let s = sheet_file h in
@@ -193,80 +190,80 @@ pub record Showing (Done : Type 0) (Tells : Refusal → Type 0) (otherwise : Lis
   pub zero-exactly : (a.number ≡ 0) ↔ Done
   pub or-told : (a.number ≡ 0 → ⊥) → (e : Refusal) × (a ≡ refusing e otherwise) × Tells e
 
-module _ (Tells : Refusal → Type 0) (some : (e : Refusal) → Tells e → Some e) where
-  pub verdict-shows : (v : Verdict) → ((e : Refusal) → v ≡ Verdict.Refused e → Tells e) → Showing (v ≡ Verdict.Accepted) Tells [] (verdict_shown v)
-  verdict-shows Verdict.Accepted h = record { zero-exactly = (λ _. refl, λ _. refl); or-told = λ z. absurd (z refl) }
-  verdict-shows (Verdict.Refused e) h =
+module _ (Tells : Refusal → Type 0) (some : (e : Refusal) → Tells e → Numbered e) where
+  pub verdict-shows : (v : Verdict) → ((e : Refusal) → v ≡ Err e → Tells e) → Showing (v ≡ Ok tt) Tells [] (verdict_shown v)
+  verdict-shows (Ok _) h = record { zero-exactly = (λ _. refl, λ _. refl); or-told = λ z. absurd (z refl) }
+  verdict-shows (Err e) h =
       let t = h e refl in
       record { zero-exactly = (λ z. absurd (some e t z), λ z. never cc); or-told = λ _. (e, refl, t) }
 
-  pub written-shows : (w : Written) → ((e : Refusal) → w ≡ Written.Refused e → Tells e) → Showing ((m : ℕ) × (w ≡ Written.Length m)) Tells [] (written_shown w)
-  written-shows (Written.Length m) h = record { zero-exactly = (λ _. (m, refl), λ _. refl); or-told = λ z. absurd (z refl) }
-  written-shows (Written.Refused e) h =
+  pub written-shows : (w : Written) → ((e : Refusal) → w ≡ Err e → Tells e) → Showing ((m : ℕ) × (w ≡ Ok m)) Tells [] (written_shown w)
+  written-shows (Ok m) h = record { zero-exactly = (λ _. (m, refl), λ _. refl); or-told = λ z. absurd (z refl) }
+  written-shows (Err e) h =
       let t = h e refl in
       record { zero-exactly = (λ z. absurd (some e t z), λ w. let z = w.1 in never cc); or-told = λ _. (e, refl, t) }
 
-  pub answer-shows : (a : Answer) → ((e : Refusal) → a ≡ Answer.Refused e → Tells e) → Showing ((u : ℕ) × (then : State) × (a ≡ Answer.Mode u then)) Tells no_mode (answer_shown a)
-  answer-shows (Answer.Mode u then) h = record { zero-exactly = (λ _. (u, then, refl), λ _. refl); or-told = λ z. absurd (z refl) }
-  answer-shows (Answer.Refused e) h =
+  pub answer-shows : (a : Answer) → ((e : Refusal) → a ≡ Err e → Tells e) → Showing ((u : ℕ) × (then : State) × (a ≡ Ok (u, then))) Tells no_mode (answer_shown a)
+  answer-shows (Ok (u, then)) h = record { zero-exactly = (λ _. (u, then, refl), λ _. refl); or-told = λ z. absurd (z refl) }
+  answer-shows (Err e) h =
       let t = h e refl in
       record { zero-exactly = (λ z. absurd (some e t z), λ w. let z = w.2 in never cc); or-told = λ _. (e, refl, t) }
 
 -- no refusal is told by 0
-telling-some : {column : List Place} (numbers : List ℕ) (size : ℕ) → one_of numbers 0 ≡ false → (e : Refusal) → TellingBy column numbers size e → Some e
+telling-some : {column : List Place} (numbers : List ℕ) (size : ℕ) → one_of numbers 0 ≡ false → (e : Refusal) → TellingBy column numbers size e → Numbered e
 telling-some numbers size h e t = not-told t 0 h
 
-pub told-some : (plant table numbers : List ℕ) → one_of numbers 0 ≡ false → (e : Refusal) → Told plant table numbers e → Some e
+pub told-some : (plant table numbers : List ℕ) → one_of numbers 0 ≡ false → (e : Refusal) → Told plant table numbers e → Numbered e
 told-some plant table numbers h e (of-plant q t) = not-told t 0 refl
 told-some plant table numbers h e (of-table p q t) = not-told t 0 h
 
-pub checker-some : (plant table : List ℕ) (e : Refusal) → checked plant table ≡ Verdict.Refused e → Some e
+pub checker-some : (plant table : List ℕ) (e : Refusal) → checked plant table ≡ Err e → Numbered e
 checker-some plant table e q = told-some plant table checker_numbers refl e (checker-told plant table e q)
 
-pub plant-shows : (plant : List ℕ) → Showing ((plant_read plant).verdict ≡ Verdict.Accepted) (Telling plant_numbers (length plant)) [] (verdict_shown (plant_read plant).verdict)
+pub plant-shows : (plant : List ℕ) → Showing ((plant_read plant).verdict ≡ Ok tt) (Telling plant_numbers (length plant)) [] (verdict_shown (plant_read plant).verdict)
 plant-shows plant = verdict-shows (Telling plant_numbers (length plant)) (telling-some plant_numbers (length plant) refl) (plant_read plant).verdict (go (plant_judged plant) refl)
   where
-    go : (j : Judged Plant) → plant_judged plant ≡ j → (e : Refusal) → (read_of j).verdict ≡ Verdict.Refused e → Telling plant_numbers (length plant) e
+    go : (j : Judged Plant) → plant_judged plant ≡ j → (e : Refusal) → (read_of j).verdict ≡ Err e → Telling plant_numbers (length plant) e
     go (good p) q e a = never cc
     go (bad f) q e a = let z : f ≡ e = cc in plant-told plant e (rw z at q)
 
 -- a sheet that is refused by its reader is judged so
-sheet-refused : (sheet : List ℕ) (e : Refusal) → (sheet_read sheet).verdict ≡ Verdict.Refused e → SheetTelling sheet_numbers (length sheet) e
+sheet-refused : (sheet : List ℕ) (e : Refusal) → (sheet_read sheet).verdict ≡ Err e → SheetTelling sheet_numbers (length sheet) e
 sheet-refused sheet e = go (sheet_judged sheet) refl
   where
-    go : (j : Judged Sheet) → sheet_judged sheet ≡ j → (sheet_read_of j).verdict ≡ Verdict.Refused e → SheetTelling sheet_numbers (length sheet) e
+    go : (j : Judged Sheet) → sheet_judged sheet ≡ j → (sheet_read_of j).verdict ≡ Err e → SheetTelling sheet_numbers (length sheet) e
     go (good h) q a = never cc
     go (bad f) q a = let z : f ≡ e = cc in sheet-told sheet e (rw z at q)
 
-pub sheet-some : (sheet : List ℕ) (e : Refusal) → (sheet_read sheet).verdict ≡ Verdict.Refused e → Some e
+pub sheet-some : (sheet : List ℕ) (e : Refusal) → (sheet_read sheet).verdict ≡ Err e → Numbered e
 sheet-some sheet e q = telling-some sheet_numbers (length sheet) refl e (sheet-refused sheet e q)
 
-pub sheet-shows : (sheet : List ℕ) → Showing ((sheet_read sheet).verdict ≡ Verdict.Accepted) (SheetTelling sheet_numbers (length sheet)) [] (verdict_shown (sheet_read sheet).verdict)
+pub sheet-shows : (sheet : List ℕ) → Showing ((sheet_read sheet).verdict ≡ Ok tt) (SheetTelling sheet_numbers (length sheet)) [] (verdict_shown (sheet_read sheet).verdict)
 sheet-shows sheet = verdict-shows (SheetTelling sheet_numbers (length sheet)) (telling-some sheet_numbers (length sheet) refl) (sheet_read sheet).verdict (sheet-refused sheet)
 
 pub sheet-maker-shows : (sheet buf : List ℕ)
-    → Showing ((m : ℕ) × ((made_left sheet buf).answer ≡ Written.Length m)) (SheetTelling sheet_maker_numbers (length sheet)) [] (written_shown (made_left sheet buf).answer)
+    → Showing ((m : ℕ) × ((made_left sheet buf).answer ≡ Ok m)) (SheetTelling sheet_maker_numbers (length sheet)) [] (written_shown (made_left sheet buf).answer)
 sheet-maker-shows sheet buf =
     written-shows (SheetTelling sheet_maker_numbers (length sheet)) (telling-some sheet_maker_numbers (length sheet) refl) (made_left sheet buf).answer (sheet-maker-told sheet buf)
 
 pub maker-shows : (plant : List ℕ) (form : ℕ) (buf : List ℕ)
-    → Showing ((m : ℕ) × ((maker_left plant form buf).answer ≡ Written.Length m)) (Telling maker_numbers (length plant)) [] (written_shown (maker_left plant form buf).answer)
+    → Showing ((m : ℕ) × ((maker_left plant form buf).answer ≡ Ok m)) (Telling maker_numbers (length plant)) [] (written_shown (maker_left plant form buf).answer)
 maker-shows plant form buf =
     written-shows (Telling maker_numbers (length plant)) (telling-some maker_numbers (length plant) refl) (maker_left plant form buf).answer (maker-told plant form buf)
 
 pub checker-shows : (plant table : List ℕ)
-    → Showing (checked plant table ≡ Verdict.Accepted) (Told plant table checker_numbers) [] (verdict_shown (checked plant table))
+    → Showing (checked plant table ≡ Ok tt) (Told plant table checker_numbers) [] (verdict_shown (checked plant table))
 checker-shows plant table = verdict-shows (Told plant table checker_numbers) (told-some plant table checker_numbers refl) (checked plant table) (checker-told plant table)
 
 -- the writers of values: places are those of the file that they would be
 pub plant-writer-shows : (p : Plant) (buf : List ℕ)
-    → Showing ((m : ℕ) × ((plant_left p buf).answer ≡ Written.Length m)) (Telling plant_writer_numbers (length (plant_file p))) [] (written_shown (plant_left p buf).answer)
+    → Showing ((m : ℕ) × ((plant_left p buf).answer ≡ Ok m)) (Telling plant_writer_numbers (length (plant_file p))) [] (written_shown (plant_left p buf).answer)
 plant-writer-shows p buf =
     let size = length (plant_file p) in
     written-shows (Telling plant_writer_numbers size) (telling-some plant_writer_numbers size refl) (plant_left p buf).answer (plant-writer-told p buf)
 
 pub sheet-writer-shows : (h : Sheet) (buf : List ℕ)
-    → Showing ((m : ℕ) × ((sheet_left h buf).answer ≡ Written.Length m)) (SheetTelling sheet_writer_numbers (length (sheet_file h))) [] (written_shown (sheet_left h buf).answer)
+    → Showing ((m : ℕ) × ((sheet_left h buf).answer ≡ Ok m)) (SheetTelling sheet_writer_numbers (length (sheet_file h))) [] (written_shown (sheet_left h buf).answer)
 sheet-writer-shows h buf =
     let size = length (sheet_file h) in
     written-shows (SheetTelling sheet_writer_numbers size) (telling-some sheet_writer_numbers size refl) (sheet_left h buf).answer (sheet-writer-told h buf)

@@ -4,7 +4,7 @@
 -- whose fields tell only such refusals; then the forms of plants and sheets, and the tests behind them. Relies on pages Files and Framed. Which refusal it is the
 -- definitions `plant_judged` and `sheet_judged` say.
 use Prim.Native.Nat.{ℕ, zero, suc, ◌+◌, ◌-◌, ◌*◌, ◌≤◌, ◌<◌}
-use Rattle.std.specs.Prelude.{◌≡◌, Bool, cond, eqb, ℤ, pos, nat_abs, Float}
+use Rattle.std.specs.Prelude.{◌≡◌, Bool, cond, eqb, ℤ, pos, nat_abs, Float, Some}
 use Rattle.std.proofs.Math.Path.{refl}
 use Rattle.std.proofs.Common.{sym, ap, mul-le-mul, arith, length-append, pow_mono}
 use Rattle.std.proofs.Math.Bool.{true, false}
@@ -18,10 +18,8 @@ use Rattle.laws.specs.Lists.{at, tab, tabs, all, first_false}
 use Rattle.laws.specs.Standing.{Stands, stand-within}
 use Rattle.laws.specs.Tabs.{length-tab, length-tabs}
 use Rattle.laws.specs.Tests.{never}
-use Rattle.meaning.specs.declared.Number.{Number}
 use Rattle.meaning.specs.declared.Refusal.{Refusal}
 use Rattle.meaning.specs.declared.Sheet.{Sheet}
-use Rattle.meaning.specs.declared.Whole.{Whole}
 use Rattle.meaning.specs.Boxes as B
 use Rattle.meaning.specs.Boxes.{Side, side_at, lies}
 use Rattle.meaning.specs.Files as F
@@ -196,7 +194,7 @@ written-tells : (numbers s : List ℕ) (one : one_of numbers 1 ≡ true) (three 
     → (next : ℕ) → Stands s 0 (bytes_of form) next → ReadTells numbers (length s) (values_of (headed forms most rest) s)
 unfolding F.values_at P.headed
 written-tells numbers s one three forms most rest t form least known few next w =
-    let first : number_at s 0 ≡ Number.Value form next = reads form 0 next s (omega arith) w in
+    let first : number_at s 0 ≡ Some (form, next) = reads form 0 next s (omega arith) w in
     let behind = sized most (rest form) in
     ended-tells numbers s one three (values_at (headed forms most rest) s 0)
     (rw (first, from-holds 1 forms form least known) (before-tells numbers (length s) (pos form) (values_at behind s next)
@@ -313,10 +311,10 @@ numbers-many : (h : Sheet) → h.n ≤ 4 → length (made_numbers h) ≤ 350
 unfolding S.made_numbers
 numbers-many h few =
     let n = h.n in
-    let edges = map Whole.Near (sheet_edges h) in
+    let edges = map Some (sheet_edges h) in
     let bands = tabs (made_band h) n 0 in
     let rows = tabs (λ u. tabs (made_row h u) n 0) (made_modes h) 0 in
-    let header = map (λ v. Whole.Near (pos v)) (1 ∷ n ∷ made_modes h ∷ h.q ∷ h.k ∷ h.d ∷ []) in
+    let header = map (λ v. Some (pos v)) (1 ∷ n ∷ made_modes h ∷ h.q ∷ h.k ∷ h.d ∷ []) in
     let row : (u i : ℕ) → length (made_row h u i) ≡ n + 1 = λ u i. omega (arith, length-append (tab (entry_at h u i) n 0) (offset_at h u i ∷ []), length-tab (entry_at h u i) n 0) in
     let mode : (u : ℕ) → length (tabs (made_row h u) n 0) ≡ (n + 1) * n = λ u. length-tabs (made_row h u) (n + 1) (row u) n 0 in
     let modes : made_modes h ≤ 16 = pow_mono {j = 4} (omega (arith, emitters-few h n)) in
@@ -326,7 +324,7 @@ numbers-many h few =
       length-append header (edges ++ (bands ++ rows)),
       length-append edges (bands ++ rows),
       length-append bands rows,
-      length-map (sheet_edges h) Whole.Near,
+      length-map (sheet_edges h) Some,
       length-tabs (edges_of h.rlo h.rhi h.slo h.shi) 4 (λ k. refl) n 0,
       length-tabs (made_band h) 2 (λ k. refl) n 0,
       length-tabs (λ u. tabs (made_row h u) n 0) ((n + 1) * n) mode (made_modes h) 0,

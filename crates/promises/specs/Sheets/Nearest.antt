@@ -2,7 +2,7 @@
 -- the nearest one, halves away from zero. Said without fractions: what is divided by u stands beside u times the whole number.
 -- Relies on lib.Ieee for which floats a format holds; every result of f64 is one.
 use Prim.Native.Nat.{ℕ, zero, suc, ◌+◌, ◌-◌, ◌*◌, ◌/◌, ◌%◌, ◌^◌, ◌≤◌, ◌<◌}
-use Rattle.std.specs.Prelude.{◌≡◌, Bool, true, false, ◌&&◌, cond, T, eqb, ltb, leb, ℤ, negsuc, ◌+ℤ◌, ◌-ℤ◌, ◌*ℤ◌, Float}
+use Rattle.std.specs.Prelude.{◌≡◌, Bool, true, false, ◌&&◌, cond, T, eqb, ltb, leb, ℤ, negsuc, ◌+ℤ◌, ◌-ℤ◌, ◌*ℤ◌, Float, Some, None}
 use Rattle.std.proofs.Math.Path.{refl, ap}
 use Rattle.std.proofs.Common.{sym, ◌∙◌, le_of_suc-le-suc, lt_of_not-le, lt_irrefl, lt_of_lt_of_le, div-one, mul-one, zero-mul, mul_assoc, mul_left_comm, mul_comm, add-mul, mod-lt, div-add-mod', arith, leb→le, leb-true, pow-add}
 use Rattle.std.proofs.Math.Nat.{div-eq_of_lt}
@@ -17,7 +17,6 @@ use Rattle.std.specs.Float.Ieee.Exact.{HasValue}
 use Rattle.std.specs.Float.Ieee.Fits.{down_pos, and_l, and_r}
 use Rattle.laws.specs.Integers.{P, N, zarith, sub, neg, abs, apart, abs_neg, mul-neg, mul-add, abs-sub, abs-mul}
 use Rattle.laws.specs.Tests.{never}
-use Rattle.meaning.specs.declared.Whole.{Whole}
 use Rattle.meaning.specs.Sheets as S
 use Rattle.meaning.specs.Sheets.{finite, signed_by, nearest, limited_to, whole_of, units, units_of}
 
@@ -107,18 +106,18 @@ signed-nearest s u t v p h l = record {
 
 -- ---- what `whole_of` answers
 
-pub out-near : {A : Type 0} {v : ℤ} → Whole.Out ≡ Whole.Near v → A
+pub out-near : {A : Type 0} {v : ℤ} → None ≡ Some v → A
 out-near e = never (cc)
 
-pub limited-was : (limit : ℕ) (w v : ℤ) → limited_to limit w ≡ Whole.Near v → (w ≡ v) × (nat_abs v ≤ limit)
+pub limited-was : (limit : ℕ) (w v : ℤ) → limited_to limit w ≡ Some v → (w ≡ v) × (nat_abs v ≤ limit)
 limited-was limit w v e = go (leb (nat_abs w) limit) refl e
   where
-    go : (b : Bool) → leb (nat_abs w) limit ≡ b → cond b (Whole.Near w) Whole.Out ≡ Whole.Near v → (w ≡ v) × (nat_abs v ≤ limit)
+    go : (b : Bool) → leb (nat_abs w) limit ≡ b → cond b (Some w) None ≡ Some v → (w ≡ v) × (nat_abs v ≤ limit)
     go true q e = let z : w ≡ v = cc in (z, rw (← z) (leb-true (nat_abs w) limit q))
     go false q e = out-near e
 
 -- within the limit
-pub whole-limit : (limit k : ℕ) (x : Float) (v : ℤ) → whole_of limit k x ≡ Whole.Near v → nat_abs v ≤ limit
+pub whole-limit : (limit k : ℕ) (x : Float) (v : ℤ) → whole_of limit k x ≡ Some v → nat_abs v ≤ limit
 unfolding S.whole_of
 whole-limit limit k nan v h = out-near h
 whole-limit limit k (inf s) v h = out-near h

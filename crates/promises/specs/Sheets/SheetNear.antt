@@ -1,6 +1,6 @@
 -- A sheet whose every number a plant can hold (meaning's `fitting`): its entries, offsets and widened ends are numbers, each within its limit.
 -- Relies on page Nearest. How near they are to the sheet's own is page SheetSteps.
-use Rattle.std.specs.Prelude.{ℕ, ◌*◌, ◌≤◌, ◌<◌, ◌≡◌, refl, true, ℤ, nat_abs, ◌+ℤ◌, ◌-ℤ◌}
+use Rattle.std.specs.Prelude.{ℕ, ◌*◌, ◌≤◌, ◌<◌, ◌≡◌, refl, true, ℤ, nat_abs, ◌+ℤ◌, ◌-ℤ◌, Some, None}
 use Rattle.std.proofs.Math.Path.{sym}
 use mathlib.Core.List.{[], ◌∷◌, ◌++◌, map}
 use Rattle.std.proofs.Common.{zero-add}
@@ -9,17 +9,17 @@ use Rattle.laws.specs.Every as E
 use Rattle.laws.specs.Every.{Every, every-parts, every-tab-at, every-tabs-at}
 use Rattle.laws.specs.Lists.{at, tab, tabs, all}
 use Rattle.laws.specs.Tests.{never, all-every}
+use Rattle.meaning.specs.Answers.{Whole}
 use Rattle.meaning.specs.declared.Sheet.{Sheet}
-use Rattle.meaning.specs.declared.Whole.{Whole}
 use Rattle.meaning.specs.Plants.{entry_limit, offset_limit, band_limit}
 use Rattle.meaning.specs.Sheets as S
 use Rattle.meaning.specs.Sheets.{limited_to, widening, coefficient, offset, sheet_edges, made_band, made_row, made_modes, made_numbers, is_near, near_value}
 use Rattle.promises.specs.Sheets.Nearest.{limited-was, whole-limit}
 use Rattle.promises.specs.Sheets.SheetNumbers.{entry_at, offset_at}
 
-pub near-is : (w : Whole) → is_near w ≡ true → w ≡ Whole.Near (near_value w)
-near-is (Whole.Near v) e = refl
-near-is Whole.Out e = never e
+pub near-is : (w : Whole) → is_near w ≡ true → w ≡ Some (near_value w)
+near-is (Some v) e = refl
+near-is None e = never e
 
 abbrev pub Near : Whole → Type 0
 Near w = is_near w ≡ true
@@ -34,9 +34,9 @@ module _ (h : Sheet) (fit : all (map is_near (made_numbers h)) ≡ true) where
   ends-and-rows =
       let bands = tabs (made_band h) h.n 0 in
       let rows = tabs (λ u. tabs (made_row h u) h.n 0) (made_modes h) 0 in
-      let header = map (λ v. Whole.Near (pos v)) (1 ∷ h.n ∷ made_modes h ∷ h.q ∷ h.k ∷ h.d ∷ []) in
-      let body = (every-parts Near header (map Whole.Near (sheet_edges h) ++ (bands ++ rows)) (all-every is_near (made_numbers h) fit)).1 in
-      every-parts Near bands rows (every-parts Near (map Whole.Near (sheet_edges h)) (bands ++ rows) body).1
+      let header = map (λ v. Some (pos v)) (1 ∷ h.n ∷ made_modes h ∷ h.q ∷ h.k ∷ h.d ∷ []) in
+      let body = (every-parts Near header (map Some (sheet_edges h) ++ (bands ++ rows)) (all-every is_near (made_numbers h) fit)).1 in
+      every-parts Near bands rows (every-parts Near (map Some (sheet_edges h)) (bands ++ rows) body).1
 
   ends-near : (i : ℕ) → i < h.n → Every Near (made_band h i)
   ends-near i l = rw (zero-add i) at (every-tabs-at Near (made_band h) h.n 0 ends-and-rows.0 i l)

@@ -1,6 +1,6 @@
 -- The plant made of a sheet, by its parts: its arrays are the sheet's edges and the rounded and widened numbers, each at its place.
 -- Relies on page Bodies. Any sheet, also one whose numbers a plant cannot hold (0 stands for such a number).
-use Rattle.std.specs.Prelude.{ℕ, suc, ◌+◌, ◌*◌, ◌≤◌, ◌<◌, length, get_or, ℤ, pos, ◌+ℤ◌, ◌-ℤ◌}
+use Rattle.std.specs.Prelude.{ℕ, suc, ◌+◌, ◌*◌, ◌≤◌, ◌<◌, length, get_or, ℤ, pos, ◌+ℤ◌, ◌-ℤ◌, Some}
 use Rattle.std.proofs.Math.Path.{◌≡◌, refl, ap}
 use Rattle.std.proofs.Common.{◌∙◌, le_refl, zero-add, length-append, get_or-append-add}
 use mathlib.Core.List.{List, [], ◌∷◌, ◌++◌, map, map-append}
@@ -11,7 +11,7 @@ use Rattle.std.proofs.Math.ListN.{get_or-append, get_or-map}
 use Rattle.laws.specs.Columns.{parted-at}
 use Rattle.laws.specs.Lists.{at, tab, tabs, padded}
 use Rattle.laws.specs.Tabs.{length-tab, length-tabs, get_d-tab, get_d-tabs, tab-same, tabs-same, map-tabs}
-use Rattle.meaning.specs.declared.Whole.{Whole}
+use Rattle.meaning.specs.Answers.{Whole}
 use Rattle.meaning.specs.declared.Sheet.{Sheet}
 use Rattle.meaning.specs.Images.{Row}
 use Rattle.meaning.specs.Plants as P
@@ -21,7 +21,7 @@ use Rattle.meaning.specs.Sheets.{sheet_edges, coefficient, offset, whole_of, lim
 use Rattle.promises.specs.Files.Bodies.{edge-column, band-at, rest_at}
 
 -- numbers that are taken over as they are
-pub map-values : (l : List ℤ) → map near_value (map Whole.Near l) ≡ l
+pub map-values : (l : List ℤ) → map near_value (map Some l) ≡ l
 map-values [] = refl
 map-values (v ∷ l) = ap (λ (t : List ℤ). v ∷ t) (map-values l)
 
@@ -56,8 +56,8 @@ module _ (h : Sheet) where
       coefs : List Whole
       coefs = tabs (λ u. tabs (made_row h u) h.n 0) (made_modes h) 0
 
-      step₁ : map near_value (map Whole.Near (sheet_edges h) ++ (bands ++ coefs)) ≡ sheet_edges h ++ map near_value (bands ++ coefs)
-      step₁ = map-append near_value (map Whole.Near (sheet_edges h)) (bands ++ coefs) ∙ rw (map-values (sheet_edges h)) refl
+      step₁ : map near_value (map Some (sheet_edges h) ++ (bands ++ coefs)) ≡ sheet_edges h ++ map near_value (bands ++ coefs)
+      step₁ = map-append near_value (map Some (sheet_edges h)) (bands ++ coefs) ∙ rw (map-values (sheet_edges h)) refl
 
       step₂ : map near_value (bands ++ coefs) ≡ tabs ends h.n 0 ++ rows
       step₂ =
@@ -128,16 +128,16 @@ module _ (h : Sheet) where
   entry-is : (u i j : ℕ) → j < h.n → at (numbers_row u i) j ≡ near_value (entry_at u i j)
   entry-is u i j l =
       let es = tab (entry_at u i) h.n 0 in
-      get_or-map near_value (es ++ offset_at u i ∷ []) j (Whole.Near (pos 0))
-      ∙ ap near_value (get_or-append es (offset_at u i ∷ []) (Whole.Near (pos 0)) j (omega (arith, length-tab (entry_at u i) h.n 0))
-      ∙ get_d-tab (entry_at u i) (Whole.Near (pos 0)) h.n 0 j l ∙ ap (entry_at u i) (zero-add j))
+      get_or-map near_value (es ++ offset_at u i ∷ []) j (Some (pos 0))
+      ∙ ap near_value (get_or-append es (offset_at u i ∷ []) (Some (pos 0)) j (omega (arith, length-tab (entry_at u i) h.n 0))
+      ∙ get_d-tab (entry_at u i) (Some (pos 0)) h.n 0 j l ∙ ap (entry_at u i) (zero-add j))
 
   offset-is : (u i : ℕ) → at (numbers_row u i) h.n ≡ near_value (offset_at u i)
   offset-is u i =
       let es = tab (entry_at u i) h.n 0 in
       let e : h.n ≡ length es + 0 = omega (arith, length-tab (entry_at u i) h.n 0) in
-      get_or-map near_value (es ++ offset_at u i ∷ []) h.n (Whole.Near (pos 0))
-      ∙ ap near_value (ap (λ (k : ℕ). get_or (es ++ offset_at u i ∷ []) k (Whole.Near (pos 0))) e ∙ get_or-append-add es (offset_at u i ∷ []) 0 (Whole.Near (pos 0)))
+      get_or-map near_value (es ++ offset_at u i ∷ []) h.n (Some (pos 0))
+      ∙ ap near_value (ap (λ (k : ℕ). get_or (es ++ offset_at u i ∷ []) k (Some (pos 0))) e ∙ get_or-append-add es (offset_at u i ∷ []) 0 (Some (pos 0)))
 
   pub row_made : (u i : ℕ) → u < made_modes h → i < h.n → row_of (made_plant h) u i ≡ record {
     entries = tab (λ j. near_value (entry_at u i j)) h.n 0;

@@ -2,7 +2,7 @@
 -- one table for each box. Relies on page Accept for each table, which is accepted exactly where it ends with its length; on Parts for how they stand; and
 -- on TableLengths, by which a table's length is a number that five bytes hold. What a refusal tells is left to the definitions.
 use Prim.Native.Nat.{ℕ, zero, suc, ◌+◌, ◌≤◌, ◌<◌}
-use Rattle.std.specs.Prelude.{◌≡◌, refl, ◌↔◌, eqb, ℤ, get_or}
+use Rattle.std.specs.Prelude.{◌≡◌, refl, ◌↔◌, eqb, ℤ, get_or, Some, Ok, Err}
 use Rattle.std.proofs.Math.Path.{sym, ap}
 use Rattle.std.proofs.Common.{◌∙◌}
 use Rattle.std.proofs.Math.Bool.{true}
@@ -17,9 +17,6 @@ use Rattle.laws.specs.Every.{Every}
 use Rattle.laws.specs.Lists.{tab, all}
 use Rattle.laws.specs.Standing.{Stands, stand-nil, stand-join}
 use Rattle.laws.specs.Tests.{guard_passed}
-use Rattle.meaning.specs.declared.Number.{Number}
-use Rattle.meaning.specs.declared.Verdict.{Verdict}
-use Rattle.meaning.specs.declared.Walk.{Walk}
 use Rattle.meaning.specs.Files.{read, values_at, file_of, good}
 use Rattle.meaning.specs.Numbers.{number_at, bytes_of}
 use Rattle.meaning.specs.Plants.{Plant, plant_judged, root_of, safe_of}
@@ -45,13 +42,13 @@ use Rattle.promises.specs.Starts.Started.{Started}
 record Tables (r : ℕ → ℕ → Rules) (s : List ℕ) (m i at : ℕ) : Type 0 where
   tables : List (List ℕ)
   count : length tables ≡ m
-  each : (k : ℕ) → k < length tables → verdict (r (i + k) (form_of (get_or tables k []))) (get_or tables k []) ≡ Verdict.Accepted
+  each : (k : ℕ) → k < length tables → verdict (r (i + k) (form_of (get_or tables k []))) (get_or tables k []) ≡ Ok tt
   stand : Stands s at (parts_of tables) (length s)
 
 module _ (r : ℕ → ℕ → Rules) (s : List ℕ) where
   -- a length, the table that it counts, and the others
-  first-table : (m i at first size : ℕ) → number_at s at ≡ Number.Value size first → first + size ≤ length s
-      → table_end (r i (form_of (part s first size))) (part s first size) ≡ Walk.Next size → Tables r s m (suc i) (first + size) → Tables r s (suc m) i at
+  first-table : (m i at first size : ℕ) → number_at s at ≡ Some (size, first) → first + size ≤ length s
+      → table_end (r i (form_of (part s first size))) (part s first size) ≡ Ok size → Tables r s m (suc i) (first + size) → Tables r s (suc m) i at
   unfolding S.parts_of
   first-table m i at first size q l e t =
       let z = part-size s first size l in
@@ -63,26 +60,26 @@ module _ (r : ℕ → ℕ → Rules) (s : List ℕ) where
         stand = stand-join number (stand-join (part-stands s first size l) t.stand);
       }
     where
-      each : verdict (r i (form_of (part s first size))) (part s first size) ≡ Verdict.Accepted → (k : ℕ) → k < suc (length t.tables)
-          → verdict (r (i + k) (form_of (get_or (part s first size ∷ t.tables) k []))) (get_or (part s first size ∷ t.tables) k []) ≡ Verdict.Accepted
+      each : verdict (r i (form_of (part s first size))) (part s first size) ≡ Ok tt → (k : ℕ) → k < suc (length t.tables)
+          → verdict (r (i + k) (form_of (get_or (part s first size ∷ t.tables) k []))) (get_or (part s first size ∷ t.tables) k []) ≡ Ok tt
       each a zero h = let z : i + 0 ≡ i = omega arith in rw z a
       each a (suc k) h = let z : i + suc k ≡ suc i + k = omega arith in rw z (t.each k (omega arith))
 
-  tables-were : (m i at : ℕ) → tables_at r s m i at ≡ Verdict.Accepted → Tables r s m i at
+  tables-were : (m i at : ℕ) → tables_at r s m i at ≡ Ok tt → Tables r s m i at
   unfolding S.tables_at S.parts_of
   tables-were zero i at e =
-      let g = guard_passed (eqb at (length s)) (λ _. Verdict.Accepted) refused-accepted e in
+      let g = guard_passed (eqb at (length s)) (λ _. Ok tt) refused-accepted e in
       let q : length s ≡ at = sym (eqb-true at (length s) g.0) in
       record { tables = []; count = refl; each = λ k l. absurd (omega arith); stand = rw q (stand-nil s at) }
   tables-were (suc m) i at e =
-      let l = length-read s at Verdict.Refused _ (λ _. refused-accepted) e in
+      let l = length-read s at Err _ (λ _. refused-accepted) e in
       let w = walk-went (table_end (r i (form_of (part s l.0 l.1))) (part s l.0 l.1)) _ _ (λ _. refused-accepted) l.4 in
       let g = guard_passed (eqb w.0 l.1) _ refused-accepted w.2 in
-      let end = w.1 ∙ ap (λ (k : ℕ). Walk.Next k) (eqb-true w.0 l.1 g.0) in
+      let end = w.1 ∙ ap (λ (k : ℕ). Ok k) (eqb-true w.0 l.1 g.0) in
       first-table m i at l.0 l.1 l.2 l.3 end (tables-were m (suc i) (l.0 + l.1) g.1)
 
-  tables-pass : (ts : List (List ℕ)) (i at : ℕ) → Every Short ts → ((k : ℕ) → k < length ts → verdict (r (i + k) (form_of (get_or ts k []))) (get_or ts k []) ≡ Verdict.Accepted)
-      → Stands s at (parts_of ts) (length s) → tables_at r s (length ts) i at ≡ Verdict.Accepted
+  tables-pass : (ts : List (List ℕ)) (i at : ℕ) → Every Short ts → ((k : ℕ) → k < length ts → verdict (r (i + k) (form_of (get_or ts k []))) (get_or ts k []) ≡ Ok tt)
+      → Stands s at (parts_of ts) (length s) → tables_at r s (length ts) i at ≡ Ok tt
   unfolding S.tables_at S.parts_of E.Every
   tables-pass [] i at short each h = simp (eq-eqb at (length s) (omega (arith, h.end)))
   tables-pass (t ∷ ts) i at short each h =
@@ -111,18 +108,18 @@ module _ (plant start : List ℕ) where
     pub tables-stand : Stands start t.next (parts_of t.tables) (length start)
     tables-stand = back-stands start (file_of (chain_form t.p.n) t.vs) (parts_of t.tables) t.next t.is (omega (arith, (writes-back (chain_form t.p.n) start 0 t.chain).1.end))
 
-    started-accepted : start_checked plant start ≡ Verdict.Accepted
+    started-accepted : start_checked plant start ≡ Ok tt
     unfolding S.start_checked
     started-accepted =
         rw (t.judged, t.chain, t.kept, ← t.count)
         (tables-pass (box_rules t.p t.vs) start t.tables 0 t.next tables-short (λ k h. rw zero-add (t.each k h)) tables-stand)
 
-  accepted-started : start_checked plant start ≡ Verdict.Accepted → Started plant start
+  accepted-started : start_checked plant start ≡ Ok tt → Started plant start
   unfolding S.start_checked
   accepted-started e =
-      let a = plant-went Verdict.Refused (λ _. refused-accepted) (plant_judged plant) _ e in
+      let a = plant-went Err (λ _. refused-accepted) (plant_judged plant) _ e in
       let p = a.0 in
-      let b = chain-went Verdict.Refused (λ _. refused-accepted) p.n (root_of p) (safe_of p) (values_at (chain_form p.n) start 0) _ a.2 in
+      let b = chain-went Err (λ _. refused-accepted) p.n (root_of p) (safe_of p) (values_at (chain_form p.n) start 0) _ a.2 in
       of p a.1 b.0 b.1 b.2 b.3 (tables-were (box_rules p b.0) start (above b.0 + 1) 0 b.1 b.4)
     where
       of : (p : Plant) → plant_judged plant ≡ good p → (vs : List ℤ) (next : ℕ) → values_at (chain_form p.n) start 0 ≡ read vs next
@@ -140,7 +137,7 @@ module _ (plant start : List ℕ) where
         is = (stand-join (writes-back (chain_form p.n) start 0 c).1 t.stand).bytes ∙ rw (drop-length start) (append-nil (start_of p.n vs t.tables));
       }
 
-  pub start-checked-exactly : (start_checked plant start ≡ Verdict.Accepted) ↔ Started plant start
+  pub start-checked-exactly : (start_checked plant start ≡ Ok tt) ↔ Started plant start
   start-checked-exactly = (accepted-started, started-accepted)
 
   -- ---- in one way

@@ -2,12 +2,10 @@
 -- come that the plant allows: no call is refused, every reading is in S, an idle call meets a reading in R within the sum of the longest patterns of
 -- tables 1..i, and from that call on the calls are those of R0's table, of which demand 3 holds. A run that passes through R in mid-pattern has not arrived:
 -- the call has to be idle. Relies on pages Accepted, Trees, Journeys and Home.
-use Rattle.std.specs.Prelude.{ℕ, ◌+◌, ◌-◌, ◌≤◌, ◌≡◌, refl, true, List, ℤ}
+use Rattle.std.specs.Prelude.{ℕ, ◌+◌, ◌-◌, ◌≤◌, ◌≡◌, refl, true, List, ℤ, Ok}
 use Rattle.std.proofs.Common.{sym, ap, ◌∙◌, arith}
 use Rattle.meaning.specs.declared.State.{State}
 use Rattle.meaning.specs.declared.StartState.{StartState}
-use Rattle.meaning.specs.declared.StartAnswer.{StartAnswer}
-use Rattle.meaning.specs.declared.Verdict.{Verdict}
 use Rattle.meaning.specs.Starts.{above, start_idle, state_in, answer_in, start_checked, start_controlled, in_box, StartRun, StartSamples}
 use Rattle.meaning.specs.Tables.{controlled, starts_in, safe_in, TableRun}
 use Rattle.meaning.specs.Trees.{longest}
@@ -25,7 +23,7 @@ use Rattle.promises.specs.Starts.Trees.{Trees, trees, longest_up_to}
 pub record Arrives (plant start : List ℕ) (i bound : ℕ) : Type 0 where
   -- no call is refused, and what is answered is a mode of the plant
   pub answered : {st : StartState} {x : List ℤ} → StartRun plant start i st x
-      → (u : ℕ) × (then : StartState) × (start_controlled plant start st x ≡ StartAnswer.Mode u then) × (is_mode plant u ≡ true)
+      → (u : ℕ) × (then : StartState) × (start_controlled plant start st x ≡ Ok (u, then)) × (is_mode plant u ≡ true)
   -- every reading lies in S
   pub in-safe : {st : StartState} {x : List ℤ} → StartRun plant start i st x → safe_in plant x ≡ true
   -- every run of so many samples meets an idle call on a reading in R, at a sample of number at most `bound`, the first call being sample 0
@@ -78,5 +76,5 @@ module _ {plant start : List ℕ} (w : Started plant start) (t : Trees w) where
   }
 
 -- of every accepted file, and of the trees that its tables are the layouts of
-pub arrival : (plant start : List ℕ) → start_checked plant start ≡ Verdict.Accepted → (w : Started plant start) × (t : Trees w) × Wanted w t
+pub arrival : (plant start : List ℕ) → start_checked plant start ≡ Ok tt → (w : Started plant start) × (t : Trees w) × Wanted w t
 arrival plant start a = let w = (start-checked-exactly plant start).0 a in (w, trees w, wanted w (trees w))

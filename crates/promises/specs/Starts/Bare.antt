@@ -1,19 +1,15 @@
 -- Start files with m 0 (document 02, request 2026-03, "With m 0, a controller's answers on an accepted file are .. as today"): every call with index 0 is
 -- answered as the table alone answers it, refusals and their places too, since of an accepted table only 11 and 12 are told, whose places are no bytes; every
 -- other index is 12. And of any m: what a call on an accepted table may be told. Relies on page Calls, on Finds for that an idle call in the box is answered.
-use Rattle.std.specs.Prelude.{ℕ, zero, suc, ◌+◌, ◌≤◌, ◌≡◌, refl, Bool, cond, eqb, ℤ}
+use Rattle.std.specs.Prelude.{ℕ, zero, suc, ◌+◌, ◌≤◌, ◌≡◌, refl, Bool, cond, eqb, ℤ, Some, None, Ok, Err}
 use Rattle.std.proofs.Math.Path.{sym}
 use Rattle.std.proofs.Common.{ap, ◌∙◌, arith, zero-add}
 use Rattle.std.proofs.Math.Bool.{true, false}
 use mathlib.Core.List.{List, [], append-nil}
 use Rattle.laws.specs.Guards.{guard}
-use Rattle.meaning.specs.declared.Answer.{Answer}
-use Rattle.meaning.specs.declared.Number.{Number}
-use Rattle.meaning.specs.declared.StartAnswer.{StartAnswer}
+use Rattle.meaning.specs.Answers.{Number, Answer, StartAnswer}
 use Rattle.meaning.specs.declared.State.{State}
 use Rattle.meaning.specs.declared.StartState.{StartState}
-use Rattle.meaning.specs.declared.Verdict.{Verdict}
-use Rattle.meaning.specs.declared.Walk.{Walk}
 use Rattle.meaning.specs.Control as C
 use Rattle.meaning.specs.Control.{idle, call, can_run, state_call, state_at, on_found, find}
 use Rattle.meaning.specs.Numbers.{number_at}
@@ -41,16 +37,16 @@ use Rattle.promises.specs.Starts.Trees.{sound}
 
 -- a mode, 11 or 12
 pub data Plain : Answer → Type 0 where
-  mode : (u : ℕ) (then : State) → Plain (Answer.Mode u then)
-  eleven : (k : ℕ) → Plain (Answer.Refused (outside k))
-  twelve : Plain (Answer.Refused bad_state)
+  mode : (u : ℕ) (then : State) → Plain (Ok (u, then))
+  eleven : (k : ℕ) → Plain (Err (outside k))
+  twelve : Plain (Err bad_state)
 
-module _ (r : Rules) (sizes : Sizes r) (splits : Splits r) (s : List ℕ) (a : verdict r s ≡ Verdict.Accepted) (x : r.Reading) where
+module _ (r : Rules) (sizes : Sizes r) (splits : Splits r) (s : List ℕ) (a : verdict r s ≡ Ok tt) (x : r.Reading) where
   -- the header is passed
-  head : header r.form r.n s ≡ Walk.Next (headed r.form r.n)
+  head : header r.form r.n s ≡ Ok (headed r.form r.n)
   head = let t = (accepted-exactly r sizes s).0 a in table-header r sizes s [] t.0 (t.2 ∙ sym (append-nil (table_of r t.0)))
 
-  pub idle-outside : holds r r.root x ≡ false → call r s idle x ≡ Answer.Refused (outside (missed r r.root x))
+  pub idle-outside : holds r r.root x ≡ false → call r s idle x ≡ Err (outside (missed r r.root x))
   unfolding C.call
   idle-outside h = simp (head, h)
 
@@ -68,17 +64,17 @@ module _ (r : Rules) (sizes : Sizes r) (splits : Splits r) (s : List ℕ) (a : v
   accepted-plain st = rw head (go st.place st.left)
     where
       idling : (b h : Bool) → holds r r.root x ≡ h
-          → Plain (guard b (Answer.Refused bad_state) λ _. guard h (Answer.Refused (outside (missed r r.root x))) λ _. on_found s (find r r.D s (headed r.form r.n) r.root x))
+          → Plain (guard b (Err bad_state) λ _. guard h (Err (outside (missed r r.root x))) λ _. on_found s (find r r.D s (headed r.form r.n) r.root x))
       idling false h e = twelve
       idling true false e = eleven (missed r r.root x)
       idling true true e = idle-inside e
 
-      runs : (b h : Bool) (place m : ℕ) (v : Number) → Plain (guard b (Answer.Refused bad_state) λ _. guard h (Answer.Refused (outside (missed r r.safe x))) λ _.
-          on_number v (Answer.Refused bad_state) λ u next. Answer.Mode u (state_at next m))
+      runs : (b h : Bool) (place m : ℕ) (v : Number) → Plain (guard b (Err bad_state) λ _. guard h (Err (outside (missed r r.safe x))) λ _.
+          on_number v (Err bad_state) λ u next. Ok (u, state_at next m))
       runs false h place m v = twelve
       runs true false place m v = eleven (missed r r.safe x)
-      runs true true place m Number.Broken = twelve
-      runs true true place m (Number.Value u next) = mode u (state_at next m)
+      runs true true place m None = twelve
+      runs true true place m (Some (u, next)) = mode u (state_at next m)
 
       go : (place left : ℕ) → Plain (state_call r s (headed r.form r.n) place left x)
       go place zero = idling (eqb place 0) (holds r r.root x) refl
@@ -94,18 +90,18 @@ unmoved i place a twelve = refl
 
 -- a table's answer as the file's: index 0 in front of its state, a refusal as it is
 abbrev pub bare_answer : Answer → StartAnswer
-bare_answer (Answer.Refused e) = StartAnswer.Refused e
-bare_answer (Answer.Mode u st) = StartAnswer.Mode u (record { index = 0; state = st })
+bare_answer (Err e) = Err e
+bare_answer (Ok (u, st)) = Ok (u, record { index = 0; state = st })
 
 pub answer-bare : (a : Answer) → answer_in 0 0 a ≡ bare_answer a
-answer-bare (Answer.Mode u st) = ap (λ (s : StartState). StartAnswer.Mode u s) (go (is_idle st) refl)
+answer-bare (Ok (u, st)) = ap (λ (s : StartState). Ok (u, s)) (go (is_idle st) refl)
   where
     go : (b : Bool) → is_idle st ≡ b → cond b start_idle (record { index = 0; state = st }) ≡ record { index = 0; state = st }
     go true e = rw (idle-is st e) refl
     go false e = refl
-answer-bare (Answer.Refused e) = go (at_byte e.number)
+answer-bare (Err e) = go (at_byte e.number)
   where
-    go : (b : Bool) → StartAnswer.Refused (cond b (refusal e.number (0 + e.place) e.step) e) ≡ StartAnswer.Refused e
+    go : (b : Bool) → ◌≡◌ {A = StartAnswer} (Err (cond b (refusal e.number (0 + e.place) e.step) e)) (Err e)
     go true = let q : 0 + e.place ≡ e.place = zero-add e.place in rw q refl
     go false = refl
 
@@ -142,5 +138,5 @@ module _ {plant start : List ℕ} (w : Started plant start) (alone : above w.vs 
   pub bare-plain : (st : State) (x : List ℤ) → Plain (controlled plant (table_at w 0) st x)
   bare-plain st x = rw (controlled-as plant w.p w.judged (table_at w 0) st x) (plain st x)
 
-  pub other-index : (i : ℕ) → 1 ≤ i → (st : State) (x : List ℤ) → start_controlled plant start (record { index = i; state = st }) x ≡ StartAnswer.Refused bad_state
+  pub other-index : (i : ℕ) → 1 ≤ i → (st : State) (x : List ℤ) → start_controlled plant start (record { index = i; state = st }) x ≡ Err bad_state
   other-index i l st x = index-over w i (omega arith) st x

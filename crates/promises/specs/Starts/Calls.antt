@@ -1,7 +1,7 @@
 -- A call on a start file that keeps its rules (page Started; document 02, request 2026-03): running, it is the call on the table of the box that the state
 -- names; idle, on that of the smallest box that holds the reading; outside Rm it is 11, and an index that cannot be is 12. These are all calls. Relies on
 -- pages Accepted and Places for where the tables are, and on Reaching. What the table then answers is left to the pages on tables.
-use Rattle.std.specs.Prelude.{ℕ, ◌+◌, ◌≤◌, ◌<◌, ◌≡◌, refl, Bool, true, false, ◌&&◌, ◌||◌, not, List, [], length, get_or, leb, eqb, ℤ}
+use Rattle.std.specs.Prelude.{ℕ, ◌+◌, ◌≤◌, ◌<◌, ◌≡◌, refl, Bool, true, false, ◌&&◌, ◌||◌, not, List, [], length, get_or, leb, eqb, ℤ, Err}
 use Rattle.std.proofs.Common.{sym, ◌∙◌, arith, zero-add}
 use borrow.Author.Tests.{le-leb, lt-leb, ne_eqb}
 use Rattle.laws.specs.Lists.{tab, all, first_false}
@@ -9,7 +9,6 @@ use Rattle.laws.specs.Tabs.{length-tab, get_d-tab, map-tab}
 use Rattle.laws.specs.Tests.{never, all-tab}
 use Rattle.meaning.specs.declared.State.{State}
 use Rattle.meaning.specs.declared.StartState.{StartState}
-use Rattle.meaning.specs.declared.StartAnswer.{StartAnswer}
 use Rattle.meaning.specs.Control.{idle, call}
 use Rattle.meaning.specs.Plants.{root_of}
 use Rattle.meaning.specs.Refusals.{outside, bad_state}
@@ -146,16 +145,16 @@ module _ {plant start : List ℕ} (w : Started plant start) where
 
   -- 11: the reading is outside Rm, and so outside every box
   pub outside-last : (x : List ℤ) → holds_at (above w.vs) x ≡ false
-      → start_controlled plant start start_idle x ≡ StartAnswer.Refused (outside (missed (rules_at (above w.vs)) (rules_at (above w.vs)).root x))
+      → start_controlled plant start start_idle x ≡ Err (outside (missed (rules_at (above w.vs)) (rules_at (above w.vs)).root x))
   unfolding S.start_controlled
   outside-last x h = simp (w.judged, w.chain, w.kept, le-leb 0 (above w.vs) (omega arith), h)
 
   -- ---- 12: an index that cannot be
 
-  pub index-over : (i : ℕ) → above w.vs < i → (st : State) (x : List ℤ) → start_controlled plant start (record { index = i; state = st }) x ≡ StartAnswer.Refused bad_state
+  pub index-over : (i : ℕ) → above w.vs < i → (st : State) (x : List ℤ) → start_controlled plant start (record { index = i; state = st }) x ≡ Err bad_state
   unfolding S.start_controlled
   index-over i l st x = simp (w.judged, w.chain, w.kept, lt-leb i (above w.vs) l)
 
-  pub index-idle : (i : ℕ) → 1 ≤ i → (x : List ℤ) → start_controlled plant start (record { index = i; state = idle }) x ≡ StartAnswer.Refused bad_state
+  pub index-idle : (i : ℕ) → 1 ≤ i → (x : List ℤ) → start_controlled plant start (record { index = i; state = idle }) x ≡ Err bad_state
   unfolding S.start_controlled
   index-idle i l x = simp (w.judged, w.chain, w.kept, ne_eqb i 0 (λ e. absurd (omega arith)), and-false (leb i (above w.vs)))

@@ -5,6 +5,7 @@
 use Rattle.std.specs.Prelude.{ℕ, zero, suc, ◌+◌, ◌≤◌, ◌<◌, ◌≡◌, refl, Bool, true, false, ◌&&◌, cond, List, length, leb, ℤ}
 use Rattle.std.proofs.Common.{sym, ap, subst, ◌∙◌, arith, le-leb}
 use Rattle.std.proofs.Math.Decide.{dec_lt}
+use Rattle.laws.specs.Pairs.{ok-first, ok-second}
 use Rattle.laws.specs.Tests.{never, second, both}
 use Rattle.meaning.specs.declared.State.{State}
 use Rattle.meaning.specs.declared.StartState.{StartState}
@@ -75,7 +76,7 @@ module _ {plant start : List ℕ} (w : Started plant start) where
     to-idle = refl;
     idle-alone = idle-alone c;
     calls = λ {st} {x} {u} {then} n g. let e = not-idle st n in rw e (running w c l st e x ∙ rw g refl);
-    one = λ a b. (cc, cc);
+    one = λ a b. (ok-first (sym b ∙ a), ok-second (sym b ∙ a));
     may-follow = λ u x y f. rw w.judged at f;
     in-safe = λ x h. rw w.judged h;
     in-goal = wide;

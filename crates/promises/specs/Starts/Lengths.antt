@@ -2,11 +2,9 @@
 -- form 3, at most 516,326; and one that is made of form 1 at most 491,660. Form and m take a byte each, an edge 3, a table's length 3. Of forms 1 and 2 the
 -- longest tables have n 2 and D 6; with n 3 and 4 the edges are more, the tables shorter by more than that. Of form 3 they are as long with any n that reaches
 -- n·D = 12, so n 4 has the longest file. Relies on pages Accepted, Maker, TableLengths and TreeLengths; that some file is so long is left out.
-use Rattle.std.specs.Prelude.{ℕ, zero, suc, ◌+◌, ◌-◌, ◌*◌, ◌/◌, ◌^◌, ◌≤◌, ◌<◌, ◌≡◌, refl, Bool, true, false, cond, List, [], ◌∷◌, ◌++◌, leb, eqb, nat_abs, length, get_or}
+use Rattle.std.specs.Prelude.{ℕ, zero, suc, ◌+◌, ◌-◌, ◌*◌, ◌/◌, ◌^◌, ◌≤◌, ◌<◌, ◌≡◌, refl, Bool, true, false, cond, List, [], ◌∷◌, ◌++◌, leb, eqb, nat_abs, length, get_or, Ok, Err}
 use Rattle.std.proofs.Common.{sym, ap, subst, ◌∙◌, arith, mul-le-mul, le_refl, eqb-true, length-append}
 use Rattle.laws.specs.Tests.{never}
-use Rattle.meaning.specs.declared.Verdict.{Verdict}
-use Rattle.meaning.specs.declared.Written.{Written}
 use Rattle.meaning.specs.Computing.{computing}
 use Rattle.meaning.specs.Files.{good, file_of}
 use Rattle.meaning.specs.Numbers.{bytes_of}
@@ -127,7 +125,7 @@ table-most plant start t i h =
     over-most (form_of table) (form-known table) t.p (judged-sound plant t.p t.judged) _ _ (box-size t.p t.vs i) table (t.each i h)
 
 -- whatever the forms of its tables
-pub accepted-length : (plant start : List ℕ) → start_checked plant start ≡ Verdict.Accepted → length start ≤ 530_810
+pub accepted-length : (plant start : List ℕ) → start_checked plant start ≡ Ok tt → length start ≤ 530_810
 accepted-length plant start e =
     let t = (start-checked-exactly plant start).0 e in
     let p = t.p in
@@ -138,7 +136,7 @@ accepted-length plant start e =
     omega (arith, started-length plant start t b (omega arith) each, s.ranges.n-high)
 
 -- where no table tells lengths
-pub accepted-length-untold : (plant start : List ℕ) → (e : start_checked plant start ≡ Verdict.Accepted)
+pub accepted-length-untold : (plant start : List ℕ) → (e : start_checked plant start ≡ Ok tt)
     → ((i : ℕ) → tells (form_of (get_or ((start-checked-exactly plant start).0 e).tables i [])) ≡ false) → length start ≤ 516_326
 accepted-length-untold plant start e untold =
     let t = (start-checked-exactly plant start).0 e in
@@ -177,7 +175,7 @@ accepted-length-one plant start t ones =
     let b = 2 + most false (2 ^ p.n) m p.d in
     let each : (i : ℕ) → i < length t.tables → length (get_or t.tables i []) ≤ b = λ i l.
     over-most 1 refl p s _ _ (box-size p t.vs i) (get_or t.tables i [])
-    (subst (λ (form : ℕ). verdict (box_rules p t.vs i form) (get_or t.tables i []) ≡ Verdict.Accepted) (ones i l) (t.each i l)) in
+    (subst (λ (form : ℕ). verdict (box_rules p t.vs i form) (get_or t.tables i []) ≡ Ok tt) (ones i l) (t.each i l)) in
     let small : b < 2 ^ 21 = omega (arith, tile-most p.modes, L.cap m p.n p.d s.ranges.n-low s.ranges.n-high s.ranges.d-high s.ranges.nd-high) in
     omega (
       arith,
@@ -193,13 +191,13 @@ made-length-one plant chain bytes e =
     accepted-length-one plant bytes (defined-started plant chain 1 bytes d) (λ i l. defined-form plant chain 1 bytes d i l)
 
 -- a buffer of so many is long enough for any
-pub start-maker-fits : (plant chain : List ℕ) (form : ℕ) (buf : List ℕ) → 530_810 ≤ length buf → (start_left plant chain form buf).answer ≡ Written.Refused R.short → ⊥
+pub start-maker-fits : (plant chain : List ℕ) (form : ℕ) (buf : List ℕ) → 530_810 ≤ length buf → (start_left plant chain form buf).answer ≡ Err R.short → ⊥
 start-maker-fits plant chain form buf l e = let w = (start-maker-ten plant chain form buf).0 e in omega (arith, w.2, made-length plant chain form w.0 w.1)
 
-pub start-maker-fits-one : (plant chain buf : List ℕ) → 491_660 ≤ length buf → (start_left plant chain 1 buf).answer ≡ Written.Refused R.short → ⊥
+pub start-maker-fits-one : (plant chain buf : List ℕ) → 491_660 ≤ length buf → (start_left plant chain 1 buf).answer ≡ Err R.short → ⊥
 start-maker-fits-one plant chain buf l e = let w = (start-maker-ten plant chain 1 buf).0 e in omega (arith, w.2, made-length-one plant chain w.0 w.1)
 
 pub start-maker-fits-untold : (plant chain : List ℕ) (form : ℕ) → tells form ≡ false → (buf : List ℕ) → 516_326 ≤ length buf
-    → (start_left plant chain form buf).answer ≡ Written.Refused R.short → ⊥
+    → (start_left plant chain form buf).answer ≡ Err R.short → ⊥
 start-maker-fits-untold plant chain form untold buf l e =
     let w = (start-maker-ten plant chain form buf).0 e in omega (arith, w.2, made-length-untold plant chain form untold w.0 w.1)

@@ -4,7 +4,7 @@
 -- tables, and all that stands behind the tile, do not count. Of every file, kept or not. Relies on page Local within the table, on Agreeing and Reaching.
 -- What a refused call reads is left out, but for one that is refused before any length, and a running one whose modes left can be read.
 use Prim.Native.Nat.{ℕ, zero, suc, ◌+◌, ◌≤◌, ◌<◌}
-use Rattle.std.specs.Prelude.{◌≡◌, true, false, ◌&&◌, ◌⊎◌, length, get_or, set, leb, eqb, ℤ}
+use Rattle.std.specs.Prelude.{◌≡◌, true, false, ◌&&◌, ◌⊎◌, length, get_or, set, leb, eqb, ℤ, Ok, Err}
 use Rattle.std.proofs.Math.Path.{refl}
 use Rattle.std.proofs.Common.{sym, ap, ◌∙◌, inl, inr, arith, length-append, length-set, get_or-set_other}
 use mathlib.Core.List.{List, [], ◌∷◌, ◌++◌}
@@ -12,12 +12,8 @@ use Rattle.laws.specs.Every.{Every}
 use Rattle.laws.specs.Lists.{tab, all}
 use Rattle.laws.specs.Standing.{Stands, stand-within}
 use Rattle.laws.specs.Tests.{never, second, guard_passed}
-use Rattle.meaning.specs.declared.Answer.{Answer}
-use Rattle.meaning.specs.declared.Found.{Found}
 use Rattle.meaning.specs.declared.StartState.{StartState}
-use Rattle.meaning.specs.declared.StartAnswer.{StartAnswer}
 use Rattle.meaning.specs.declared.State.{State}
-use Rattle.meaning.specs.declared.Walk.{Walk}
 use Rattle.meaning.specs.Control as C
 use Rattle.meaning.specs.Control.{call, are_read, can_run, state_call, find}
 use Rattle.meaning.specs.Files.{Read, read, refused, values_at, good}
@@ -106,7 +102,7 @@ pub record IdleUnread (plant start : List ℕ) (x : List ℤ) (u : ℕ) (then : 
   pub way : Reaching plant start start_idle x
   pub from : ℕ
   pub modes : List ℕ
-  pub found : find (rules_on way) (rules_on way).D (table_on way) 2 (rules_on way).root x ≡ Found.Tile from (length modes)
+  pub found : find (rules_on way) (rules_on way).D (table_on way) 2 (rules_on way).root x ≡ Ok (from, length modes)
   pub end : ℕ
   pub are : modes_at way.p.modes (length modes) (table_on way) from ≡ read modes end
   -- all that is read of the table is before that
@@ -115,9 +111,9 @@ pub record IdleUnread (plant start : List ℕ) (x : List ℤ) (u : ℕ) (then : 
   -- its header, the splits on the way and the tile. How long the table is is told in front of it.
   pub same : (other : List ℕ) → way.place + way.size ≤ length other
       → ((k : ℕ) → Sees start (box_on way) way.next way.place (In (read_of (rules_on way) x (table_on way) 2)) k → get_or other k 0 ≡ get_or start k 0)
-      → start_controlled plant other start_idle x ≡ StartAnswer.Mode u then
+      → start_controlled plant other start_idle x ≡ Ok (u, then)
 
-pub idle-unread : (plant start : List ℕ) (x : List ℤ) (u : ℕ) (then : StartState) → start_controlled plant start start_idle x ≡ StartAnswer.Mode u then
+pub idle-unread : (plant start : List ℕ) (x : List ℤ) (u : ℕ) (then : StartState) → start_controlled plant start start_idle x ≡ Ok (u, then)
     → IdleUnread plant start x u then
 idle-unread plant start x u then a =
     let way = answered-reaching plant start start_idle x a in
@@ -125,7 +121,7 @@ idle-unread plant start x u then a =
     of way (judged-sound plant way.p way.judged) (went (rules_on way) (table_on way) x u t.0 t.1)
   where
     by-tile : (way : Reaching plant start start_idle x) (from k : ℕ) (z : Seen (rules_on way) x (table_on way) 2 from k)
-        → find (rules_on way) (rules_on way).D (table_on way) 2 (rules_on way).root x ≡ Found.Tile from k → IdleUnread plant start x u then
+        → find (rules_on way) (rules_on way).D (table_on way) 2 (rules_on way).root x ≡ Ok (from, k) → IdleUnread plant start x u then
     by-tile way from k z found =
         let count : length z.modes ≡ k = (modes-stand way.p.modes k (table_on way) from z.modes z.end z.are).count in
         let size : length (table_on way) ≡ way.size = part-size start way.place way.size (table-inside start way.there) in
@@ -160,13 +156,13 @@ idle-unread plant start x u then a =
 pub idle-front : {plant start : List ℕ} {x : List ℤ} {u : ℕ} {then : StartState} (w : IdleUnread plant start x u then) (other : List ℕ)
     → w.way.place + w.way.size ≤ length other
     → ((k : ℕ) → Sees start (box_on w.way) w.way.next w.way.place (λ j. j < w.end) k → get_or other k 0 ≡ get_or start k 0)
-    → start_controlled plant other start_idle x ≡ StartAnswer.Mode u then
+    → start_controlled plant other start_idle x ≡ Ok (u, then)
 idle-front w other l same = w.same other l (λ k s. same k (sees_more (λ j h. in-before w.end _ j w.inside h) s))
 
 -- so a byte that it does not read may be any other
 pub idle-byte : {plant start : List ℕ} {x : List ℤ} {u : ℕ} {then : StartState} (w : IdleUnread plant start x u then) (k b : ℕ)
     → (Sees start (box_on w.way) w.way.next w.way.place (In (read_of (rules_on w.way) x (table_on w.way) 2)) k → ⊥)
-    → start_controlled plant (set start k b) start_idle x ≡ StartAnswer.Mode u then
+    → start_controlled plant (set start k b) start_idle x ≡ Ok (u, then)
 idle-byte {start = start} {x = x} w k b n =
     w.same (set start k b) (rw (length-set start k b) (table-inside start w.way.there))
     (others start k b (Sees start (box_on w.way) w.way.next w.way.place (In (read_of (rules_on w.way) x (table_on w.way) 2))) n)
@@ -174,7 +170,7 @@ idle-byte {start = start} {x = x} w k b n =
 -- ---- running
 
 -- what was read is inside the table
-header-inside : (form n : ℕ) (s : List ℕ) (at : ℕ) → header form n s ≡ Walk.Next at → at ≤ length s
+header-inside : (form n : ℕ) (s : List ℕ) (at : ℕ) → header form n s ≡ Ok at → at ≤ length s
 header-inside form n s at h =
     stand-within s (bytes_of form ++ bytes_of n) 0 at (header-stands form n s at h) (omega (arith, length-append (bytes_of form) (bytes_of n), bytes-some form))
 
@@ -190,7 +186,7 @@ read-inside N s at left us end l e = go us (modes-stand N left s at us end e)
     go (u ∷ us) w = modes-inside s at u us end w.stand
 
 -- two tables of one length with the same bytes in the header
-header-same : (r : Rules) → Sizes r → (s z : List ℕ) → length z ≡ length s → (at : ℕ) → header r.form r.n s ≡ Walk.Next at → Same s z 0 at → header r.form r.n z ≡ Walk.Next at
+header-same : (r : Rules) → Sizes r → (s z : List ℕ) → length z ≡ length s → (at : ℕ) → header r.form r.n s ≡ Ok at → Same s z 0 at → header r.form r.n z ≡ Ok at
 header-same r sizes s z long at h a =
     let i = header-inside r.form r.n s at h in
     header_read r.form r.n sizes.forms sizes.dimensions z at
@@ -198,7 +194,7 @@ header-same r sizes s z long at h a =
 
 -- a call on two tables of one length that have the same header and the same modes left from the state's place on
 module _ (r : Rules) (sizes : Sizes r) (s z : List ℕ) (long : length z ≡ length s) (st : State) (x : r.Reading) where
-  run-same : (at : ℕ) (us : List ℕ) (end : ℕ) → 1 ≤ st.left → header r.form r.n s ≡ Walk.Next at → modes_at r.N st.left s st.place ≡ read us end
+  run-same : (at : ℕ) (us : List ℕ) (end : ℕ) → 1 ≤ st.left → header r.form r.n s ≡ Ok at → modes_at r.N st.left s st.place ≡ read us end
       → Same s z 0 at → Same s z st.place end → call r z st x ≡ call r s st x
   unfolding C.call
   run-same at us end l h n a b =
@@ -225,7 +221,7 @@ HeaderOrModes place end j = (j < 2) ⊎ ((place ≤ j) × (j < end))
 
 -- The header was read, and so are the modes left, of which there are some: whatever is answered, no other byte of the table is read.
 pub running-same : (plant start : List ℕ) (st : StartState) (x : List ℤ) (way : Reaching plant start st x) (us : List ℕ) (end : ℕ) → 1 ≤ st.state.left
-    → header (form_of (table_on way)) way.p.n (table_on way) ≡ Walk.Next 2 → modes_at way.p.modes st.state.left (table_on way) st.state.place ≡ read us end
+    → header (form_of (table_on way)) way.p.n (table_on way) ≡ Ok 2 → modes_at way.p.modes st.state.left (table_on way) st.state.place ≡ read us end
     → (other : List ℕ) → way.place + way.size ≤ length other
     → ((k : ℕ) → Sees start (box_on way) way.next way.place (HeaderOrModes st.state.place end) k → get_or other k 0 ≡ get_or start k 0)
     → start_controlled plant other st x ≡ start_controlled plant start st x
@@ -245,7 +241,7 @@ running-same plant start st x way us end l h n other long same =
 -- such is a call that was answered
 record RunWas (r : Rules) (s : List ℕ) (st : State) : Type 0 where
   at : ℕ
-  head : header r.form r.n s ≡ Walk.Next at
+  head : header r.form r.n s ≡ Ok at
   some : 1 ≤ st.left
   modes : List ℕ
   end : ℕ
@@ -255,14 +251,14 @@ were-read : (o : Read (List ℕ)) → are_read o ≡ true → (us : List ℕ) ×
 were-read (refused e) h = never h
 were-read (read us end) h = (us, end, refl)
 
-run-was : (r : Rules) (s : List ℕ) (st : State) (x : r.Reading) {u : ℕ} {then : State} → is_idle st ≡ false → call r s st x ≡ Answer.Mode u then → RunWas r s st
+run-was : (r : Rules) (s : List ℕ) (st : State) (x : r.Reading) {u : ℕ} {then : State} → is_idle st ≡ false → call r s st x ≡ Ok (u, then) → RunWas r s st
 unfolding C.call
 run-was r s st x {u} {then} n e =
-    let w = walk-went (header r.form r.n s) Answer.Refused (λ at. state_call r s at st.place st.left x) (λ _. refused-mode) e in
+    let w = walk-went (header r.form r.n s) Err (λ at. state_call r s at st.place st.left x) (λ _. refused-mode) e in
     let k = go w.0 st.place st.left n w.2 in
     record { at = w.0; head = w.1; some = k.0; modes = k.1; end = k.2; are = k.3 }
   where
-    go : (at place left : ℕ) → (eqb place 0 && eqb left 0) ≡ false → state_call r s at place left x ≡ Answer.Mode u then
+    go : (at place left : ℕ) → (eqb place 0 && eqb left 0) ≡ false → state_call r s at place left x ≡ Ok (u, then)
         → (1 ≤ left) × (us : List ℕ) × (end : ℕ) × (modes_at r.N left s place ≡ read us end)
     go at place zero n e = let a = guard_passed (eqb place 0) _ refused-mode e in never (sym (rw a.0 at n))
     go at place (suc m) n e =
@@ -279,10 +275,10 @@ pub record RunningUnread (plant start : List ℕ) (st : StartState) (x : List �
   pub are : modes_at way.p.modes st.state.left (table_on way) st.state.place ≡ read modes end
   pub same : (other : List ℕ) → way.place + way.size ≤ length other
       → ((k : ℕ) → Sees start st.index way.next way.place (HeaderOrModes st.state.place end) k → get_or other k 0 ≡ get_or start k 0)
-      → start_controlled plant other st x ≡ StartAnswer.Mode u then
+      → start_controlled plant other st x ≡ Ok (u, then)
 
 pub running-unread : (plant start : List ℕ) (st : StartState) (x : List ℤ) (u : ℕ) (then : StartState) → is_idle st.state ≡ false
-    → start_controlled plant start st x ≡ StartAnswer.Mode u then → RunningUnread plant start st x u then
+    → start_controlled plant start st x ≡ Ok (u, then) → RunningUnread plant start st x u then
 running-unread plant start st x u then n a =
     let way = answered-reaching plant start st x a in
     let t = table-answered plant start st x way a in
@@ -301,7 +297,7 @@ running-unread plant start st x u then n a =
         }
 
 pub running-byte : {plant start : List ℕ} {st : StartState} {x : List ℤ} {u : ℕ} {then : StartState} (w : RunningUnread plant start st x u then) (k b : ℕ)
-    → (Sees start st.index w.way.next w.way.place (HeaderOrModes st.state.place w.end) k → ⊥) → start_controlled plant (set start k b) st x ≡ StartAnswer.Mode u then
+    → (Sees start st.index w.way.next w.way.place (HeaderOrModes st.state.place w.end) k → ⊥) → start_controlled plant (set start k b) st x ≡ Ok (u, then)
 running-byte {start = start} {st = st} w k b n =
     w.same (set start k b) (rw (length-set start k b) (table-inside start w.way.there))
     (others start k b (Sees start st.index w.way.next w.way.place (HeaderOrModes st.state.place w.end)) n)

@@ -3,14 +3,12 @@
 -- that form is accepted. And the maker, lent a buffer, answers 9 and 10 exactly as that and the
 -- buffer's length say. Relies on page Made over the rules of each box, and on page ChainTold: a plant or a chain is never refused by 9 or 10. That the
 -- function that makes does what `start_left` says is its contract.
-use Rattle.std.specs.Prelude.{ℕ, ◌+◌, ◌≤◌, ◌<◌, ◌≡◌, true, false, ◌↔◌, List, [], ◌∷◌, ℤ, length, get_or}
+use Rattle.std.specs.Prelude.{ℕ, ◌+◌, ◌≤◌, ◌<◌, ◌≡◌, true, false, ◌↔◌, List, [], ◌∷◌, ℤ, length, get_or, Ok, Err}
 use Rattle.std.proofs.Math.Path.{refl}
 use Rattle.std.proofs.Common.{ap, ◌∙◌, arith, zero-add}
 use Rattle.laws.specs.Lists.{tab, all}
 use Rattle.laws.specs.Tests.{never}
 use Rattle.meaning.specs.declared.Refusal.{Refusal}
-use Rattle.meaning.specs.declared.Verdict.{Verdict}
-use Rattle.meaning.specs.declared.Written.{Written}
 use Rattle.meaning.specs.Files.{read, values_of, Judged, good, bad}
 use Rattle.meaning.specs.Plants.{Plant, plant_judged, root_of, safe_of}
 use Rattle.meaning.specs.Refusals.{wrong_form, no_table, short}
@@ -59,8 +57,8 @@ pub record FirstWithout (plant chain : List ℕ) (form i : ℕ) : Type 0 where
   pub given : Given plant chain
   pub known : known_form form ≡ true
   pub index : i ≤ above given.vs
-  pub none : (t : List ℕ) → verdict (box_rules given.p given.vs i form) t ≡ Verdict.Accepted → ⊥
-  pub before : (j : ℕ) → j < i → (t : List ℕ) × (verdict (box_rules given.p given.vs j form) t ≡ Verdict.Accepted)
+  pub none : (t : List ℕ) → verdict (box_rules given.p given.vs i form) t ≡ Ok tt → ⊥
+  pub before : (j : ℕ) → j < i → (t : List ℕ) × (verdict (box_rules given.p given.vs j form) t ≡ Ok tt)
 
 -- ---- plant and chain come first
 
@@ -135,15 +133,15 @@ module _ (plant chain : List ℕ) (form : ℕ) where
     sized : (i : ℕ) → Sizes (rules_in g i)
     sized i = box-sizes g.p (judged-sound plant g.p g.judged) g.vs i form known
 
-    pub of-form : (i : ℕ) (t : List ℕ) → verdict (rules_in g i) t ≡ Verdict.Accepted
-        → (form_of t ≡ form) × (verdict (box_rules g.p g.vs i (form_of t)) t ≡ Verdict.Accepted)
+    pub of-form : (i : ℕ) (t : List ℕ) → verdict (rules_in g i) t ≡ Ok tt
+        → (form_of t ≡ form) × (verdict (box_rules g.p g.vs i (form_of t)) t ≡ Ok tt)
     of-form i t a =
         let w = (accepted-exactly (rules_in g i) (sized i) t).0 a in
         let q : form_of t ≡ form = table-form (rules_in g i) (sized i) known t w.0 w.2 in
         (q, ap (λ (f : ℕ). verdict (box_rules g.p g.vs i f) t) q ∙ a)
 
   pub defined-accepted : (bytes : List ℕ) (d : Defined plant chain form bytes) (i : ℕ) → i < length d.tables
-      → verdict (rules_in d.given i) (get_or d.tables i []) ≡ Verdict.Accepted
+      → verdict (rules_in d.given i) (get_or d.tables i []) ≡ Ok tt
   defined-accepted bytes d i l = table-accepted i (rules_in d.given i) (sized d.given d.known i) (get_or d.tables i []) (d.each i l)
 
   -- and is of the form that was told
@@ -166,17 +164,17 @@ module _ (plant chain : List ℕ) (form : ℕ) where
         is = d.is;
       }
 
-  pub start-made-accepted : (bytes : List ℕ) → start_made plant chain form ≡ good bytes → start_checked plant bytes ≡ Verdict.Accepted
+  pub start-made-accepted : (bytes : List ℕ) → start_made plant chain form ≡ good bytes → start_checked plant bytes ≡ Ok tt
   start-made-accepted bytes e = (start-checked-exactly plant bytes).1 (defined-started bytes ((start-made-exactly bytes).0 e))
 
   -- ---- 9
 
   module _ (g : Given plant chain) (known : known_form form ≡ true) where
     -- a box has a defined table exactly where some table is accepted
-    some-defined : (i : ℕ) → ((t : List ℕ) × (defined_table i (rules_in g i) ≡ good t)) ↔ ((t : List ℕ) × (verdict (rules_in g i) t ≡ Verdict.Accepted))
+    some-defined : (i : ℕ) → ((t : List ℕ) × (defined_table i (rules_in g i) ≡ good t)) ↔ ((t : List ℕ) × (verdict (rules_in g i) t ≡ Ok tt))
     some-defined i = (λ w. (w.0, table-accepted i _ (sized g known i) w.0 w.1), λ w. go w (defined_table i (rules_in g i)) refl)
       where
-        go : (t : List ℕ) × (verdict (rules_in g i) t ≡ Verdict.Accepted) → (j : Judged (List ℕ)) → defined_table i (rules_in g i) ≡ j
+        go : (t : List ℕ) × (verdict (rules_in g i) t ≡ Ok tt) → (j : Judged (List ℕ)) → defined_table i (rules_in g i) ≡ j
             → (t : List ℕ) × (defined_table i (rules_in g i) ≡ good t)
         go w (good t) q = (t, q)
         go w (bad f) q = absurd ((table-nine i _ (sized g known i)).0 (q ∙ ap bad (only-nine i _ f q)) w.0 w.1)
@@ -227,7 +225,7 @@ module _ (plant chain : List ℕ) (form : ℕ) where
 
   module _ (buf : List ℕ) where
     -- 9 exactly where plant and chain are good and some box has no table, with the first such
-    pub start-maker-nine : (i : ℕ) → ((start_left plant chain form buf).answer ≡ Written.Refused (no_table i)) ↔ FirstWithout plant chain form i
+    pub start-maker-nine : (i : ℕ) → ((start_left plant chain form buf).answer ≡ Err (no_table i)) ↔ FirstWithout plant chain form i
     unfolding S.start_left
     start-maker-nine i =
         let w = nine-answered buf i (start_made plant chain form) in
@@ -235,12 +233,12 @@ module _ (plant chain : List ℕ) (form : ℕ) where
         (λ e. k.0 (w.0 e), λ h. w.1 (k.1 h))
 
     -- 2 at 0 where plant and chain are good and the form is not known
-    pub start-maker-two : Given plant chain → known_form form ≡ false → (start_left plant chain form buf).answer ≡ Written.Refused wrong_form
+    pub start-maker-two : Given plant chain → known_form form ≡ false → (start_left plant chain form buf).answer ≡ Err wrong_form
     unfolding S.start_left
     start-maker-two g other = rw (start-made-unknown g other) refl
 
     -- 10 exactly where there is a file, and the buffer is shorter
-    pub start-maker-ten : ((start_left plant chain form buf).answer ≡ Written.Refused short)
+    pub start-maker-ten : ((start_left plant chain form buf).answer ≡ Err short)
         ↔ ((bytes : List ℕ) × (start_made plant chain form ≡ good bytes) × (length buf < length bytes))
     unfolding S.start_left
     start-maker-ten = ten-answered buf (start_made plant chain form) (λ f e. start-not-told 10 refl refl (start-made-told f e))
@@ -251,7 +249,7 @@ module _ (plant chain : List ℕ) (form : ℕ) where
     start-maker-writes bytes e l = rw e (left-fits bytes buf l)
 
     -- a length is answered exactly then, and is the file's
-    pub start-maker-length : (m : ℕ) → ((start_left plant chain form buf).answer ≡ Written.Length m)
+    pub start-maker-length : (m : ℕ) → ((start_left plant chain form buf).answer ≡ Ok m)
         ↔ ((bytes : List ℕ) × (start_made plant chain form ≡ good bytes) × (length bytes ≤ length buf) × (m ≡ length bytes))
     unfolding S.start_left
     start-maker-length = length-answered buf (start_made plant chain form)

@@ -1,14 +1,15 @@
 -- Tables behind one another in a file, each with its byte length in front (`parts_of` of meaning's page Starts): a length that was read, and the bytes that it
 -- counts; tables that stand there are read back, one by one, and at most one list of as many tables stands at a place. Of any bytes, tables or not, whose
 -- number fits five bytes. Relies on S1 (page Numbers). What a table must be is left to page Accepted.
-use Rattle.std.specs.Prelude.{ℕ, ◌+◌, ◌^◌, ◌≤◌, ◌<◌, ◌≡◌, refl, List, [], ◌∷◌, ◌++◌, leb, length, take, drop}
+use Rattle.std.specs.Prelude.{ℕ, ◌+◌, ◌^◌, ◌≤◌, ◌<◌, ◌≡◌, refl, List, [], ◌∷◌, ◌++◌, leb, length, take, drop, Some}
 use Rattle.std.proofs.Common.{sym, ap, ◌∙◌, append-nil, arith, length-append, length-drop, take-append-drop, length-take-le, take_at, drop_at, drop-drop, leb-true}
 use Rattle.std.proofs.Math.Seq.{drop-length}
+use Rattle.meaning.specs.Answers.{Number}
+use Rattle.laws.specs.Pairs.{some-first, some-second}
 use Rattle.laws.specs.Every as E
 use Rattle.laws.specs.Every.{Every}
 use Rattle.laws.specs.Standing.{Stands, stand-front, stand-back}
 use Rattle.laws.specs.Tests.{guard_passed}
-use Rattle.meaning.specs.declared.Number.{Number}
 use Rattle.meaning.specs.declared.Refusal.{Refusal}
 use Rattle.meaning.specs.Numbers.{number_at, bytes_of}
 use Rattle.meaning.specs.Refusals.{broken, unfit}
@@ -47,7 +48,7 @@ back-stands s front back next e l = record {
 -- an answer that is no refusal has read a length, and so many bytes are there
 pub length-read : {A : Type 0} {a : A} (s : List ℕ) (at : ℕ) (refuse : Refusal → A) (rest : ℕ → ℕ → A) → ((e : Refusal) → refuse e ≡ a → ⊥)
     → on_length s at refuse rest ≡ a
-    → (first size : ℕ) × (number_at s at ≡ Number.Value size first) × (first + size ≤ length s) × (rest first size ≡ a)
+    → (first size : ℕ) × (number_at s at ≡ Some (size, first)) × (first + size ≤ length s) × (rest first size ≡ a)
 length-read s at refuse rest never e =
     let w = number_read (number_at s at) _ (never (broken at)) e in
     let g = guard_passed (leb (w.1 + w.0) (length s)) _ (never (unfit at)) w.3 in
@@ -68,7 +69,7 @@ Short t = length t < 2 ^ 35
 -- its length, its place, the bytes there, and where the others stand
 pub record Front (s : List ℕ) (at : ℕ) (t : List ℕ) (ts : List (List ℕ)) (end : ℕ) : Type 0 where
   pub first : ℕ
-  pub size : number_at s at ≡ Number.Value (length t) first
+  pub size : number_at s at ≡ Some (length t, first)
   pub inside : first + length t ≤ end
   pub is : part s first (length t) ≡ t
   pub behind : Stands s (first + length t) (parts_of ts) end
@@ -99,9 +100,9 @@ parts-alike s (t ∷ ts) (u ∷ us) at m k a b l p q = go (front s at t ts m a.0
   where
     go : Front s at t ts m → Front s at u us k → ((at : ℕ) → Stands s at (parts_of ts) m → Stands s at (parts_of us) k → ts ≡ us) → t ∷ ts ≡ u ∷ us
     go f g later =
-        let value : Number.Value (length t) f.first ≡ Number.Value (length u) g.first = sym f.size ∙ g.size in
-        let size : length t ≡ length u = cc in
-        let place : f.first ≡ g.first = cc in
+        let value : ◌≡◌ {A = Number} (Some (length t, f.first)) (Some (length u, g.first)) = sym f.size ∙ g.size in
+        let size : length t ≡ length u = some-first value in
+        let place : f.first ≡ g.first = some-second value in
         let same : t ≡ u = sym f.is ∙ rw (size, place) g.is in
         let others : ts ≡ us = later (f.first + length t) f.behind (rw (size, place) g.behind) in
         rw (same, others) refl

@@ -2,12 +2,11 @@
 -- read and each with its table inside the file. Of any file, and of one that tables fill from a place on. Relies on S1 (page Numbers) and page Parts.
 -- What the tables say is left out.
 use Prim.Native.Nat.{ℕ, zero, suc, ◌+◌, ◌≤◌, ◌<◌}
-use Rattle.std.specs.Prelude.{◌≡◌, List, [], ◌∷◌, length, get_or}
+use Rattle.std.specs.Prelude.{◌≡◌, List, [], ◌∷◌, length, get_or, Some}
 use Rattle.std.proofs.Common.{◌∙◌, arith, le-leb}
 use Rattle.laws.specs.Every as E
 use Rattle.laws.specs.Every.{Every}
 use Rattle.laws.specs.Standing.{Stands}
-use Rattle.meaning.specs.declared.Number.{Number}
 use Rattle.meaning.specs.declared.Refusal.{Refusal}
 use Rattle.meaning.specs.Numbers.{number_at, bytes_of}
 use Rattle.meaning.specs.Starts.{on_length, part, parts_of, on_part}
@@ -19,7 +18,7 @@ use Rattle.promises.specs.Starts.Parts.{length-read, Short, front}
 module _ (s : List ℕ) where
   -- The length at `at` was read, its table, of so many bytes, begins at `first` and is inside the file.
   pub record Length (at first size : ℕ) : Type 0 where
-    pub is : number_at s at ≡ Number.Value size first
+    pub is : number_at s at ≡ Some (size, first)
     pub inside : first + size ≤ length s
 
   -- i others stand before the table, the length of the first of them at `at`

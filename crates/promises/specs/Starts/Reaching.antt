@@ -2,19 +2,19 @@
 -- idle, the lengths up to that table. Of every file, kept or not: a call that passes them is the call on that table within its length, and one that is
 -- answered by a mode has passed them; so that mode is one of the plant. Relies on pages Before, Places and Modes. What is told where one is not passed is the
 -- definition.
-use Rattle.std.specs.Prelude.{ℕ, ◌≡◌, Bool, cond, eqb, ℤ}
+use Rattle.std.specs.Prelude.{ℕ, ◌≡◌, Bool, cond, eqb, ℤ, Ok, Err}
 use Rattle.std.proofs.Math.Path.{refl}
 use Rattle.std.proofs.Common.{sym, ap, ◌∙◌, eqb-true, lt-ltb}
 use Rattle.std.proofs.Math.Bool.{true, false}
 use mathlib.Core.List.{List}
+use Rattle.laws.specs.Pairs.{ok-first, ok-second}
 use Rattle.laws.specs.Guards.{choose}
 use Rattle.laws.specs.Lists.{tab, all}
 use Rattle.laws.specs.Tests.{never, guard_passed, first, second}
+use Rattle.meaning.specs.Answers.{Answer, StartAnswer}
 use Rattle.meaning.specs.declared.Refusal.{Refusal}
 use Rattle.meaning.specs.declared.State.{State}
-use Rattle.meaning.specs.declared.Answer.{Answer}
 use Rattle.meaning.specs.declared.StartState.{StartState}
-use Rattle.meaning.specs.declared.StartAnswer.{StartAnswer}
 use Rattle.meaning.specs.Control.{idle, call}
 use Rattle.meaning.specs.Files.{read, values_at, good}
 use Rattle.meaning.specs.Plants.{Plant, plant_judged, root_of, safe_of}
@@ -46,14 +46,14 @@ not-idle st n = go (is_idle st) refl
 
 -- ---- answers
 
-pub refused-start : {e : Refusal} {u : ℕ} {then : StartState} → StartAnswer.Refused e ≡ StartAnswer.Mode u then → ⊥
+pub refused-start : {e : Refusal} {u : ℕ} {then : StartState} → ◌≡◌ {A = StartAnswer} (Err e) (Ok (u, then)) → ⊥
 refused-start q = never cc
 
 -- a mode that a table's answer gives is its own
-pub answer-was : {u : ℕ} {then : StartState} (i place : ℕ) (a : Answer) → answer_in i place a ≡ StartAnswer.Mode u then
-    → (next : State) × (a ≡ Answer.Mode u next) × (then ≡ state_in i next)
-answer-was i place (Answer.Refused e) q = absurd (refused-start q)
-answer-was i place (Answer.Mode v next) q = (next, cc, cc)
+pub answer-was : {u : ℕ} {then : StartState} (i place : ℕ) (a : Answer) → answer_in i place a ≡ Ok (u, then)
+    → (next : State) × (a ≡ Ok (u, next)) × (then ≡ state_in i next)
+answer-was i place (Err e) q = absurd (refused-start q)
+answer-was i place (Ok (v, next)) q = let a = ok-first q in let b = ok-second q in (next, rw a refl, sym b)
 
 -- ---- the way to a table
 
@@ -98,44 +98,44 @@ module _ (plant start : List ℕ) (st : StartState) (x : List ℤ) where
           → TableAt start (cond b (chosen r.p.n (root_of r.p) r.vs x) st.index) r.next r.place r.size
           → choose b (λ _. chosen_call r.p r.vs start r.next x) (λ _. call_in r.p r.vs start r.next st.index st.state x)
           ≡ answer_in (cond b (chosen r.p.n (root_of r.p) r.vs x) st.index) r.place (call (box_rules r.p r.vs (cond b (chosen r.p.n (root_of r.p) r.vs x) st.index) (form_of (part start r.place r.size))) (part start r.place r.size) st.state x)
-      go true e inside there = rw (inside refl, idle-is st.state e) (on-part start StartAnswer.Refused _ there)
-      go false e inside there = on-part start StartAnswer.Refused _ there
+      go true e inside there = rw (inside refl, idle-is st.state e) (on-part start Err _ there)
+      go false e inside there = on-part start Err _ there
 
   -- and one that is answered is such a call
-  pub answered-reaching : {u : ℕ} {then : StartState} → start_controlled plant start st x ≡ StartAnswer.Mode u then → Reaching plant start st x
+  pub answered-reaching : {u : ℕ} {then : StartState} → start_controlled plant start st x ≡ Ok (u, then) → Reaching plant start st x
   unfolding S.start_controlled
   answered-reaching {u} {then} e =
-      let a = plant-went StartAnswer.Refused (λ _. refused-start) (plant_judged plant) (λ p. on_start p start StartAnswer.Refused λ vs next. start_call p vs start next st x) e in
+      let a = plant-went Err (λ _. refused-start) (plant_judged plant) (λ p. on_start p start Err λ vs next. start_call p vs start next st x) e in
       let p = a.0 in
-      let b = chain-went StartAnswer.Refused (λ _. refused-start) p.n (root_of p) (safe_of p) (values_at (chain_form p.n) start 0) (λ vs next. start_call p vs start next st x) a.2 in
+      let b = chain-went Err (λ _. refused-start) p.n (root_of p) (safe_of p) (values_at (chain_form p.n) start 0) (λ vs next. start_call p vs start next st x) a.2 in
       of p a.1 b.0 b.1 b.2 b.3 b.4
     where
       way : (p : Plant) (vs : List ℤ) (next : ℕ) (b : Bool)
-          → choose b (λ _. chosen_call p vs start next x) (λ _. call_in p vs start next st.index st.state x) ≡ StartAnswer.Mode u then
+          → choose b (λ _. chosen_call p vs start next x) (λ _. call_in p vs start next st.index st.state x) ≡ Ok (u, then)
           → (b ≡ true → holds (box_rules p vs (above vs) 1) (box_at p.n (root_of p) vs (above vs)) x ≡ true)
           × (place size : ℕ) × TableAt start (cond b (chosen p.n (root_of p) vs x) st.index) next place size
       way p vs next true e =
           let g = guard_passed (holds (box_rules p vs (above vs) 1) (box_at p.n (root_of p) vs (above vs)) x) _ refused-start e in
-          let t = part-went start StartAnswer.Refused (λ _. refused-start) (chosen p.n (root_of p) vs x) next _ g.1 in
+          let t = part-went start Err (λ _. refused-start) (chosen p.n (root_of p) vs x) next _ g.1 in
           (λ _. g.0, t.0, t.1, t.2)
       way p vs next false e =
-          let t = part-went start StartAnswer.Refused (λ _. refused-start) st.index next _ e in
+          let t = part-went start Err (λ _. refused-start) st.index next _ e in
           (λ q. never q, t.0, t.1, t.2)
 
       of : (p : Plant) → plant_judged plant ≡ good p → (vs : List ℤ) (next : ℕ) → values_at (chain_form p.n) start 0 ≡ read vs next
-          → all (tab (held p.n (root_of p) vs (safe_of p)) (above vs) 0) ≡ true → start_call p vs start next st x ≡ StartAnswer.Mode u then → Reaching plant start st x
+          → all (tab (held p.n (root_of p) vs (safe_of p)) (above vs) 0) ≡ true → start_call p vs start next st x ≡ Ok (u, then) → Reaching plant start st x
       of p q vs next c k e =
           let g = guard_passed (can_index p vs start next st.index st.state) _ refused-start e in
           let w = way p vs next (is_idle st.state) g.1 in
           record { p = p; judged = q; vs = vs; next = next; chain = c; kept = k; index = g.0; inside = w.0; place = w.1; size = w.2; there = w.3 }
 
   -- the table's own answer
-  pub table-answered : {u : ℕ} {then : StartState} (r : Reaching plant start st x) → start_controlled plant start st x ≡ StartAnswer.Mode u then
-      → (next : State) × (call (rules_on r) (table_on r) st.state x ≡ Answer.Mode u next) × (then ≡ state_in (box_on r) next)
+  pub table-answered : {u : ℕ} {then : StartState} (r : Reaching plant start st x) → start_controlled plant start st x ≡ Ok (u, then)
+      → (next : State) × (call (rules_on r) (table_on r) st.state x ≡ Ok (u, next)) × (then ≡ state_in (box_on r) next)
   table-answered r e = answer-was (box_on r) r.place (call (rules_on r) (table_on r) st.state x) (sym (reached r) ∙ e)
 
   -- what is answered is a mode of the plant
-  pub start-is-mode : {u : ℕ} {then : StartState} → start_controlled plant start st x ≡ StartAnswer.Mode u then → is_mode plant u ≡ true
+  pub start-is-mode : {u : ℕ} {then : StartState} → start_controlled plant start st x ≡ Ok (u, then) → is_mode plant u ≡ true
   start-is-mode {u} e =
       let r = answered-reaching e in
       let a = table-answered r e in

@@ -1,8 +1,7 @@
 -- A start file that keeps its rules: the plant was judged good, the chain was read and keeps 15, and behind it stands a table for each box, each accepted
 -- for it by the form that it says. Definitions alone; that the checker accepts just these files is page Accepted.
-use Rattle.std.specs.Prelude.{ℕ, ◌+◌, ◌<◌, ◌≡◌, true, List, [], ℤ, length, get_or}
+use Rattle.std.specs.Prelude.{ℕ, ◌+◌, ◌<◌, ◌≡◌, true, List, [], ℤ, length, get_or, Ok}
 use Rattle.laws.specs.Lists.{tab, all}
-use Rattle.meaning.specs.declared.Verdict.{Verdict}
 use Rattle.meaning.specs.Files.{read, values_at, good}
 use Rattle.meaning.specs.Plants.{Plant, plant_judged, root_of, safe_of}
 use Rattle.meaning.specs.Starts.{chain_form, above, held, box_rules, start_of}
@@ -21,5 +20,5 @@ pub record Started (plant start : List ℕ) : Type 0 where
   -- the tables
   pub tables : List (List ℕ)
   pub count : length tables ≡ above vs + 1
-  pub each : (i : ℕ) → i < length tables → verdict (box_rules p vs i (form_of (get_or tables i []))) (get_or tables i []) ≡ Verdict.Accepted
+  pub each : (i : ℕ) → i < length tables → verdict (box_rules p vs i (form_of (get_or tables i []))) (get_or tables i []) ≡ Ok tt
   pub is : start ≡ start_of p.n vs tables

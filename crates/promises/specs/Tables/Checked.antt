@@ -1,9 +1,8 @@
 -- S6 over bytes: the checker's verdict on a plant's and a table's bytes is "accepted" exactly where the plant is judged good and the table is the
 -- layout of a tree of sound shape whose tiles all work; and a table is the layout of at most one tree of sound shape. Relies on pages Accept and
 -- Unique, at document 01's rules. What a refusal tells is left out: that is the definition `checked` itself.
-use Rattle.std.specs.Prelude.{ℕ, ◌≡◌, refl, true, ◌↔◌, List}
+use Rattle.std.specs.Prelude.{ℕ, ◌≡◌, refl, true, ◌↔◌, List, Ok, Err}
 use Rattle.std.proofs.Common.{sym, ap, ◌∙◌}
-use Rattle.meaning.specs.declared.Verdict.{Verdict}
 use Rattle.meaning.specs.Files.{Judged, good, bad}
 use Rattle.meaning.specs.Plants.{Plant, plant_judged}
 use Rattle.meaning.specs.Tables as T
@@ -25,17 +24,17 @@ pub record Tiled (plant table : List ℕ) : Type 0 where
   pub is : table ≡ table_of (rules_of (form_of table) p) tree
 
 -- a plant on which some table is accepted was judged good
-pub accepted-judged : (plant table : List ℕ) → checked plant table ≡ Verdict.Accepted → (p : Plant) × (plant_judged plant ≡ good p)
+pub accepted-judged : (plant table : List ℕ) → checked plant table ≡ Ok tt → (p : Plant) × (plant_judged plant ≡ good p)
 unfolding T.checked
 accepted-judged plant table = go (plant_judged plant) refl
   where
-    go : (j : Judged Plant) → plant_judged plant ≡ j → on_plant j Verdict.Refused (λ p. verdict (rules_of (form_of table) p) table) ≡ Verdict.Accepted
+    go : (j : Judged Plant) → plant_judged plant ≡ j → on_plant j Err (λ p. verdict (rules_of (form_of table) p) table) ≡ Ok tt
         → (p : Plant) × (plant_judged plant ≡ good p)
     go (good p) e a = (p, e)
     go (bad r) e a = absurd (refused-accepted a)
 
 -- S6
-pub checked-exactly : (plant table : List ℕ) → (checked plant table ≡ Verdict.Accepted) ↔ Tiled plant table
+pub checked-exactly : (plant table : List ℕ) → (checked plant table ≡ Ok tt) ↔ Tiled plant table
 checked-exactly plant table = (
   λ a.
       let w = accepted-judged plant table a in
@@ -54,7 +53,7 @@ one-tree-a-table plant table p e form known t u o v = one-tree (rules_of form p)
 
 -- what is accepted by the rules of a form says that form, so it is judged by them
 module _ (plant table : List ℕ) (p : Plant) (e : plant_judged plant ≡ good p) (form : ℕ) (known : known_form form ≡ true) where
-  pub of-form : verdict (rules_of form p) table ≡ Verdict.Accepted → form_of table ≡ form
+  pub of-form : verdict (rules_of form p) table ≡ Ok tt → form_of table ≡ form
   of-form a =
       let z = judged-sizes plant p e form known in
       let t = (accepted-exactly (rules_of form p) z table).0 a in
@@ -63,5 +62,5 @@ module _ (plant table : List ℕ) (p : Plant) (e : plant_judged plant ≡ good p
   pub checked-form : (form_of table ≡ form) → checked plant table ≡ verdict (rules_of form p) table
   checked-form q = checked-as plant p e table ∙ ap (λ (f : ℕ). verdict (rules_of f p) table) q
 
-  pub accepted-form : (verdict (rules_of form p) table ≡ Verdict.Accepted) ↔ ((form_of table ≡ form) × (checked plant table ≡ Verdict.Accepted))
+  pub accepted-form : (verdict (rules_of form p) table ≡ Ok tt) ↔ ((form_of table ≡ form) × (checked plant table ≡ Ok tt))
   accepted-form = (λ a. let q = of-form a in (q, checked-form q ∙ a), λ w. sym (checked-form w.0) ∙ w.1)

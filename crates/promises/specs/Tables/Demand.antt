@@ -2,8 +2,7 @@
 -- and from each idle call the room is back in R, idle, within as many samples as the table's longest pattern: trips, repeated since the goal lies in R.
 -- Over any rules whose numbers fit five bytes, that split well and whose patterns keep their word and end in R. Relies on pages Accept, Trips and TableTrips.
 -- That some reading always follows, so that no run gets stuck, is S12.
-use Rattle.std.specs.Prelude.{ℕ, ◌≡◌, List, length}
-use Rattle.meaning.specs.declared.Verdict.{Verdict}
+use Rattle.std.specs.Prelude.{ℕ, ◌≡◌, List, length, Ok}
 use Rattle.meaning.specs.Control.{idle}
 use Rattle.meaning.specs.Rules.{Rules, holds}
 use Rattle.meaning.specs.Trees.{Tree, longest, table_of}
@@ -25,7 +24,7 @@ tree-demand r sizes splits motion returns s t o q =
     (λ x h. let w = table-trips r sizes splits motion t o x h in (length w.the.modes, w.short, w.trip)))
 
 -- S9: of every accepted table, and of the one tree that it is the table of
-pub demand : (r : Rules) → Sizes r → Splits r → Motion r → Returns r → (s : List ℕ) → verdict r s ≡ Verdict.Accepted
+pub demand : (r : Rules) → Sizes r → Splits r → Motion r → Returns r → (s : List ℕ) → verdict r s ≡ Ok tt
     → (t : Tree) × Working r t × (s ≡ table_of r t) × Demand r s (longest t)
 demand r sizes splits motion returns s e =
     let w = (accepted-exactly r sizes s).0 e in

@@ -1,13 +1,12 @@
 -- S7, the defined table: it is accepted, and there is none exactly when no file is accepted.
 -- Over any rules; what speaks of files needs numbers that fit five bytes. That the maker writes its bytes is said with the maker.
 use Prim.Native.Nat.{ℕ, zero, suc}
-use Rattle.std.specs.Prelude.{◌≡◌, ◌↔◌}
+use Rattle.std.specs.Prelude.{◌≡◌, ◌↔◌, Ok}
 use Rattle.std.proofs.Math.Path.{refl}
 use Rattle.std.proofs.Common.{sym, ◌∙◌}
 use mathlib.Core.List.{List, [], ◌∷◌}
 use Rattle.std.proofs.Math.Option.{Option, none, some}
 use Rattle.laws.specs.Tests.{never}
-use Rattle.meaning.specs.declared.Verdict.{Verdict}
 use Rattle.meaning.specs.Rules.{Rules, rule}
 use Rattle.meaning.specs.Trees.{Tree, Forest, split, tile, leaf, more, table_of, Over, Overs}
 use Rattle.meaning.specs.Verdicts.{verdict}
@@ -136,10 +135,10 @@ module _ (r : Rules) where
 
   -- ---- of files
 
-  pub defined-accepted : Sizes r → (t : Tree) → defined_tree r ≡ some t → verdict r (table_of r t) ≡ Verdict.Accepted
+  pub defined-accepted : Sizes r → (t : Tree) → defined_tree r ≡ some t → verdict r (table_of r t) ≡ Ok tt
   defined-accepted sizes t e = (accepted-exactly r sizes (table_of r t)).1 (t, defined-works t e, refl)
 
-  pub no-table-exactly : Sizes r → (defined_tree r ≡ none) ↔ ((s : List ℕ) → verdict r s ≡ Verdict.Accepted → ⊥)
+  pub no-table-exactly : Sizes r → (defined_tree r ≡ none) ↔ ((s : List ℕ) → verdict r s ≡ Ok tt → ⊥)
   no-table-exactly sizes = (
     λ e s a. let w = (accepted-exactly r sizes s).0 a in no-tree-exactly.0 e w.0 w.1,
     λ h. no-tree-exactly.1 (λ t o. h (table_of r t) ((accepted-exactly r sizes (table_of r t)).1 (t, o, refl))),

@@ -1,7 +1,7 @@
 -- S8: of a tree of sound shape, exactly one tile holds a reading that R holds, and it is the one that is found, whether children are passed by their lengths or by a walk.
 -- Over any rules that split well and whose numbers fit five bytes. The tiles may be of any kind, working or not, and any bytes may stand behind the
 -- table: P is whatever else is known of each tile, and so is known of the one that is found. Of it a call answers the first mode.
-use Rattle.std.specs.Prelude.{ℕ, zero, suc, ◌+◌, ◌^◌, ◌≤◌, ◌≡◌, Bool, cond}
+use Rattle.std.specs.Prelude.{ℕ, zero, suc, ◌+◌, ◌^◌, ◌≤◌, ◌≡◌, Bool, cond, Ok}
 use Rattle.std.proofs.Math.Path.{refl, ap}
 use Rattle.std.proofs.Common.{◌∙◌}
 use Rattle.std.proofs.Math.Bool.{true, false}
@@ -10,10 +10,8 @@ use native.Mathlib.Omega.{arith}
 use Rattle.std.proofs.Math.ListN.{length}
 use Rattle.laws.specs.Counting.{bit, count}
 use Rattle.laws.specs.Standing.{Stands, stand-front, stand-back}
+use Rattle.meaning.specs.Answers.{Walk, Found}
 use Rattle.meaning.specs.declared.Tried.TheVariants.{Works}
-use Rattle.meaning.specs.declared.Walk.{Walk}
-use Rattle.meaning.specs.declared.Found.{Found}
-use Rattle.meaning.specs.declared.Answer.{Answer}
 use Rattle.meaning.specs.Numbers.{bytes_of}
 use Rattle.meaning.specs.Rules.{Rules, holds}
 use Rattle.meaning.specs.Trees.{Tree, Forest, split, tile, leaf, more, modes_bytes, tells, layout, layouts, AllBelow, Pattern, table_of, Over, Overs, Tile, tiles_of, tiles_in, having}
@@ -32,7 +30,7 @@ next_place place u = place + length (bytes_of u)
 
 -- the first of some modes is answered, and the others are to come behind it
 pub first-told : (N : ℕ) → N ≤ 2 ^ 35 → (u : ℕ) (vs s : List ℕ) (place end : ℕ) → AllBelow N (u ∷ vs) → Stands s place (modes_bytes (u ∷ vs)) end
-    → mode_at s place (suc (length vs)) ≡ Answer.Mode u (state_with vs (next_place place u))
+    → mode_at s place (suc (length vs)) ≡ Ok (u, state_with vs (next_place place u))
 first-told N small u vs s place end h p = rw (first_read N small u vs s place end h p) refl
 
 bit-zero : (c : Bool) → bit c ≡ 0 → c ≡ false
@@ -60,7 +58,7 @@ module _ (r : Rules) where
     pub later : List ℕ
     pub place : ℕ
     pub only : having r x ts ≡ tile_of box first later place ∷ []
-    pub told : found ≡ Found.Tile (first_place (tile_of box first later place)) (suc (length later))
+    pub told : found ≡ Ok (first_place (tile_of box first later place), suc (length later))
     pub holds-it : holds r box x ≡ true
     pub known : P box (first ∷ later)
     pub behind : lo ≤ place
@@ -101,14 +99,14 @@ module _ (r : Rules) where
     -- ---- a subtree is passed, whatever its tiles
 
     pub pass : (t : Tree) (d : ℕ) (s : List ℕ) (at : ℕ) (b : Box) (m : ℕ) → Over r P t d b → Fits (tells form) t → Stands s at (layout (tells form) t) m
-        → walk r (λ _ _. Works) d s at b ≡ Walk.Next m
+        → walk r (λ _ _. Works) d s at b ≡ Ok m
     pass t d s at b m o fit p =
         walk-reads r sizes (λ _ _. Works) t d s at b m (over-map r P (Good r (λ _ _. Works)) (λ c us g. record { shape = shape c us g; works = refl }) t d b o) fit p
 
     -- by its length, or by a walk over it; a child of which no length is told where they are told is the last, and no reading is sought behind it
     pub passed : (told : Bool) (over : ℕ → Box → Walk) (t : Tree) (f : Forest) (ls : List Length) (at : ℕ) (b : Box) (bs : List Box)
         → length ls ≡ lengths_count told (suc (length bs)) → Held told ls (more t f) → holding r bs x ≡ 1
-        → (told ≡ false → over at b ≡ Walk.Next (at + length (layout told t))) → pass_by told over ls at b ≡ Walk.Next (at + length (layout told t))
+        → (told ≡ false → over at b ≡ Ok (at + length (layout told t))) → pass_by told over ls at b ≡ Ok (at + length (layout told t))
     unfolding Held count
     passed false over t f ls at b bs c h some walked = walked refl
     passed true over t f [] at b [] c h some walked = absurd (omega arith)
@@ -150,7 +148,7 @@ module _ (r : Rules) where
 
     -- the first child holds it, or a later one does
     first-or-later : (t : Tree) (f : Forest) (d : ℕ) (s : List ℕ) (node at : ℕ) (b : Box) (bs : List Box) (ls : List Length) → Over r P t d b → Overs r P f d bs
-        → (holding r bs x ≡ 1 → pass_over r d s ls at b ≡ Walk.Next (at + length (layout (tells form) t))) → holding r (b ∷ bs) x ≡ 1
+        → (holding r bs x ≡ 1 → pass_over r d s ls at b ≡ Ok (at + length (layout (tells form) t))) → holding r (b ∷ bs) x ≡ 1
         → (holds r b x ≡ true → OneTile P x s at (tiles_of r t b at) (find r d s at b x))
         → (holding r bs x ≡ 1 → OneTile P x s (at + length (layout (tells form) t)) (tiles_in r f bs (at + length (layout (tells form) t)))
         (look_among r x d s node bs (C.behind ls) (at + length (layout (tells form) t))))
@@ -230,7 +228,7 @@ module _ (r : Rules) (sizes : Sizes r) (splits : Splits r) (P : r.Box → List �
       (sizes.lengths t (over-map r P (λ b us. Pattern r.K r.N us) shape t r.D r.root over)) (table-stands r s rest t is).1 held
 
   -- and a call, idle, answers that tile's first mode
-  pub call-finds : call r s idle x ≡ Answer.Mode finds.first (state_with finds.later (next_place (first_place r (the r finds)) finds.first))
+  pub call-finds : call r s idle x ≡ Ok (finds.first, state_with finds.later (next_place (first_place r (the r finds)) finds.first))
   unfolding call
   call-finds =
       let f = finds in

@@ -3,7 +3,7 @@
 -- is no such tile, all work. Over any rules; what is told, where numbers fit five bytes. Relies on pages Layouts, Patterns and Walking. What is told of a table
 -- that breaks the file's rules is left out.
 use Prim.Native.Nat.{ℕ, zero, suc, ◌+◌}
-use Rattle.std.specs.Prelude.{◌≡◌, Bool, eqb}
+use Rattle.std.specs.Prelude.{◌≡◌, Bool, eqb, Ok, Err}
 use Rattle.std.proofs.Math.Path.{refl, sym, ap}
 use Rattle.std.proofs.Common.{◌∙◌, eq-eqb}
 use Rattle.std.proofs.Math.Bool.{true, false}
@@ -15,11 +15,10 @@ use Rattle.laws.specs.Every.{Every, every_append, every-parts}
 use Rattle.laws.specs.Guards.{guard}
 use Rattle.laws.specs.Standing.{Stands, stand-front, stand-back}
 use Rattle.laws.specs.Tests.{never}
+use Rattle.meaning.specs.Answers.{Walk}
 use Rattle.meaning.specs.declared.Refusal.{Refusal}
 use Rattle.meaning.specs.declared.Tried.{Tried}
 use Rattle.meaning.specs.declared.Tried.TheVariants.{Works, Leaves, Misses}
-use Rattle.meaning.specs.declared.Verdict.{Verdict}
-use Rattle.meaning.specs.declared.Walk.{Walk}
 use Rattle.meaning.specs.Numbers.{bytes_of}
 use Rattle.meaning.specs.Refusals.{bad_table, leaves, misses}
 use Rattle.meaning.specs.Rules as R
@@ -121,30 +120,30 @@ module _ (r : Rules) where
   told_of judge t = on_tried (judge t.box t.modes) t.place 0
 
   unfoldable tiles_judged : (Box → List ℕ → Tried) → List (Tile r) → ℕ → Walk
-  tiles_judged judge [] end = Walk.Next end
-  tiles_judged judge (t ∷ ts) end = on_walk (told_of judge t) Walk.Refused λ _. tiles_judged judge ts end
+  tiles_judged judge [] end = Ok end
+  tiles_judged judge (t ∷ ts) end = on_walk (told_of judge t) Err λ _. tiles_judged judge ts end
 
   module _ (judge : Box → List ℕ → Tried) where
     -- some tiles, and then those of the rest of the walk
     judged-join : (ts later : List (Tile r)) (mid end : ℕ) (rest : ℕ → Walk) → rest mid ≡ tiles_judged judge later end
-        → on_walk (tiles_judged judge ts mid) Walk.Refused rest ≡ tiles_judged judge (ts ++ later) end
+        → on_walk (tiles_judged judge ts mid) Err rest ≡ tiles_judged judge (ts ++ later) end
     unfolding tiles_judged
     judged-join [] later mid end rest e = e
     judged-join (t ∷ ts) later mid end rest e = go (told_of judge t) (judged-join ts later mid end rest e)
       where
-        go : (o : Walk) → on_walk (tiles_judged judge ts mid) Walk.Refused rest ≡ tiles_judged judge (ts ++ later) end
-            → on_walk (on_walk o Walk.Refused λ _. tiles_judged judge ts mid) Walk.Refused rest ≡ on_walk o Walk.Refused λ _. tiles_judged judge (ts ++ later) end
-        go (Walk.Next m) q = q
-        go (Walk.Refused x) q = refl
+        go : (o : Walk) → on_walk (tiles_judged judge ts mid) Err rest ≡ tiles_judged judge (ts ++ later) end
+            → on_walk (on_walk o Err λ _. tiles_judged judge ts mid) Err rest ≡ on_walk o Err λ _. tiles_judged judge (ts ++ later) end
+        go (Ok m) q = q
+        go (Err x) q = refl
 
     -- those before one work, and it does not
     judged-first : (front : List (Tile r)) (one : Tile r) (back : List (Tile r)) (end : ℕ) (e : Refusal)
-        → Every (λ t. judge t.box t.modes ≡ Works) front → told_of judge one ≡ Walk.Refused e → tiles_judged judge (front ++ one ∷ back) end ≡ Walk.Refused e
+        → Every (λ t. judge t.box t.modes ≡ Works) front → told_of judge one ≡ Err e → tiles_judged judge (front ++ one ∷ back) end ≡ Err e
     unfolding tiles_judged E.Every
     judged-first [] one back end e h q = rw q refl
     judged-first (t ∷ front) one back end e h q = rw h.0 (judged-first front one back end e h.1 q)
 
-    one-judged : (o : Tried) (at m : ℕ) → on_tried o at m ≡ on_walk (on_tried o at 0) Walk.Refused λ _. Walk.Next m
+    one-judged : (o : Tried) (at m : ℕ) → on_tried o at m ≡ on_walk (on_tried o at 0) Err λ _. Ok m
     one-judged Works at m = refl
     one-judged (Leaves i) at m = refl
     one-judged (Misses i) at m = refl
@@ -186,7 +185,7 @@ module _ (r : Rules) where
             let rest = layouts (tells form) f in
             let mid = at + length tree in
             let size : l.size ≡ length tree = h.0 in
-            let on : ℕ → Walk = λ y. guard (eqb y (at + l.size)) (Walk.Refused (bad_table l.place)) λ _. each (λ p c. walk r judge d s p c) bs ls y in
+            let on : ℕ → Walk = λ y. guard (eqb y (at + l.size)) (Err (bad_table l.place)) λ _. each (λ p c. walk r judge d s p c) bs ls y in
             rw (walk-judges t d s at b mid o.0 fit.0 (stand-front tree rest p))
             (judged-join (tiles_of r t b at) (tiles_in r f bs mid) mid m on
             (rw (size, eq-eqb mid mid refl) (each-judges f d s mid bs ls m o.1 fit.1 h.1 (stand-back tree rest p))))
@@ -250,18 +249,18 @@ module _ (r : Rules) where
   comes t shape = comes-from t shape [] (tiles_of r t root (headed form n)) refl tt
 
   module _ (sizes : Sizes r) (t : Tree) (shape : Shaped r t) (one : Tile r) (bad : FirstBad t one) where
-    bad-told : (e : Refusal) → told_of (rule r) one ≡ Walk.Refused e → verdict r (table_of r t) ≡ Verdict.Refused e
+    bad-told : (e : Refusal) → told_of (rule r) one ≡ Err e → verdict r (table_of r t) ≡ Err e
     unfolding C.verdict
     bad-told e q =
         let s = table_of r t in
         let is = sym (append-nil s) in
-        let w : walk r (rule r) D s (headed form n) root ≡ Walk.Refused e =
+        let w : walk r (rule r) D s (headed form n) root ≡ Err e =
         walk-judges (rule r) sizes t D s (headed form n) root (length s) shape (sizes.lengths t shape) (table-stands r s [] t is).1
         ∙ rw bad.are (judged-first (rule r) bad.front one bad.back (length s) e bad.work q) in
         simp (table-header r sizes s [] t is, w)
 
     -- row 7
-    pub leaving-told : (i : ℕ) → LeavesAt (begin one.box) one.modes i → verdict r (table_of r t) ≡ Verdict.Refused (leaves one.place i)
+    pub leaving-told : (i : ℕ) → LeavesAt (begin one.box) one.modes i → verdict r (table_of r t) ≡ Err (leaves one.place i)
     leaving-told i h =
         let e : rule r one.box one.modes ≡ Leaves (0 + (length h.before + 1)) =
         leaves-from one.modes 0 (begin one.box) h.before h.it h.behind h.are h.inside h.outside in
@@ -269,7 +268,7 @@ module _ (r : Rules) where
         bad-told (leaves one.place i) (rw e (rw q refl))
 
     -- row 8
-    pub missing-told : (i : ℕ) → MissesAt (begin one.box) one.modes i → verdict r (table_of r t) ≡ Verdict.Refused (misses one.place i)
+    pub missing-told : (i : ℕ) → MissesAt (begin one.box) one.modes i → verdict r (table_of r t) ≡ Err (misses one.place i)
     missing-told i h =
         let e : rule r one.box one.modes ≡ Misses (0 + length one.modes) = misses-from one.modes 0 (begin one.box) h.inside h.outside in
         let q : 0 + length one.modes ≡ i = omega (arith, h.step) in

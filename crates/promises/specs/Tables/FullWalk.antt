@@ -3,16 +3,14 @@
 -- well and whose numbers fit five bytes; and over bytes, of every accepted table and every reading in R. Where no lengths are told the two are one look.
 -- Relies on page Finds. What the two answer of other tables is left out: there a call goes where the lengths point.
 use Prim.Native.Nat.{ℕ, zero, suc, ◌+◌, ◌≤◌}
-use Rattle.std.specs.Prelude.{◌≡◌, refl, Bool, List, [], ◌∷◌, ◌++◌, ℤ, length}
+use Rattle.std.specs.Prelude.{◌≡◌, refl, Bool, List, [], ◌∷◌, ◌++◌, ℤ, length, Some, Ok, Err}
 use Rattle.std.proofs.Common.{sym, ap, subst, ◌∙◌, append-nil, arith}
 use Rattle.std.proofs.Math.Bool.{true, false}
 use borrow.Author.Tests.{le-leb}
 use Rattle.laws.specs.Counting.{bit, count}
 use Rattle.laws.specs.Standing.{Stands, stand-front, stand-back}
-use Rattle.meaning.specs.declared.Found.{Found}
-use Rattle.meaning.specs.declared.Number.{Number}
+use Rattle.meaning.specs.Answers.{Found}
 use Rattle.meaning.specs.declared.Tried.TheVariants.{Works}
-use Rattle.meaning.specs.declared.Walk.{Walk}
 use Rattle.meaning.specs.Control as C
 use Rattle.meaning.specs.Control.{idle, tile_found, pass_by, among, on_found, find, call}
 use Rattle.meaning.specs.Numbers.{number_at, bytes_of}
@@ -39,35 +37,35 @@ module _ (r : Rules) where
 
   -- the tile that holds a reading, each child before it being walked over
   unfoldable pub full_find : ℕ → List ℕ → ℕ → Box → Reading → Found
-  full_find zero s at b x = node_at K s at Found.Refused
-      (λ next. Found.Refused (bad_table at))
+  full_find zero s at b x = node_at K s at Err
+      (λ next. Err (bad_table at))
       (λ k next. tile_found (modes_at N k s next) next k)
-  full_find (suc d) s at b x = node_at K s at Found.Refused
-      (λ next. split_at (children b) (Found.Refused (bad_table at)) λ cs.
-      on_read (lengths_by (tells form) cs s next) Found.Refused λ ls first.
+  full_find (suc d) s at b x = node_at K s at Err
+      (λ next. split_at (children b) (Err (bad_table at)) λ cs.
+      on_read (lengths_by (tells form) cs s next) Err λ ls first.
       among (λ c. holds r c x) (λ p c. full_find d s p c x) (pass_by false (λ p c. walk r (λ _ _. Works) d s p c)) at cs ls first)
       (λ k next. tile_found (modes_at N k s next) next k)
 
   abbrev full_among : Reading → ℕ → List ℕ → ℕ → List Box → List Length → ℕ → Found
   full_among x d s node bs ls at = among (λ c. holds r c x) (λ p c. full_find d s p c x) (pass_by false (λ p c. walk r (λ _ _. Works) d s p c)) node bs ls at
 
-  full-tile : (x : Reading) (d : ℕ) (s : List ℕ) (at : ℕ) (b : Box) (k m : ℕ) → number_at s at ≡ Number.Value k m → 1 ≤ k → k ≤ K
+  full-tile : (x : Reading) (d : ℕ) (s : List ℕ) (at : ℕ) (b : Box) (k m : ℕ) → number_at s at ≡ Some (k, m) → 1 ≤ k → k ≤ K
       → full_find d s at b x ≡ tile_found (modes_at N k s m) m k
   unfolding full_find
   full-tile x d s at b zero m e z l = absurd (omega arith)
   full-tile x d s at b (suc k) m e z l = elim d as (λ n. full_find n s at b x ≡ tile_found (modes_at N (suc k) s m) m (suc k)) [ zero ↦ simp (e, le-leb (suc k) K l) | suc c ↦ simp (e, le-leb (suc k) K l) ]
 
-  full-split : (x : Reading) (d : ℕ) (s : List ℕ) (at : ℕ) (b : Box) (m : ℕ) → number_at s at ≡ Number.Value 0 m → (children b ≡ [] → ⊥)
-      → full_find (suc d) s at b x ≡ on_read (lengths_by (tells form) (children b) s m) Found.Refused λ ls first. full_among x d s at (children b) ls first
+  full-split : (x : Reading) (d : ℕ) (s : List ℕ) (at : ℕ) (b : Box) (m : ℕ) → number_at s at ≡ Some (0, m) → (children b ≡ [] → ⊥)
+      → full_find (suc d) s at b x ≡ on_read (lengths_by (tells form) (children b) s m) Err λ ls first. full_among x d s at (children b) ls first
   unfolding full_find
   full-split x d s at b m e y =
-      rw e (split-some (Found.Refused (bad_table at)) (λ cs. on_read (lengths_by (tells form) cs s m) Found.Refused λ ls first. full_among x d s at cs ls first) (children b) y)
+      rw e (split-some (Err (bad_table at)) (λ cs. on_read (lengths_by (tells form) cs s m) Err λ ls first. full_among x d s at cs ls first) (children b) y)
 
   module _ (sizes : Sizes r) (splits : Splits r) (P : Box → List ℕ → Type 0) (shape : (b : Box) (us : List ℕ) → P b us → Pattern K N us) (x : Reading) where
     -- the first child has the reading, or a later one
     first-or-later : (d : ℕ) (s : List ℕ) (node at mid : ℕ) (b : Box) (bs : List Box) (ls : List Length) (c : Bool) → holds r b x ≡ c
-        → walk r (λ _ _. Works) d s at b ≡ Walk.Next mid → (holds r b x ≡ true → full_find d s at b x ≡ find r d s at b x)
-        → (holds r b x ≡ false → (pass_over r d s ls at b ≡ Walk.Next mid) × (full_among x d s node bs (C.behind ls) mid ≡ look_among r x d s node bs (C.behind ls) mid))
+        → walk r (λ _ _. Works) d s at b ≡ Ok mid → (holds r b x ≡ true → full_find d s at b x ≡ find r d s at b x)
+        → (holds r b x ≡ false → (pass_over r d s ls at b ≡ Ok mid) × (full_among x d s node bs (C.behind ls) mid ≡ look_among r x d s node bs (C.behind ls) mid))
         → full_among x d s node (b ∷ bs) ls at ≡ look_among r x d s node (b ∷ bs) ls at
     unfolding among
     first-or-later d s node at mid b bs ls true c over first later = rw c (first c)
@@ -140,7 +138,7 @@ full-walk plant table t x h =
     let held : holds r (root_of p) x ≡ true = rw t.judged at h in
     let is = t.is ∙ sym (append-nil (table_of r t.tree)) in
     let two = header-size form known p s in
-    let head : header form p.n table ≡ Walk.Next 2 = table-header r z table [] t.tree is ∙ ap (λ (m : ℕ). Walk.Next m) two in
+    let head : header form p.n table ≡ Ok 2 = table-header r z table [] t.tree is ∙ ap (λ (m : ℕ). Ok m) two in
     let same = full-finds r z (splits form p) (Good r (rule r)) (λ b us g. g.shape) table [] t.tree is t.works x held in
     let same2 : full_find r (depth_by form p.n p.d) table 2 (root_of p) x ≡ find r (depth_by form p.n p.d) table 2 (root_of p) x =
     subst (λ (m : ℕ). full_find r (depth_by form p.n p.d) table m (root_of p) x ≡ find r (depth_by form p.n p.d) table m (root_of p) x) two same in

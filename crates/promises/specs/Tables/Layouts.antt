@@ -2,7 +2,7 @@
 -- walked over. So of a tile's modes, and of the header. Every judge of a tile is served, and so is the passing of a subtree.
 -- Over any rules; that what stands is read needs numbers that fit five bytes. The lengths that a split tells are page SplitLengths.
 use Prim.Native.Nat.{ℕ, zero, suc, ◌+◌, ◌^◌, ◌≤◌, ◌<◌}
-use Rattle.std.specs.Prelude.{◌≡◌, ltb, eqb}
+use Rattle.std.specs.Prelude.{◌≡◌, ltb, eqb, Some, Ok, Err}
 use Rattle.std.proofs.Math.Path.{refl, ap}
 use Rattle.std.proofs.Common.{sym, ◌∙◌, arith, zero-add}
 use mathlib.Core.List.{List, [], ◌∷◌, ◌++◌, append_assoc}
@@ -12,11 +12,10 @@ use borrow.Author.Tests.{ltb-true, eqb-true, lt-ltb, eq-eqb}
 use Rattle.laws.specs.Guards.{guard}
 use Rattle.laws.specs.Standing.{Stands, stand-nil, stand-join, stand-front, stand-back}
 use Rattle.laws.specs.Tests.{never, guard_passed}
+use Rattle.meaning.specs.Answers.{Walk}
 use Rattle.meaning.specs.declared.Refusal.{Refusal}
-use Rattle.meaning.specs.declared.Number.{Number}
 use Rattle.meaning.specs.declared.Tried.{Tried}
 use Rattle.meaning.specs.declared.Tried.TheVariants.{Works, Leaves, Misses}
-use Rattle.meaning.specs.declared.Walk.{Walk}
 use Rattle.meaning.specs.Refusals.{broken, wrong_form, bad_table}
 use Rattle.meaning.specs.Numbers.{number_at, bytes_of}
 use Rattle.meaning.specs.Files.{Read, read, refused, before}
@@ -32,7 +31,7 @@ use Rattle.promises.specs.Tables.Walking.{number_read, walk-went, read-went, Nod
 refused-read : {A : Type 0} {e : Refusal} {a : A} {m : ℕ} → refused e ≡ read a m → ⊥
 refused-read e = never cc
 
-refused-next : {e : Refusal} {m : ℕ} → Walk.Refused e ≡ Walk.Next m → ⊥
+refused-next : {e : Refusal} {m : ℕ} → Err e ≡ Ok m → ⊥
 refused-next e = never cc
 
 -- ---- a tile's modes
@@ -65,7 +64,7 @@ module _ (N : ℕ) where
 
   -- the first of modes that stand there
   pub first_read : N ≤ 2 ^ 35 → (u : ℕ) (us s : List ℕ) (at m : ℕ) → AllBelow N (u ∷ us) → Stands s at (modes_bytes (u ∷ us)) m
-      → number_at s at ≡ Number.Value u (at + length (bytes_of u))
+      → number_at s at ≡ Some (u, at + length (bytes_of u))
   unfolding AllBelow modes_bytes
   first_read small u us s at m h p = reads u at (at + length (bytes_of u)) s (omega (arith, h.0)) (stand-front (bytes_of u) (modes_bytes us) p)
 
@@ -83,17 +82,17 @@ module _ (form n : ℕ) where
   abbrev pub headed : ℕ
   headed = length (bytes_of form ++ bytes_of n)
 
-  pub header-stands : (s : List ℕ) (at : ℕ) → header form n s ≡ Walk.Next at → Stands s 0 (bytes_of form ++ bytes_of n) at
+  pub header-stands : (s : List ℕ) (at : ℕ) → header form n s ≡ Ok at → Stands s 0 (bytes_of form ++ bytes_of n) at
   unfolding header
   header-stands s at e =
-      let f = number_read (number_at s 0) (λ told p. guard (eqb told form) (Walk.Refused wrong_form) λ _. second p) refused-next e in
+      let f = number_read (number_at s 0) (λ told p. guard (eqb told form) (Err wrong_form) λ _. second p) refused-next e in
       let told = f.0 in
       let p = f.1 in
       let one = guard_passed (eqb told form) (λ _. second p) refused-next f.3 in
-      let g = number_read (number_at s p) (λ m next. guard (eqb m n) (Walk.Refused (bad_table p)) λ _. Walk.Next next) refused-next one.1 in
+      let g = number_read (number_at s p) (λ m next. guard (eqb m n) (Err (bad_table p)) λ _. Ok next) refused-next one.1 in
       let m = g.0 in
       let next = g.1 in
-      let same = guard_passed (eqb m n) (λ _. Walk.Next next) refused-next g.3 in
+      let same = guard_passed (eqb m n) (λ _. Ok next) refused-next g.3 in
       let a : told ≡ form = eqb-true told form one.0 in
       let b : m ≡ n = eqb-true m n same.0 in
       let c : next ≡ at = cc same.1 in
@@ -101,9 +100,9 @@ module _ (form n : ℕ) where
     where
       -- the header's second number, at p
       second : ℕ → Walk
-      second p = on_number (number_at s p) (Walk.Refused (broken p)) λ m next. guard (eqb m n) (Walk.Refused (bad_table p)) λ _. Walk.Next next
+      second p = on_number (number_at s p) (Err (broken p)) λ m next. guard (eqb m n) (Err (bad_table p)) λ _. Ok next
 
-  pub header_read : form < 2 ^ 35 → n < 2 ^ 35 → (s : List ℕ) (at : ℕ) → Stands s 0 (bytes_of form ++ bytes_of n) at → header form n s ≡ Walk.Next at
+  pub header_read : form < 2 ^ 35 → n < 2 ^ 35 → (s : List ℕ) (at : ℕ) → Stands s 0 (bytes_of form ++ bytes_of n) at → header form n s ≡ Ok at
   unfolding header
   header_read fit small s at p =
       let a = reads form 0 (0 + length (bytes_of form)) s fit (stand-front (bytes_of form) (bytes_of n) p) in
@@ -140,12 +139,12 @@ module _ (r : Rules) where
   overs-count P (more t f) d (b ∷ bs) o = ap suc (overs-count P f d bs o.1)
 
   module _ (judge : Box → List ℕ → Tried) where
-    tile-stands : (b : Box) (k d : ℕ) (s : List ℕ) (at from m : ℕ) → number_at s at ≡ Number.Value k from → 1 ≤ k → k ≤ K
-        → on_modes (modes_at N k s from) at (judge b) ≡ Walk.Next m → TreeStands judge d s at b m
+    tile-stands : (b : Box) (k d : ℕ) (s : List ℕ) (at from m : ℕ) → number_at s at ≡ Some (k, from) → 1 ≤ k → k ≤ K
+        → on_modes (modes_at N k s from) at (judge b) ≡ Ok m → TreeStands judge d s at b m
     unfolding layout Over Fits
     tile-stands b k d s at from m q l h e = go (modes_at N k s from) refl e
       where
-        judged : (us : List ℕ) (y : ℕ) → ModesStand N k s from us y → (o : Tried) → judge b us ≡ o → on_tried o at y ≡ Walk.Next m → TreeStands judge d s at b m
+        judged : (us : List ℕ) (y : ℕ) → ModesStand N k s from us y → (o : Tried) → judge b us ≡ o → on_tried o at y ≡ Ok m → TreeStands judge d s at b m
         judged us y w Works p e =
             let f : m ≡ y = cc in
             let c : length us ≡ k = w.count in
@@ -158,23 +157,23 @@ module _ (r : Rules) where
         judged us y w (Leaves i) p e = absurd (refused-next e)
         judged us y w (Misses i) p e = absurd (refused-next e)
 
-        go : (o : Read (List ℕ)) → modes_at N k s from ≡ o → on_modes o at (judge b) ≡ Walk.Next m → TreeStands judge d s at b m
+        go : (o : Read (List ℕ)) → modes_at N k s from ≡ o → on_modes o at (judge b) ≡ Ok m → TreeStands judge d s at b m
         go (read us y) p e = judged us y (modes-stand N k s from us y p) (judge b us) refl e
         go (refused x) p e = absurd (refused-next e)
 
-    each_stands : (d : ℕ) (s : List ℕ) → ((at : ℕ) (b : Box) (m : ℕ) → walk r judge d s at b ≡ Walk.Next m → TreeStands judge d s at b m)
-        → (bs : List Box) (ls : List Length) (at m : ℕ) → each (λ p c. walk r judge d s p c) bs ls at ≡ Walk.Next m → ForestStands judge d s at bs ls m
+    each_stands : (d : ℕ) (s : List ℕ) → ((at : ℕ) (b : Box) (m : ℕ) → walk r judge d s at b ≡ Ok m → TreeStands judge d s at b m)
+        → (bs : List Box) (ls : List Length) (at m : ℕ) → each (λ p c. walk r judge d s p c) bs ls at ≡ Ok m → ForestStands judge d s at bs ls m
     unfolding each layout Over count_of Held Fits
     each_stands d s ih [] [] at m e = let q : m ≡ at = cc in rw q (record { forest = leaf; over = tt; fits = tt; stand = stand-nil s at; held = tt; count = refl })
     each_stands d s ih [] (l ∷ ls) at m e = let q : m ≡ at = cc in rw q (record { forest = leaf; over = tt; fits = tt; stand = stand-nil s at; held = tt; count = refl })
     each_stands d s ih (b ∷ bs) [] at m e =
-        let w = walk-went (walk r judge d s at b) Walk.Refused (λ y. each (λ p c. walk r judge d s p c) bs [] y) (λ _. refused-next) e in
+        let w = walk-went (walk r judge d s at b) Err (λ y. each (λ p c. walk r judge d s p c) bs [] y) (λ _. refused-next) e in
         let t = ih at b w.0 w.1 in
         let f = each_stands d s ih bs [] w.0 m w.2 in
         record { forest = more t.tree f.forest; over = (t.over, f.over); fits = (t.fits, f.fits); stand = stand-join t.stand f.stand; held = tt; count = ap suc f.count }
     each_stands d s ih (b ∷ bs) (l ∷ ls) at m e =
-        let on : ℕ → Walk = λ y. guard (eqb y (at + l.size)) (Walk.Refused (bad_table l.place)) λ _. each (λ p c. walk r judge d s p c) bs ls y in
-        let w = walk-went (walk r judge d s at b) Walk.Refused on (λ _. refused-next) e in
+        let on : ℕ → Walk = λ y. guard (eqb y (at + l.size)) (Err (bad_table l.place)) λ _. each (λ p c. walk r judge d s p c) bs ls y in
+        let w = walk-went (walk r judge d s at b) Err on (λ _. refused-next) e in
         let g = guard_passed (eqb w.0 (at + l.size)) (λ _. each (λ p c. walk r judge d s p c) bs ls w.0) refused-next w.2 in
         let t = ih at b w.0 w.1 in
         let f = each_stands d s ih bs ls w.0 m g.1 in
@@ -182,17 +181,17 @@ module _ (r : Rules) where
         record { forest = more t.tree f.forest; over = (t.over, f.over); fits = (t.fits, f.fits); stand = stand-join t.stand f.stand; held = (size, f.held); count = ap suc f.count }
 
     -- a split's lengths are those of its children
-    split-was : (d : ℕ) (s : List ℕ) (at from : ℕ) (b : Box) (m : ℕ) → number_at s at ≡ Number.Value 0 from
-        → ((bs : List Box) (ls : List Length) (first : ℕ) → each (λ p c. walk r judge d s p c) bs ls first ≡ Walk.Next m → ForestStands judge d s first bs ls m)
-        → split_at (children b) (Walk.Refused (bad_table at)) (λ cs. each_by r judge d s cs from) ≡ Walk.Next m → TreeStands judge (suc d) s at b m
+    split-was : (d : ℕ) (s : List ℕ) (at from : ℕ) (b : Box) (m : ℕ) → number_at s at ≡ Some (0, from)
+        → ((bs : List Box) (ls : List Length) (first : ℕ) → each (λ p c. walk r judge d s p c) bs ls first ≡ Ok m → ForestStands judge d s first bs ls m)
+        → split_at (children b) (Err (bad_table at)) (λ cs. each_by r judge d s cs from) ≡ Ok m → TreeStands judge (suc d) s at b m
     unfolding layout Over Fits
     split-was d s at from b m q ih = go (children b) refl
       where
-        go : (bs : List Box) → children b ≡ bs → split_at bs (Walk.Refused (bad_table at)) (λ cs. each_by r judge d s cs from) ≡ Walk.Next m
+        go : (bs : List Box) → children b ≡ bs → split_at bs (Err (bad_table at)) (λ cs. each_by r judge d s cs from) ≡ Ok m
             → TreeStands judge (suc d) s at b m
         go [] p e = absurd (refused-next e)
         go (c ∷ cs) p e =
-            let w = read-went (lengths_by (tells form) (c ∷ cs) s from) Walk.Refused (λ ls first. each (λ p c. walk r judge d s p c) (c ∷ cs) ls first) (λ _. refused-next) e in
+            let w = read-went (lengths_by (tells form) (c ∷ cs) s from) Err (λ ls first. each (λ p c. walk r judge d s p c) (c ∷ cs) ls first) (λ _. refused-next) e in
             let f = ih (c ∷ cs) w.0 w.1 w.3 in
             let l = lengths-stand _ s from w.0 w.1 (sym (lengths-by (tells form) (c ∷ cs) s from) ∙ w.2) in
             let told = held_bytes (tells form) f.forest w.0 (rw f.count l.count) f.held in
@@ -203,22 +202,22 @@ module _ (r : Rules) where
               stand = stand-join (was 0 at from s q).1 (stand-join (rw told at l.stand) f.stand);
             }
 
-    pub walk-stands : (d : ℕ) (s : List ℕ) (at : ℕ) (b : Box) (m : ℕ) → walk r judge d s at b ≡ Walk.Next m → TreeStands judge d s at b m
+    pub walk-stands : (d : ℕ) (s : List ℕ) (at : ℕ) (b : Box) (m : ℕ) → walk r judge d s at b ≡ Ok m → TreeStands judge d s at b m
     unfolding walk
     walk-stands zero s at b m e =
-        go (node-was K s at Walk.Refused (λ _. Walk.Refused (bad_table at)) (λ k y. on_modes (modes_at N k s y) at (judge b)) (λ _. refused-next) e)
+        go (node-was K s at Err (λ _. Err (bad_table at)) (λ k y. on_modes (modes_at N k s y) at (judge b)) (λ _. refused-next) e)
       where
-        go : NodeWas K s at (λ _. Walk.Refused (bad_table at)) (λ k y. on_modes (modes_at N k s y) at (judge b)) (Walk.Next m) → TreeStands judge zero s at b m
+        go : NodeWas K s at (λ _. Err (bad_table at)) (λ k y. on_modes (modes_at N k s y) at (judge b)) (Ok m) → TreeStands judge zero s at b m
         go (was-split y q p) = absurd (refused-next p)
         go (was-tile k y q l h p) = tile-stands b k zero s at y m q l h p
     walk-stands (suc d) s at b m e =
         go (λ p c y f. walk-stands d s p c y f)
-        (node-was K s at Walk.Refused (λ y. split_at (children b) (Walk.Refused (bad_table at)) λ cs. each_by r judge d s cs y)
+        (node-was K s at Err (λ y. split_at (children b) (Err (bad_table at)) λ cs. each_by r judge d s cs y)
         (λ k y. on_modes (modes_at N k s y) at (judge b)) (λ _. refused-next) e)
       where
-        go : ((at : ℕ) (b : Box) (m : ℕ) → walk r judge d s at b ≡ Walk.Next m → TreeStands judge d s at b m)
-            → NodeWas K s at (λ y. split_at (children b) (Walk.Refused (bad_table at)) λ cs. each_by r judge d s cs y)
-            (λ k y. on_modes (modes_at N k s y) at (judge b)) (Walk.Next m)
+        go : ((at : ℕ) (b : Box) (m : ℕ) → walk r judge d s at b ≡ Ok m → TreeStands judge d s at b m)
+            → NodeWas K s at (λ y. split_at (children b) (Err (bad_table at)) λ cs. each_by r judge d s cs y)
+            (λ k y. on_modes (modes_at N k s y) at (judge b)) (Ok m)
             → TreeStands judge (suc d) s at b m
         go ih (was-split y q p) = split-was d s at y b m q (λ bs ls first f. each_stands d s ih bs ls first m f) p
         go ih (was-tile k y q l h p) = tile-stands b k (suc d) s at y m q l h p
@@ -234,12 +233,12 @@ module _ (r : Rules) where
       (rw zero-add at (stand-front (bytes_of form ++ bytes_of n) tree p), rw zero-add at (stand-back (bytes_of form ++ bytes_of n) tree p))
 
   module _ (sizes : Sizes r) where
-    pub table-header : (s rest : List ℕ) (t : Tree) → s ≡ table_of r t ++ rest → header form n s ≡ Walk.Next (headed form n)
+    pub table-header : (s rest : List ℕ) (t : Tree) → s ≡ table_of r t ++ rest → header form n s ≡ Ok (headed form n)
     table-header s rest t e = header_read form n sizes.forms sizes.dimensions s (headed form n) (table-stands s rest t e).0
 
     -- a tile's number, and its modes behind it
     pub tile-read : (us s : List ℕ) (at m : ℕ) → Pattern K N us → Stands s at (bytes_of (length us) ++ modes_bytes us) m
-        → (number_at s at ≡ Number.Value (length us) (at + length (bytes_of (length us)))) × (modes_at N (length us) s (at + length (bytes_of (length us))) ≡ read us m)
+        → (number_at s at ≡ Some (length us, at + length (bytes_of (length us)))) × (modes_at N (length us) s (at + length (bytes_of (length us))) ≡ read us m)
     tile-read us s at m g p = (
       reads (length us) at (at + length (bytes_of (length us))) s (omega (arith, g.few, sizes.nodes)) (stand-front (bytes_of (length us)) (modes_bytes us) p),
       modes-read N sizes.modes us s (at + length (bytes_of (length us))) m g.modes (stand-back (bytes_of (length us)) (modes_bytes us) p),
@@ -250,7 +249,7 @@ module _ (r : Rules) where
         unfolding layout Over each Held Fits
 
         pub walk-reads : (t : Tree) (d : ℕ) (s : List ℕ) (at : ℕ) (b : Box) (m : ℕ) → Over r (Good r judge) t d b → Fits (tells form) t
-            → Stands s at (layout (tells form) t) m → walk r judge d s at b ≡ Walk.Next m
+            → Stands s at (layout (tells form) t) m → walk r judge d s at b ≡ Ok m
         walk-reads (tile us) d s at b m o fit p =
             let q = tile-read us s at m o.shape p in
             walk-tile r judge d s at b (length us) (at + length (bytes_of (length us))) q.0 o.shape.some o.shape.few ∙ rw q.1 (rw o.works refl)
@@ -262,7 +261,7 @@ module _ (r : Rules) where
 
         each-reads : (f : Forest) (d : ℕ) (s : List ℕ) (at : ℕ) (bs : List Box) (ls : List Length) (m : ℕ) → Overs r (Good r judge) f d bs
             → FitsEach (tells form) f → Held (tells form) ls f → Stands s at (layouts (tells form) f) m
-            → each (λ p c. walk r judge d s p c) bs ls at ≡ Walk.Next m
+            → each (λ p c. walk r judge d s p c) bs ls at ≡ Ok m
         each-reads leaf d s at [] [] m o fit h p = let q : m ≡ at = omega (arith, p.end) in rw q refl
         each-reads leaf d s at [] (l ∷ ls) m o fit h p = let q : m ≡ at = omega (arith, p.end) in rw q refl
         each-reads leaf d s at (b ∷ bs) ls m o fit h p = absurd o

@@ -2,22 +2,20 @@
 -- each of D splits on the way its 0 and at most 2^n − 1 lengths of five bytes, and a tile of at most 13. Which bytes those are, and that no other counts, is page
 -- Local (over bytes page Chosen). Of an accepted table it is at most 93, page LittleAccepted. Relies on page Local.
 use Prim.Native.Nat.{ℕ, zero, suc, ◌+◌, ◌-◌, ◌*◌, ◌^◌, ◌≤◌, ◌<◌}
-use Rattle.std.specs.Prelude.{◌≡◌, Bool, true, ℤ}
+use Rattle.std.specs.Prelude.{◌≡◌, Bool, true, ℤ, Some, Ok, Err}
 use Rattle.std.proofs.Math.Path.{refl}
 use Rattle.std.proofs.Common.{sym, ap, ◌∙◌, arith, le_refl, length-append}
 use Rattle.std.proofs.Math.Bool.{false}
 use mathlib.Core.List.{List, [], ◌∷◌, ◌++◌}
 use Rattle.std.proofs.Math.Nat.{mul-le-mul}
 use Rattle.std.proofs.Math.ListN.{length}
+use Rattle.meaning.specs.Answers.{Found}
 use Rattle.laws.specs.Every as E
 use Rattle.laws.specs.Every.{Every}
 use Rattle.laws.specs.Guards.{choose}
 use Rattle.laws.specs.Tests.{never}
-use Rattle.meaning.specs.declared.Found.{Found}
-use Rattle.meaning.specs.declared.Number.{Number}
 use Rattle.meaning.specs.declared.Refusal.{Refusal}
 use Rattle.meaning.specs.declared.State.{State}
-use Rattle.meaning.specs.declared.Walk.{Walk}
 use Rattle.meaning.specs.Control as C
 use Rattle.meaning.specs.Control.{tile_found, among, find}
 use Rattle.meaning.specs.Files.{Read, read, refused}
@@ -60,14 +58,14 @@ unfolding S.sizes_bytes E.Every
 sizes-short [] h = omega arith
 sizes-short (l ∷ ls) h = omega (arith, length-append (bytes_of l.size) (sizes_bytes ls), short 4 9 l.size h.0, sizes-short ls h.1)
 
-refused-tile : {e : Refusal} {from k : ℕ} → Found.Refused e ≡ Found.Tile from k → ⊥
+refused-tile : {e : Refusal} {from k : ℕ} → ◌≡◌ {A = Found} (Err e) (Ok (from, k)) → ⊥
 refused-tile e = never cc
 
 -- ---- over any rules that tell lengths: Sized is kept by the children and bounds their number by c, and no tile that is read has more than m bytes
 
 module _ (r : Rules) (sizes : Sizes r) (told : tells r.form ≡ true) (c m : ℕ) (Sized : r.Box → Type 0)
     (few : (b : r.Box) → Sized b → length (r.children b) ≤ c) (same : (b : r.Box) → Sized b → Every Sized (r.children b))
-    (brief : (s : List ℕ) (at k next : ℕ) (us : List ℕ) (end : ℕ) → number_at s at ≡ Number.Value k next → 1 ≤ k → k ≤ r.K → modes_at r.N k s next ≡ read us end → end ≤ at + m)
+    (brief : (s : List ℕ) (at k next : ℕ) (us : List ℕ) (end : ℕ) → number_at s at ≡ Some (k, next) → 1 ≤ k → k ≤ r.K → modes_at r.N k s next ≡ read us end → end ≤ at + m)
     (x : r.Reading) where
   open r use {Box, children, form, K, N}
 
@@ -78,44 +76,44 @@ module _ (r : Rules) (sizes : Sizes r) (told : tells r.form ≡ true) (c m : ℕ
   abbrev up_to : ℕ → ℕ
   up_to d = d * split_most + m
 
-  tile-little : (d : ℕ) (s : List ℕ) (at : ℕ) (b : Box) (size next from k : ℕ) → number_at s at ≡ Number.Value size next → 1 ≤ size → size ≤ K
-      → tile_found (modes_at N size s next) next size ≡ Found.Tile from k → total (spans r d s at b x) ≤ up_to d
+  tile-little : (d : ℕ) (s : List ℕ) (at : ℕ) (b : Box) (size next from k : ℕ) → number_at s at ≡ Some (size, next) → 1 ≤ size → size ≤ K
+      → tile_found (modes_at N size s next) next size ≡ Ok (from, k) → total (spans r d s at b x) ≤ up_to d
   unfolding total
   tile-little d s at b size next from k q l h e = rw (spans-tile r x d s at b size next q l h) (go (modes_at N size s next) refl e)
     where
-      go : (o : Read (List ℕ)) → modes_at N size s next ≡ o → tile_found o next size ≡ Found.Tile from k → total (tile_spans at o) ≤ up_to d
+      go : (o : Read (List ℕ)) → modes_at N size s next ≡ o → tile_found o next size ≡ Ok (from, k) → total (tile_spans at o) ≤ up_to d
       go (refused f) w p = absurd (refused-tile p)
       go (read us end) w p = omega (arith, brief s at size next us end q l h w)
 
   among-little : (d bound : ℕ) (s : List ℕ) (node from k : ℕ)
-      → ((at : ℕ) (b : Box) → Sized b → find r d s at b x ≡ Found.Tile from k → total (spans r d s at b x) ≤ bound)
-      → (bs : List Box) (ls : List Length) (at : ℕ) → Every Sized bs → look_among r x d s node bs ls at ≡ Found.Tile from k → total (spans_among r x d s bs ls at) ≤ bound
+      → ((at : ℕ) (b : Box) → Sized b → find r d s at b x ≡ Ok (from, k) → total (spans r d s at b x) ≤ bound)
+      → (bs : List Box) (ls : List Length) (at : ℕ) → Every Sized bs → look_among r x d s node bs ls at ≡ Ok (from, k) → total (spans_among r x d s bs ls at) ≤ bound
   unfolding C.among L.among_spans E.Every
   among-little d bound s node from k ih [] ls at z e = absurd (refused-tile e)
   among-little d bound s node from k ih (b ∷ bs) ls at z e = go (holds r b x) refl e (λ m q. among-little d bound s node from k ih bs (C.behind ls) m z.1 q)
     where
-      on : (next : ℕ) → holds r b x ≡ false → pass_over r d s ls at b ≡ Walk.Next next → total (spans_among r x d s bs (C.behind ls) next) ≤ bound
+      on : (next : ℕ) → holds r b x ≡ false → pass_over r d s ls at b ≡ Ok next → total (spans_among r x d s bs (C.behind ls) next) ≤ bound
           → total (spans_among r x d s (b ∷ bs) ls at) ≤ bound
       on next h q l = rw (h, q) (rw (passed-unread (tells form) told at next (spans_among r x d s bs (C.behind ls) next)) l)
 
       go : (t : Bool) → holds r b x ≡ t
-          → choose t (λ _. find r d s at b x) (λ _. on_walk (pass_over r d s ls at b) Found.Refused λ m. look_among r x d s node bs (C.behind ls) m) ≡ Found.Tile from k
-          → ((m : ℕ) → look_among r x d s node bs (C.behind ls) m ≡ Found.Tile from k → total (spans_among r x d s bs (C.behind ls) m) ≤ bound)
+          → choose t (λ _. find r d s at b x) (λ _. on_walk (pass_over r d s ls at b) Err λ m. look_among r x d s node bs (C.behind ls) m) ≡ Ok (from, k)
+          → ((m : ℕ) → look_among r x d s node bs (C.behind ls) m ≡ Ok (from, k) → total (spans_among r x d s bs (C.behind ls) m) ≤ bound)
           → total (spans_among r x d s (b ∷ bs) ls at) ≤ bound
       go true h e later = rw h (ih at b z.0 e)
       go false h e later =
-          let w = walk-went (pass_over r d s ls at b) Found.Refused (λ m. look_among r x d s node bs (C.behind ls) m) (λ _. refused-tile) e in
+          let w = walk-went (pass_over r d s ls at b) Err (λ m. look_among r x d s node bs (C.behind ls) m) (λ _. refused-tile) e in
           on w.0 h w.1 (later w.0 w.2)
 
-  split-little : (d : ℕ) (s : List ℕ) (at : ℕ) (b : Box) (next from k : ℕ) → Sized b → number_at s at ≡ Number.Value 0 next
-      → ((ls : List Length) (first : ℕ) → look_among r x d s at (children b) ls first ≡ Found.Tile from k → total (spans_among r x d s (children b) ls first) ≤ up_to d)
-      → split_at (children b) (Found.Refused (bad_table at)) (λ cs. look_by r x d s at cs next) ≡ Found.Tile from k
+  split-little : (d : ℕ) (s : List ℕ) (at : ℕ) (b : Box) (next from k : ℕ) → Sized b → number_at s at ≡ Some (0, next)
+      → ((ls : List Length) (first : ℕ) → look_among r x d s at (children b) ls first ≡ Ok (from, k) → total (spans_among r x d s (children b) ls first) ≤ up_to d)
+      → split_at (children b) (Err (bad_table at)) (λ cs. look_by r x d s at cs next) ≡ Ok (from, k)
       → total (spans r (suc d) s at b x) ≤ up_to (suc d)
   unfolding total
   split-little d s at b next from k z q ih = go (children b) refl
     where
       -- of a box that has children
-      some : (children b ≡ [] → ⊥) → look_by r x d s at (children b) next ≡ Found.Tile from k → total (spans r (suc d) s at b x) ≤ up_to (suc d)
+      some : (children b ≡ [] → ⊥) → look_by r x d s at (children b) next ≡ Ok (from, k) → total (spans r (suc d) s at b x) ≤ up_to (suc d)
       some y e =
           let v = look-went r sizes x d s at (children b) next from k e in
           let ls = v.0 in
@@ -129,27 +127,27 @@ module _ (r : Rules) (sizes : Sizes r) (told : tells r.form ≡ true) (c m : ℕ
           omega (arith, w.stand.end, sizes-short ls w.small, w.count, count, zero-byte, one, mul-le-mul l (le_refl 5)) in
           rw (spans-split r x d s at b next first ls q y v.2) (omega (arith, split, ih ls first v.4))
 
-      go : (bs : List Box) → children b ≡ bs → split_at bs (Found.Refused (bad_table at)) (λ cs. look_by r x d s at cs next) ≡ Found.Tile from k
+      go : (bs : List Box) → children b ≡ bs → split_at bs (Err (bad_table at)) (λ cs. look_by r x d s at cs next) ≡ Ok (from, k)
           → total (spans r (suc d) s at b x) ≤ up_to (suc d)
       go [] w e = absurd (refused-tile e)
       go (b₀ ∷ bs) w e = some (λ y. never cc) (ap (λ (cs : List Box). look_by r x d s at cs next) w ∙ e)
 
-  pub find-little : (d : ℕ) (s : List ℕ) (at : ℕ) (b : Box) (from k : ℕ) → Sized b → find r d s at b x ≡ Found.Tile from k → total (spans r d s at b x) ≤ up_to d
+  pub find-little : (d : ℕ) (s : List ℕ) (at : ℕ) (b : Box) (from k : ℕ) → Sized b → find r d s at b x ≡ Ok (from, k) → total (spans r d s at b x) ≤ up_to d
   unfolding find
   find-little zero s at b from k z e =
-      go (node-was K s at Found.Refused (λ _. Found.Refused (bad_table at)) (λ k m. tile_found (modes_at N k s m) m k) (λ _. refused-tile) e)
+      go (node-was K s at Err (λ _. Err (bad_table at)) (λ k m. tile_found (modes_at N k s m) m k) (λ _. refused-tile) e)
     where
-      go : NodeWas K s at (λ _. Found.Refused (bad_table at)) (λ k m. tile_found (modes_at N k s m) m k) (Found.Tile from k) → total (spans r zero s at b x) ≤ up_to zero
+      go : NodeWas K s at (λ _. Err (bad_table at)) (λ k m. tile_found (modes_at N k s m) m k) (Ok (from, k)) → total (spans r zero s at b x) ≤ up_to zero
       go (was-split m q w) = absurd (refused-tile w)
       go (was-tile size m q l h w) = tile-little zero s at b size m from k q l h w
   find-little (suc d) s at b from k z e =
       go (λ m e z q. find-little d s m e from k z q)
-      (node-was K s at Found.Refused (λ m. split_at (children b) (Found.Refused (bad_table at)) λ cs. look_by r x d s at cs m)
+      (node-was K s at Err (λ m. split_at (children b) (Err (bad_table at)) λ cs. look_by r x d s at cs m)
       (λ k m. tile_found (modes_at N k s m) m k) (λ _. refused-tile) e)
     where
-      go : ((m : ℕ) (e : Box) → Sized e → find r d s m e x ≡ Found.Tile from k → total (spans r d s m e x) ≤ up_to d)
-          → NodeWas K s at (λ m. split_at (children b) (Found.Refused (bad_table at)) λ cs. look_by r x d s at cs m)
-          (λ k m. tile_found (modes_at N k s m) m k) (Found.Tile from k)
+      go : ((m : ℕ) (e : Box) → Sized e → find r d s m e x ≡ Ok (from, k) → total (spans r d s m e x) ≤ up_to d)
+          → NodeWas K s at (λ m. split_at (children b) (Err (bad_table at)) λ cs. look_by r x d s at cs m)
+          (λ k m. tile_found (modes_at N k s m) m k) (Ok (from, k))
           → total (spans r (suc d) s at b x) ≤ up_to (suc d)
       go ih (was-split next q w) = split-little d s at b next from k z q (λ ls first v. among-little d (up_to d) s at from k ih (children b) ls first (same b z) v) w
       go ih (was-tile size next q l h w) = tile-little (suc d) s at b size next from k q l h w
@@ -166,7 +164,7 @@ by-rooms (suc (suc (suc (suc zero)))) d l h k e = omega arith
 by-rooms (suc (suc (suc (suc (suc n))))) d l h k e = absurd (omega arith)
 
 -- what is read of a tile that is found
-tile-brief : (K N : ℕ) → K ≤ 6 → N ≤ 256 → (s : List ℕ) (at k next : ℕ) (us : List ℕ) (end : ℕ) → number_at s at ≡ Number.Value k next → 1 ≤ k → k ≤ K
+tile-brief : (K N : ℕ) → K ≤ 6 → N ≤ 256 → (s : List ℕ) (at k next : ℕ) (us : List ℕ) (end : ℕ) → number_at s at ≡ Some (k, next) → 1 ≤ k → k ≤ K
     → modes_at N k s next ≡ read us end → end ≤ at + tile_bytes N
 tile-brief K N longest modes s at k next us end q l h e =
     let w = modes-stand N k s next us end e in

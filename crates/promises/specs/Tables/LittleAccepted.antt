@@ -2,7 +2,7 @@
 -- way its 0 and its lengths, of as many bytes as its children's lengths need, and the tile. Four dimensions of depth 3 have the most: three splits of fifteen lengths, of
 -- two, two and one byte. Of every tree of sound shape. Relies on pages Finds, Local and TreeLengths; what is read of other tables is page Little.
 use Prim.Native.Nat.{ℕ, zero, suc, ◌+◌, ◌-◌, ◌*◌, ◌^◌, ◌≤◌}
-use Rattle.std.specs.Prelude.{◌≡◌, refl, Bool, cond, List, [], ◌∷◌, ◌++◌, leb, ℤ, length}
+use Rattle.std.specs.Prelude.{◌≡◌, refl, Bool, cond, List, [], ◌∷◌, ◌++◌, leb, ℤ, length, Ok}
 use Rattle.std.proofs.Common.{sym, ap, subst, ◌∙◌, append-nil}
 use Rattle.std.proofs.Math.Bool.{true, false}
 use native.Mathlib.Omega.{arith}
@@ -11,7 +11,6 @@ use Rattle.laws.specs.Every as E
 use Rattle.laws.specs.Every.{Every}
 use Rattle.laws.specs.Standing.{Stands, stand-front, stand-back}
 use Rattle.meaning.specs.declared.Tried.TheVariants.{Works}
-use Rattle.meaning.specs.declared.Walk.{Walk}
 use Rattle.meaning.specs.Computing.{computing}
 use Rattle.meaning.specs.Control as C
 use Rattle.meaning.specs.Numbers.{bytes_of}
@@ -75,7 +74,7 @@ module _ (r : Rules) (sizes : Sizes r) (splits : Splits r) (told : tells r.form 
 
   first-or-later : (bound d : ℕ) (s : List ℕ) (at mid : ℕ) (b : Box) (bs : List Box) (ls : List Length) (t : Bool) → holds r b x ≡ t
       → (holds r b x ≡ true → total (spans r d s at b x) ≤ bound)
-      → (holds r b x ≡ false → (pass_over r d s ls at b ≡ Walk.Next mid) × (total (spans_among r x d s bs (C.behind ls) mid) ≤ bound))
+      → (holds r b x ≡ false → (pass_over r d s ls at b ≡ Ok mid) × (total (spans_among r x d s bs (C.behind ls) mid) ≤ bound))
       → total (spans_among r x d s (b ∷ bs) ls at) ≤ bound
   unfolding L.among_spans
   first-or-later bound d s at mid b bs ls true e first later = rw e (first e)

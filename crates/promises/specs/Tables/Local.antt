@@ -3,7 +3,7 @@
 -- last mode, and nothing behind it. Where they are told (request 2026-01) it reads none of them, but asks how long the file is. Two tables that agree so far
 -- get one answer. Over any rules whose numbers fit five bytes. How many bytes that is, is page Little.
 use Prim.Native.Nat.{ℕ, zero, suc, ◌+◌, ◌^◌, ◌≤◌}
-use Rattle.std.specs.Prelude.{◌≡◌, Bool, length, get_or, take}
+use Rattle.std.specs.Prelude.{◌≡◌, Bool, length, get_or, take, Some, Ok, Err}
 use Rattle.std.proofs.Math.Path.{refl, ap}
 use Rattle.std.proofs.Common.{sym, ◌∙◌, length-append}
 use Rattle.std.proofs.Math.Bool.{true, false}
@@ -12,17 +12,16 @@ use Rattle.std.proofs.Math.Option.{Option, none}
 use Rattle.std.proofs.Math.Option as O
 use native.Mathlib.Omega.{arith}
 use borrow.Author.Tests.{le-leb}
+use Rattle.laws.specs.Pairs.{ok-first, ok-second}
 use Rattle.laws.specs.Every as E
 use Rattle.laws.specs.Every.{Every, every_append, every_map, every-parts}
 use Rattle.laws.specs.Guards.{choose}
 use Rattle.laws.specs.Standing.{stand-within}
 use Rattle.laws.specs.Tests.{never}
+use Rattle.meaning.specs.Answers.{Walk, Found}
 use Rattle.meaning.specs.declared.Refusal.{Refusal}
-use Rattle.meaning.specs.declared.Number.{Number}
 use Rattle.meaning.specs.declared.Tried.{Tried}
 use Rattle.meaning.specs.declared.Tried.TheVariants.{Works}
-use Rattle.meaning.specs.declared.Walk.{Walk}
-use Rattle.meaning.specs.declared.Found.{Found}
 use Rattle.meaning.specs.Refusals.{bad_table}
 use Rattle.meaning.specs.Numbers.{number_at, bytes_of}
 use Rattle.meaning.specs.Files.{Read, read, refused, before}
@@ -40,7 +39,7 @@ use Rattle.promises.specs.Tables.Walking.{number_read, walk-went, read-went, Nod
 use Rattle.promises.specs.Tables.Layouts.{ModesStand, modes-stand, first_read, modes-read, walk-stands, walk-reads, header-stands, header_read}
 use Rattle.promises.specs.Tables.SplitLengths.{lengths-stand}
 
-refused-tile : {e : Refusal} {from k : ℕ} → Found.Refused e ≡ Found.Tile from k → ⊥
+refused-tile : {e : Refusal} {from k : ℕ} → ◌≡◌ {A = Found} (Err e) (Ok (from, k)) → ⊥
 refused-tile e = never cc
 
 -- ---- what is read
@@ -74,7 +73,7 @@ module _ (r : Rules) where
       span at first ∷ among_spans (tells form) (λ c. holds r c x) (λ p c. spans d s p c x) (pass_over r d s) cs ls first)
       (λ k next. tile_spans at (modes_at N k s next))
 
-  pub spans-tile : (x : Reading) (d : ℕ) (s : List ℕ) (at : ℕ) (b : Box) (k m : ℕ) → number_at s at ≡ Number.Value k m → 1 ≤ k → k ≤ K
+  pub spans-tile : (x : Reading) (d : ℕ) (s : List ℕ) (at : ℕ) (b : Box) (k m : ℕ) → number_at s at ≡ Some (k, m) → 1 ≤ k → k ≤ K
       → spans d s at b x ≡ tile_spans at (modes_at N k s m)
   unfolding spans
   spans-tile x d s at b zero m e z l = absurd (omega arith)
@@ -83,7 +82,7 @@ module _ (r : Rules) where
   abbrev pub spans_among : Reading → ℕ → List ℕ → List Box → List Length → ℕ → List Span
   spans_among x d s bs ls at = among_spans (tells form) (λ c. holds r c x) (λ p c. spans d s p c x) (pass_over r d s) bs ls at
 
-  pub spans-split : (x : Reading) (d : ℕ) (s : List ℕ) (at : ℕ) (b : Box) (m first : ℕ) (ls : List Length) → number_at s at ≡ Number.Value 0 m → (children b ≡ [] → ⊥)
+  pub spans-split : (x : Reading) (d : ℕ) (s : List ℕ) (at : ℕ) (b : Box) (m first : ℕ) (ls : List Length) → number_at s at ≡ Some (0, m) → (children b ≡ [] → ⊥)
       → lengths_by (tells form) (children b) s m ≡ read ls first → spans (suc d) s at b x ≡ span at first ∷ spans_among x d s (children b) ls first
   unfolding spans
   spans-split x d s at b m first ls e y q =
@@ -106,7 +105,7 @@ module _ (s z : List ℕ) where
       let v = number_read (number_at s i) (λ size next. before (length_at i size) (lengths_at k s next)) (λ e. never cc) e in
       go v.0 v.1 v.2 (λ vs a q. lengths-same k v.1 m vs l a q) (lengths_at k s v.1) refl v.3
     where
-      go : (size next : ℕ) → number_at s i ≡ Number.Value size next
+      go : (size next : ℕ) → number_at s i ≡ Some (size, next)
           → ((vs : List Length) → Same s z next m → lengths_at k s next ≡ read vs m → lengths_at k z next ≡ read vs m)
           → (o : Read (List Length)) → lengths_at k s next ≡ o → before (length_at i size) o ≡ read ls m → lengths_at (suc k) z i ≡ read ls m
       go size next q ih (refused x) w e = never cc
@@ -152,7 +151,7 @@ module _ (r : Rules) where
     pub order : (at ≤ from) × (from ≤ end)
     pub some : 1 ≤ k
     pub inside : Every (λ p. p.to ≤ end) seen
-    pub same : (z : List ℕ) → AsLong s z → Every (Agreed s z) seen → (look z ≡ Found.Tile from k) × (modes_at N k z from ≡ read modes end)
+    pub same : (z : List ℕ) → AsLong s z → Every (Agreed s z) seen → (look z ≡ Ok (from, k)) × (modes_at N k z from ≡ read modes end)
 
   -- the same, looked at from before, where the bytes between are read
   back_to : {look see : List ℕ → Found} (more : List Span) {seen all : List Span} {s : List ℕ} {at m from k : ℕ} → all ≡ more ++ seen → at ≤ m → Every (λ p. p.to ≤ m) more
@@ -171,43 +170,43 @@ module _ (r : Rules) where
   }
 
   module _ (sizes : Sizes r) where
-    walk_same : (judge : Box → List ℕ → Tried) (d : ℕ) (b : Box) (i m : ℕ) (s z : List ℕ) → walk r judge d s i b ≡ Walk.Next m → m ≤ length z → Same s z i m
-        → walk r judge d z i b ≡ Walk.Next m
+    walk_same : (judge : Box → List ℕ → Tried) (d : ℕ) (b : Box) (i m : ℕ) (s z : List ℕ) → walk r judge d s i b ≡ Ok m → m ≤ length z → Same s z i m
+        → walk r judge d z i b ≡ Ok m
     walk_same judge d b i m s z q l a =
         let w = walk-stands r judge d s i b m q in
         walk-reads r sizes judge w.tree d z i b m w.over w.fits (stand-same s z (layout (tells form) w.tree) i m l a w.stand)
 
-    pub header-same : (s z : List ℕ) (at : ℕ) → header form n s ≡ Walk.Next at → Agreed s z (span 0 at) → header form n z ≡ Walk.Next at
+    pub header-same : (s z : List ℕ) (at : ℕ) → header form n s ≡ Ok at → Agreed s z (span 0 at) → header form n z ≡ Ok at
     header-same s z at q a =
         header_read form n sizes.forms sizes.dimensions z at (stand-same s z (bytes_of form ++ bytes_of n) 0 at a.0 a.1 (header-stands form n s at q))
 
     -- a child that was passed, by a length or by a walk
     pass-order : (told : Bool) (d : ℕ) (s : List ℕ) (ls : List Length) (at : ℕ) (b : Box) (m : ℕ)
-        → pass_by told (λ p c. walk r (λ _ _. Works) d s p c) ls at b ≡ Walk.Next m → (at ≤ m) × Every (λ p. p.to ≤ m) (pass_spans told at m)
+        → pass_by told (λ p c. walk r (λ _ _. Works) d s p c) ls at b ≡ Ok m → (at ≤ m) × Every (λ p. p.to ≤ m) (pass_spans told at m)
     unfolding E.Every
     pass-order false d s ls at b m e = (omega (arith, (walk-stands r (λ _ _. Works) d s at b m e).stand.end), (omega arith, tt))
     pass-order true d s [] at b m e = let q : m ≡ at = cc in (omega (arith, q), tt)
     pass-order true d s (l ∷ ls) at b m e = let q : m ≡ at + l.size = cc in (omega (arith, q), tt)
 
     pass_same : (told : Bool) (d : ℕ) (s z : List ℕ) (ls : List Length) (at : ℕ) (b : Box) (m : ℕ)
-        → pass_by told (λ p c. walk r (λ _ _. Works) d s p c) ls at b ≡ Walk.Next m → Every (Agreed s z) (pass_spans told at m)
-        → pass_by told (λ p c. walk r (λ _ _. Works) d z p c) ls at b ≡ Walk.Next m
+        → pass_by told (λ p c. walk r (λ _ _. Works) d s p c) ls at b ≡ Ok m → Every (Agreed s z) (pass_spans told at m)
+        → pass_by told (λ p c. walk r (λ _ _. Works) d z p c) ls at b ≡ Ok m
     unfolding E.Every
     pass_same false d s z ls at b m e a = walk_same (λ _ _. Works) d b at m s z e a.0.0 a.0.1
     pass_same true d s z [] at b m e a = e
     pass_same true d s z (l ∷ ls) at b m e a = e
 
     module _ (x : Reading) where
-      tile-reach : (d : ℕ) (s : List ℕ) (at : ℕ) (b : Box) (size next from k : ℕ) → number_at s at ≡ Number.Value size next → 1 ≤ size → size ≤ K
-          → tile_found (modes_at N size s next) next size ≡ Found.Tile from k → Reach (λ z. find r d z at b x) (tile_spans at (modes_at N size s next)) s at from k
+      tile-reach : (d : ℕ) (s : List ℕ) (at : ℕ) (b : Box) (size next from k : ℕ) → number_at s at ≡ Some (size, next) → 1 ≤ size → size ≤ K
+          → tile_found (modes_at N size s next) next size ≡ Ok (from, k) → Reach (λ z. find r d z at b x) (tile_spans at (modes_at N size s next)) s at from k
       unfolding E.Every
       tile-reach d s at b size next from k q l h = go (modes_at N size s next) refl
         where
-          go : (m : Read (List ℕ)) → modes_at N size s next ≡ m → tile_found m next size ≡ Found.Tile from k → Reach (λ z. find r d z at b x) (tile_spans at m) s at from k
+          go : (m : Read (List ℕ)) → modes_at N size s next ≡ m → tile_found m next size ≡ Ok (from, k) → Reach (λ z. find r d z at b x) (tile_spans at m) s at from k
           go (refused e) w p = absurd (refused-tile p)
           go (read us m) w p =
-              let a : from ≡ next = cc in
-              let c : k ≡ size = cc in
+              let a : from ≡ next = sym (ok-first p) in
+              let c : k ≡ size = sym (ok-second p) in
               let o = (was size at next s q).1.end in
               let g = (modes-stand N size s next us m w).stand.end in
               rw (a, c) (record {
@@ -224,54 +223,54 @@ module _ (r : Rules) where
               })
 
       among-reach : (d : ℕ) (s : List ℕ) (node from k : ℕ)
-          → ((at : ℕ) (b : Box) → find r d s at b x ≡ Found.Tile from k → Reach (λ z. find r d z at b x) (spans r d s at b x) s at from k)
-          → (bs : List Box) (ls : List Length) (at : ℕ) → look_among r x d s node bs ls at ≡ Found.Tile from k
+          → ((at : ℕ) (b : Box) → find r d s at b x ≡ Ok (from, k) → Reach (λ z. find r d z at b x) (spans r d s at b x) s at from k)
+          → (bs : List Box) (ls : List Length) (at : ℕ) → look_among r x d s node bs ls at ≡ Ok (from, k)
           → Reach (λ z. look_among r x d z node bs ls at) (spans_among r x d s bs ls at) s at from k
       unfolding among among_spans E.Every
       among-reach d s node from k ih [] ls at e = absurd (refused-tile e)
       among-reach d s node from k ih (b ∷ bs) ls at e = go (holds r b x) refl e (λ m q. among-reach d s node from k ih bs (C.behind ls) m q)
         where
           go : (c : Bool) → holds r b x ≡ c
-              → choose c (λ _. find r d s at b x) (λ _. on_walk (pass_over r d s ls at b) Found.Refused λ m. look_among r x d s node bs (C.behind ls) m) ≡ Found.Tile from k
-              → ((m : ℕ) → look_among r x d s node bs (C.behind ls) m ≡ Found.Tile from k
+              → choose c (λ _. find r d s at b x) (λ _. on_walk (pass_over r d s ls at b) Err λ m. look_among r x d s node bs (C.behind ls) m) ≡ Ok (from, k)
+              → ((m : ℕ) → look_among r x d s node bs (C.behind ls) m ≡ Ok (from, k)
               → Reach (λ z. look_among r x d z node bs (C.behind ls) m) (spans_among r x d s bs (C.behind ls) m) s m from k)
               → Reach (λ z. look_among r x d z node (b ∷ bs) ls at) (spans_among r x d s (b ∷ bs) ls at) s at from k
           go true c e h = back_to [] (rw c refl) (omega arith) tt (λ z a t. rw c refl) (ih at b e)
           go false c e h =
-              let w = walk-went (pass_over r d s ls at b) Found.Refused (λ m. look_among r x d s node bs (C.behind ls) m) (λ _. refused-tile) e in
+              let w = walk-went (pass_over r d s ls at b) Err (λ m. look_among r x d s node bs (C.behind ls) m) (λ _. refused-tile) e in
               on w.0 w.1 (h w.0 w.2)
             where
-              on : (m : ℕ) → pass_over r d s ls at b ≡ Walk.Next m → Reach (λ z. look_among r x d z node bs (C.behind ls) m) (spans_among r x d s bs (C.behind ls) m) s m from k
+              on : (m : ℕ) → pass_over r d s ls at b ≡ Ok m → Reach (λ z. look_among r x d z node bs (C.behind ls) m) (spans_among r x d s bs (C.behind ls) m) s m from k
                   → Reach (λ z. look_among r x d z node (b ∷ bs) ls at) (spans_among r x d s (b ∷ bs) ls at) s at from k
               on m q w =
                   let o = pass-order (tells form) d s ls at b m q in
                   back_to (pass_spans (tells form) at m) (rw (c, q) refl) o.0 o.1 (λ z a t. rw (c, pass_same (tells form) d s z ls at b m q t) refl) w
 
       -- the lengths were read, and none points behind the file
-      pub look-went : (d : ℕ) (s : List ℕ) (node : ℕ) (bs : List Box) (at from k : ℕ) → look_by r x d s node bs at ≡ Found.Tile from k
+      pub look-went : (d : ℕ) (s : List ℕ) (node : ℕ) (bs : List Box) (at from k : ℕ) → look_by r x d s node bs at ≡ Ok (from, k)
           → (ls : List Length) × (first : ℕ) × (lengths_by (tells form) bs s at ≡ read ls first) × (past_file (length s) ls first ≡ none)
-          × (look_among r x d s node bs ls first ≡ Found.Tile from k)
+          × (look_among r x d s node bs ls first ≡ Ok (from, k))
       look-went d s node bs at from k e =
-          let w = read-went (lengths_by (tells form) bs s at) Found.Refused
-          (λ ls first. unless_past (past_file (length s) ls first) (λ place. Found.Refused (bad_table place)) λ _. look_among r x d s node bs ls first) (λ _. refused-tile) e in
+          let w = read-went (lengths_by (tells form) bs s at) Err
+          (λ ls first. unless_past (past_file (length s) ls first) (λ place. Err (bad_table place)) λ _. look_among r x d s node bs ls first) (λ _. refused-tile) e in
           let v = go w.0 w.1 (past_file (length s) w.0 w.1) refl w.3 in
           (w.0, w.1, w.2, v.0, v.1)
         where
           go : (ls : List Length) (first : ℕ) (o : Option ℕ) → past_file (length s) ls first ≡ o
-              → unless_past o (λ place. Found.Refused (bad_table place)) (λ _. look_among r x d s node bs ls first) ≡ Found.Tile from k
-              → (past_file (length s) ls first ≡ none) × (look_among r x d s node bs ls first ≡ Found.Tile from k)
+              → unless_past o (λ place. Err (bad_table place)) (λ _. look_among r x d s node bs ls first) ≡ Ok (from, k)
+              → (past_file (length s) ls first ≡ none) × (look_among r x d s node bs ls first ≡ Ok (from, k))
           go ls first none q e = (q, e)
           go ls first (O.some place) q e = absurd (refused-tile e)
 
-      split-reach : (d : ℕ) (s : List ℕ) (at : ℕ) (b : Box) (next from k : ℕ) → number_at s at ≡ Number.Value 0 next
-          → ((bs : List Box) (ls : List Length) (first : ℕ) → look_among r x d s at bs ls first ≡ Found.Tile from k
+      split-reach : (d : ℕ) (s : List ℕ) (at : ℕ) (b : Box) (next from k : ℕ) → number_at s at ≡ Some (0, next)
+          → ((bs : List Box) (ls : List Length) (first : ℕ) → look_among r x d s at bs ls first ≡ Ok (from, k)
           → Reach (λ z. look_among r x d z at bs ls first) (spans_among r x d s bs ls first) s first from k)
-          → split_at (children b) (Found.Refused (bad_table at)) (λ cs. look_by r x d s at cs next) ≡ Found.Tile from k
+          → split_at (children b) (Err (bad_table at)) (λ cs. look_by r x d s at cs next) ≡ Ok (from, k)
           → Reach (λ z. find r (suc d) z at b x) (spans r (suc d) s at b x) s at from k
       unfolding spans E.Every
       split-reach d s at b next from k q ih = go (children b) refl
         where
-          go : (bs : List Box) → children b ≡ bs → split_at bs (Found.Refused (bad_table at)) (λ cs. look_by r x d s at cs next) ≡ Found.Tile from k
+          go : (bs : List Box) → children b ≡ bs → split_at bs (Err (bad_table at)) (λ cs. look_by r x d s at cs next) ≡ Ok (from, k)
               → Reach (λ z. find r (suc d) z at b x) (spans r (suc d) s at b x) s at from k
           go [] w e = absurd (refused-tile e)
           go (c ∷ cs) w e =
@@ -290,24 +289,24 @@ module _ (r : Rules) where
               find-split r x (suc d) z at b next d number refl some ∙ rw (w, lengths, past_same s z (tells form) bs next first ls a v.2 v.3) refl)
               (ih bs ls first v.4)
 
-      pub find-reach : (d : ℕ) (s : List ℕ) (at : ℕ) (b : Box) (from k : ℕ) → find r d s at b x ≡ Found.Tile from k
+      pub find-reach : (d : ℕ) (s : List ℕ) (at : ℕ) (b : Box) (from k : ℕ) → find r d s at b x ≡ Ok (from, k)
           → Reach (λ z. find r d z at b x) (spans r d s at b x) s at from k
       unfolding find
       find-reach zero s at b from k e =
-          go (node-was K s at Found.Refused (λ _. Found.Refused (bad_table at)) (λ k m. tile_found (modes_at N k s m) m k) (λ _. refused-tile) e)
+          go (node-was K s at Err (λ _. Err (bad_table at)) (λ k m. tile_found (modes_at N k s m) m k) (λ _. refused-tile) e)
         where
-          go : NodeWas K s at (λ _. Found.Refused (bad_table at)) (λ k m. tile_found (modes_at N k s m) m k) (Found.Tile from k)
+          go : NodeWas K s at (λ _. Err (bad_table at)) (λ k m. tile_found (modes_at N k s m) m k) (Ok (from, k))
               → Reach (λ z. find r zero z at b x) (spans r zero s at b x) s at from k
           go (was-split m q w) = absurd (refused-tile w)
           go (was-tile size m q l h w) = rw (spans-tile r x zero s at b size m q l h) (tile-reach zero s at b size m from k q l h w)
       find-reach (suc d) s at b from k e =
           go (λ m c q. find-reach d s m c from k q)
-          (node-was K s at Found.Refused (λ m. split_at (children b) (Found.Refused (bad_table at)) λ cs. look_by r x d s at cs m)
+          (node-was K s at Err (λ m. split_at (children b) (Err (bad_table at)) λ cs. look_by r x d s at cs m)
           (λ k m. tile_found (modes_at N k s m) m k) (λ _. refused-tile) e)
         where
-          go : ((m : ℕ) (c : Box) → find r d s m c x ≡ Found.Tile from k → Reach (λ z. find r d z m c x) (spans r d s m c x) s m from k)
-              → NodeWas K s at (λ m. split_at (children b) (Found.Refused (bad_table at)) λ cs. look_by r x d s at cs m)
-              (λ k m. tile_found (modes_at N k s m) m k) (Found.Tile from k)
+          go : ((m : ℕ) (c : Box) → find r d s m c x ≡ Ok (from, k) → Reach (λ z. find r d z m c x) (spans r d s m c x) s m from k)
+              → NodeWas K s at (λ m. split_at (children b) (Err (bad_table at)) λ cs. look_by r x d s at cs m)
+              (λ k m. tile_found (modes_at N k s m) m k) (Ok (from, k))
               → Reach (λ z. find r (suc d) z at b x) (spans r (suc d) s at b x) s at from k
           go ih (was-split m q w) = split-reach d s at b m from k q (λ bs ls first v. among-reach d s at from k ih bs ls first v) w
           go ih (was-tile size m q l h w) = rw (spans-tile r x (suc d) s at b size m q l h) (tile-reach (suc d) s at b size m from k q l h w)
@@ -335,7 +334,7 @@ pub record Seen (r : Rules) (x : r.Reading) (s : List ℕ) (at from k : ℕ) : T
   -- all of it is before the end, and that in the file
   pub inside : Every (λ p. p.to ≤ end) (read_of r x s at)
   pub in-file : end ≤ length s
-  pub head : (z : List ℕ) → Every (Agreed s z) (read_of r x s at) → header r.form r.n z ≡ Walk.Next at
+  pub head : (z : List ℕ) → Every (Agreed s z) (read_of r x s at) → header r.form r.n z ≡ Ok at
   pub same : (z : List ℕ) → AsLong r s z → Every (Agreed s z) (read_of r x s at) → call r z idle x ≡ call r s idle x
 
 -- as bytes
@@ -353,8 +352,8 @@ seen_front r x s at from k w z t =
 pub untold-long : (r : Rules) → tells r.form ≡ false → (s z : List ℕ) → AsLong r s z
 untold-long r plain s z told = never (sym plain ∙ told)
 
-pub seen : (r : Rules) → Sizes r → (x : r.Reading) (s : List ℕ) (at from k : ℕ) → header r.form r.n s ≡ Walk.Next at
-    → find r r.D s at r.root x ≡ Found.Tile from k → Seen r x s at from k
+pub seen : (r : Rules) → Sizes r → (x : r.Reading) (s : List ℕ) (at from k : ℕ) → header r.form r.n s ≡ Ok at
+    → find r r.D s at r.root x ≡ Ok (from, k) → Seen r x s at from k
 unfolding call E.Every
 seen r sizes x s at from k h e =
     let w = find-reach r sizes x r.D s at r.root from k e in

@@ -1,14 +1,13 @@
 -- The bounds of page TableLengths are reached, and by the maker: of page Turning's plant the table of form 1 has just 30,039 bytes, that of form 2 just 34,389 and that
 -- of form 3 just 32,769. They split R down to its 4,096 readings, forms 1 and 2 six times over and form 3 twelve times, each side in turn, and have six modes in each
 -- tile. Relies on pages Made and Halving; the tables are not computed. Tables with modes of two bytes are left out.
-use Rattle.std.specs.Prelude.{ℕ, zero, suc, ◌+◌, ◌*◌, ◌/◌, ◌≤◌, ◌<◌, ◌≡◌, refl, Bool, true, false, ◌||◌, cond, List, [], ◌∷◌, ◌++◌, length, ℤ, pos, ◌+ℤ◌, ◌-ℤ◌, ◌≤ℤ◌, ◌<ℤ◌}
+use Rattle.std.specs.Prelude.{ℕ, zero, suc, ◌+◌, ◌*◌, ◌/◌, ◌≤◌, ◌<◌, ◌≡◌, refl, Bool, true, false, ◌||◌, cond, List, [], ◌∷◌, ◌++◌, length, ℤ, pos, ◌+ℤ◌, ◌-ℤ◌, ◌≤ℤ◌, ◌<ℤ◌, Ok}
 use Rattle.std.proofs.Common.{sym, ap, subst, ◌∙◌, arith, add-zero, lt-ltb, length-append}
 use Rattle.std.proofs.Math.Option.{some}
 use Rattle.std.specs.Int.Signed.{le_z, lt_z}
 use Rattle.laws.specs.Division.{floor_z}
 use Rattle.laws.specs.Integers.{zarith, sub, to-eq}
 use Rattle.laws.specs.Tests.{true-le_z, false-le_z}
-use Rattle.meaning.specs.declared.Verdict.{Verdict}
 use Rattle.meaning.specs.Boxes as B
 use Rattle.meaning.specs.Boxes.{Side, side, long, children, larger, furthest, halved, longest_halved}
 use Rattle.meaning.specs.Computing.{computing}
@@ -153,7 +152,7 @@ abbrev table : ℕ → List ℕ
 table form = table_of (r form) (full 6)
 
 full-made : (form : ℕ) → known_form form ≡ true → one_side form ≡ false
-    → (made bytes form ≡ good (table form)) × (checked bytes (table form) ≡ Verdict.Accepted) × (length (table form) ≡ 2 + most (tells form) 4 7 6)
+    → (made bytes form ≡ good (table form)) × (checked bytes (table form) ≡ Ok tt) × (length (table form) ≡ 2 + most (tells form) 4 7 6)
 full-made form known all =
     let m = (made-exactly bytes p judged form known (table form)).1 (full 6, defined form all, refl) in (
       m,
@@ -162,12 +161,12 @@ full-made form known all =
     )
 
 -- some plant's table, made and accepted, has just 30,039 bytes
-pub reached : (plant table : List ℕ) × (made plant 1 ≡ good table) × (checked plant table ≡ Verdict.Accepted) × (length table ≡ 30_039)
+pub reached : (plant table : List ℕ) × (made plant 1 ≡ good table) × (checked plant table ≡ Ok tt) × (length table ≡ 30_039)
 unfolding L.most
 reached = let w = full-made 1 refl refl in (bytes, table 1, w.0, w.1, w.2)
 
 -- and of form 2 just 34,389
-pub reached-told : (plant table : List ℕ) × (made plant 2 ≡ good table) × (checked plant table ≡ Verdict.Accepted) × (length table ≡ 34_389)
+pub reached-told : (plant table : List ℕ) × (made plant 2 ≡ good table) × (checked plant table ≡ Ok tt) × (length table ≡ 34_389)
 unfolding L.most computing
 reached-told = let w = full-made 2 refl refl in (bytes, table 2, w.0, w.1, w.2)
 
@@ -296,7 +295,7 @@ abbrev halved_table : List ℕ
 halved_table = table_of (r 3) (halvings 12)
 
 -- some plant's table of form 3, made and accepted, has just 32,769 bytes
-pub reached-halved : (plant table : List ℕ) × (made plant 3 ≡ good table) × (checked plant table ≡ Verdict.Accepted) × (length table ≡ 32_769)
+pub reached-halved : (plant table : List ℕ) × (made plant 3 ≡ good table) × (checked plant table ≡ Ok tt) × (length table ≡ 32_769)
 unfolding L.most
 reached-halved =
     let m = (made-exactly bytes p judged 3 refl halved_table).1 (halvings 12, defined-halved, refl) in

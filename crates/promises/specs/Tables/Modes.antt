@@ -1,16 +1,15 @@
 -- A mode that a call answers is a mode of the plant (document 01, "The controller": the mode there is below N), for every plant, table, state and reading,
 -- accepted or not: running, the state's test says so; idle, the tile's modes were read, each below N.
 -- So the C face shows a mode below N, or 65,535 exactly where the call is refused. Relies on page Local for the tile that was found, and on page Judged.
-use Rattle.std.specs.Prelude.{ℕ, zero, suc, ◌+◌, ◌-◌, ◌^◌, ◌≤◌, ◌<◌, ◌≡◌, Bool, true, false, ◌&&◌, List, [], ◌∷◌, ◌↔◌, length, leb, ltb, eqb, ℤ, pos}
+use Rattle.std.specs.Prelude.{ℕ, zero, suc, ◌+◌, ◌-◌, ◌^◌, ◌≤◌, ◌<◌, ◌≡◌, Bool, true, false, ◌&&◌, List, [], ◌∷◌, ◌↔◌, length, leb, ltb, eqb, ℤ, pos, Some, Ok, Err}
 use Rattle.std.proofs.Math.Path.{refl}
-use Rattle.std.proofs.Common.{arith, lt-ltb, ltb-true}
+use Rattle.std.proofs.Common.{arith, lt-ltb, ltb-true, sym, ◌∙◌}
+use Rattle.laws.specs.Pairs.{ok-first}
 use Rattle.laws.specs.Lists.{at}
 use Rattle.laws.specs.Tests.{never, guard_passed, second}
+use Rattle.meaning.specs.Answers.{Found, Answer}
 use Rattle.meaning.specs.declared.Refusal.{Refusal}
-use Rattle.meaning.specs.declared.Number.{Number}
-use Rattle.meaning.specs.declared.Found.{Found}
 use Rattle.meaning.specs.declared.State.{State}
-use Rattle.meaning.specs.declared.Answer.{Answer}
 use Rattle.meaning.specs.Control as C
 use Rattle.meaning.specs.Control.{state_at, mode_at, on_found, find, can_run, state_call, call}
 use Rattle.meaning.specs.Files.{Read, read, refused, Judged, good, bad}
@@ -34,7 +33,7 @@ use Rattle.promises.specs.Tables.Walking.{walk-went}
 abbrev pub is_mode : List ℕ → ℕ → Bool
 is_mode plant u = on_plant (plant_judged plant) (λ _. false) λ p. ltb u p.modes
 
-pub refused-mode : {e : Refusal} {u : ℕ} {then : State} → Answer.Refused e ≡ Answer.Mode u then → ⊥
+pub refused-mode : {e : Refusal} {u : ℕ} {then : State} → ◌≡◌ {A = Answer} (Err e) (Ok (u, then)) → ⊥
 refused-mode e = never cc
 
 -- the first of so many modes from a place on is the number there, and below N
@@ -42,11 +41,11 @@ pub record First (N : ℕ) (s : List ℕ) (place left : ℕ) : Type 0 where
   pub some : 1 ≤ left
   pub mode : ℕ
   pub next : ℕ
-  pub is : number_at s place ≡ Number.Value mode next
+  pub is : number_at s place ≡ Some (mode, next)
   pub is_below : mode < N
 
 -- so it is answered
-pub first-answered : (N : ℕ) (s : List ℕ) (place left : ℕ) (f : First N s place left) → mode_at s place left ≡ Answer.Mode f.mode (state_at f.next (left - 1))
+pub first-answered : (N : ℕ) (s : List ℕ) (place left : ℕ) (f : First N s place left) → mode_at s place left ≡ Ok (f.mode, state_at f.next (left - 1))
 first-answered N s place zero f = absurd (omega (arith, f.some))
 first-answered N s place (suc m) f = let e : suc m - 1 ≡ m = omega arith in rw (f.is, e) refl
 
@@ -75,49 +74,49 @@ running-first K N small s place m e =
     go (read us next) q h = modes-first N small (suc m) s place us next q (omega arith)
 
 -- idle: the modes of the tile that was found were read
-pub found_first : (r : Rules) → Sizes r → (x : r.Reading) (d : ℕ) (s : List ℕ) (at : ℕ) (b : r.Box) (from k : ℕ) → find r d s at b x ≡ Found.Tile from k → First r.N s from k
+pub found_first : (r : Rules) → Sizes r → (x : r.Reading) (d : ℕ) (s : List ℕ) (at : ℕ) (b : r.Box) (from k : ℕ) → find r d s at b x ≡ Ok (from, k) → First r.N s from k
 found_first r z x d s at b from k q =
     let w = find-reach r z x d s at b from k q in
     modes-first r.N z.modes k s from w.modes w.end w.are w.some
 
 module _ {u : ℕ} {then : State} where
-  first_below : (N : ℕ) (s : List ℕ) (place left : ℕ) → First N s place left → mode_at s place left ≡ Answer.Mode u then → u < N
-  first_below N s place left f e = let q : f.mode ≡ u = cc (first-answered N s place left f, e) in rw q at f.is_below
+  first_below : (N : ℕ) (s : List ℕ) (place left : ℕ) → First N s place left → mode_at s place left ≡ Ok (u, then) → u < N
+  first_below N s place left f e = let q : f.mode ≡ u = ok-first (sym (first-answered N s place left f) ∙ e) in rw q at f.is_below
 
   module _ (r : Rules) (z : Sizes r) (s : List ℕ) where
     -- 12 and 11 were passed
-    state-below : (at : ℕ) (x : r.Reading) (place left : ℕ) → state_call r s at place left x ≡ Answer.Mode u then → u < r.N
+    state-below : (at : ℕ) (x : r.Reading) (place left : ℕ) → state_call r s at place left x ≡ Ok (u, then) → u < r.N
     state-below at x place zero e =
         let a = guard_passed (eqb place 0) _ refused-mode e in
         found (find r r.D s at r.root x) refl (guard_passed (holds r r.root x) _ refused-mode a.1).1
       where
-        found : (f : Found) → find r r.D s at r.root x ≡ f → on_found s f ≡ Answer.Mode u then → u < r.N
-        found (Found.Refused e) q a = absurd (refused-mode a)
-        found (Found.Tile from k) q a = first_below r.N s from k (found_first r z x r.D s at r.root from k q) a
+        found : (f : Found) → find r r.D s at r.root x ≡ f → on_found s f ≡ Ok (u, then) → u < r.N
+        found (Err e) q a = absurd (refused-mode a)
+        found (Ok (from, k)) q a = first_below r.N s from k (found_first r z x r.D s at r.root from k q) a
     state-below at x place (suc m) e =
         let a = guard_passed (can_run r.K r.N s place (suc m)) _ refused-mode e in
         let b = guard_passed (holds r r.safe x) _ refused-mode a.1 in
         first_below r.N s place (suc m) (running-first r.K r.N z.modes s place m a.0) b.1
 
-    pub call_below : (st : State) (x : r.Reading) → call r s st x ≡ Answer.Mode u then → u < r.N
+    pub call_below : (st : State) (x : r.Reading) → call r s st x ≡ Ok (u, then) → u < r.N
     unfolding C.call
     call_below st x e =
-        let w = walk-went (header r.form r.n s) Answer.Refused (λ at. state_call r s at st.place st.left x) (λ _. refused-mode) e in
+        let w = walk-went (header r.form r.n s) Err (λ at. state_call r s at st.place st.left x) (λ _. refused-mode) e in
         state-below w.0 x st.place st.left w.2
 
   -- of every plant, table, state and reading
-  pub answered-mode : (plant table : List ℕ) (st : State) (x : List ℤ) → controlled plant table st x ≡ Answer.Mode u then
+  pub answered-mode : (plant table : List ℕ) (st : State) (x : List ℤ) → controlled plant table st x ≡ Ok (u, then)
       → (p : Plant) × (plant_judged plant ≡ good p) × (u < p.modes)
   unfolding T.controlled
   answered-mode plant table st x = go (plant_judged plant) refl
     where
-      go : (j : Judged Plant) → plant_judged plant ≡ j → on_plant j Answer.Refused (λ p. call (rules_of (form_of table) p) table st x) ≡ Answer.Mode u then
+      go : (j : Judged Plant) → plant_judged plant ≡ j → on_plant j Err (λ p. call (rules_of (form_of table) p) table st x) ≡ Ok (u, then)
           → (p : Plant) × (plant_judged plant ≡ good p) × (u < p.modes)
       go (bad f) q e = absurd (refused-mode e)
       go (good p) q e = (p, q, call_below (rules_of (form_of table) p) (judged-sizes plant p q (form_of table) (form-known table)) table st x e)
 
   -- the same, as a test on the plant's bytes
-  pub answered-is-mode : (plant table : List ℕ) (st : State) (x : List ℤ) → controlled plant table st x ≡ Answer.Mode u then → is_mode plant u ≡ true
+  pub answered-is-mode : (plant table : List ℕ) (st : State) (x : List ℤ) → controlled plant table st x ≡ Ok (u, then) → is_mode plant u ≡ true
   answered-is-mode plant table st x e = let w = answered-mode plant table st x e in rw w.1 (lt-ltb u w.0.modes w.2)
 
 -- at most 255
@@ -129,28 +128,28 @@ mode-most plant u = go (plant_judged plant) refl
     go (good p) q e = omega (arith, ltb-true u p.modes e, (judged-sound plant p q).ranges.m-high)
 
 -- so 65,535 is none
-pub answered-most : (plant table : List ℕ) (st : State) (x : List ℤ) {u : ℕ} {then : State} → controlled plant table st x ≡ Answer.Mode u then → u ≤ 255
+pub answered-most : (plant table : List ℕ) (st : State) (x : List ℤ) {u : ℕ} {then : State} → controlled plant table st x ≡ Ok (u, then) → u ≤ 255
 answered-most plant table st x {u} e = mode-most plant u (answered-is-mode plant table st x e)
 
 -- ---- what the C face shows of a call: its mode is the first of the values
 
 -- 65,535 exactly where it is refused, and a mode of the plant, which is at most 255, exactly where it is answered
 pub record ModeShown (plant : List ℕ) (a : Answer) : Type 0 where
-  pub refused : (at (answer_shown a).values 0 ≡ pos 65_535) ↔ ((e : Refusal) × (a ≡ Answer.Refused e))
-  pub answered : ((u : ℕ) × (at (answer_shown a).values 0 ≡ pos u) × (is_mode plant u ≡ true)) ↔ ((u : ℕ) × (then : State) × (a ≡ Answer.Mode u then))
+  pub refused : (at (answer_shown a).values 0 ≡ pos 65_535) ↔ ((e : Refusal) × (a ≡ Err e))
+  pub answered : ((u : ℕ) × (at (answer_shown a).values 0 ≡ pos u) × (is_mode plant u ≡ true)) ↔ ((u : ℕ) × (then : State) × (a ≡ Ok (u, then)))
 
 pub mode-shown : (plant table : List ℕ) (st : State) (x : List ℤ) → ModeShown plant (controlled plant table st x)
 mode-shown plant table st x = go (controlled plant table st x) refl
   where
     go : (a : Answer) → controlled plant table st x ≡ a → ModeShown plant a
-    go (Answer.Refused e) q = record {
+    go (Err e) q = record {
       refused = (λ _. (e, refl), λ _. refl);
       answered = (
         λ w. let k : w.0 ≡ 65_535 = (let y = w.1 in cc) in absurd (omega (arith, mode-most plant w.0 w.2)),
         λ w. absurd (refused-mode w.2),
       );
     }
-    go (Answer.Mode u then) q =
+    go (Ok (u, then)) q =
         let m = answered-is-mode plant table st x q in
         record {
           refused = (λ y. let k : u ≡ 65_535 = cc in absurd (omega (arith, answered-most plant table st x q)), λ w. let y = w.1 in never cc);

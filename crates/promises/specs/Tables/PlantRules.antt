@@ -1,17 +1,15 @@
 -- Document 01's rules of a plant that was judged good, of each known form: its numbers meet what page Laws asks of numbers, lengths too, and a table's header takes two bytes; and the
 -- answers about tables over bytes are those of its rules. How a plant was judged is told by its reader's verdict; a bad one is told first. That they split well and that their patterns keep their word is page PlantMotion.
 -- Relies on the ranges of page Sound, and for lengths on page TreeLengths.
-use Rattle.std.specs.Prelude.{ℕ, ◌+◌, ◌≤◌, ◌≡◌, true, false, List, ◌++◌, length, ℤ}
+use Rattle.std.specs.Prelude.{ℕ, ◌+◌, ◌≤◌, ◌≡◌, true, false, List, ◌++◌, length, ℤ, Ok, Err}
 use Rattle.std.proofs.Math.Path.{refl}
 use Rattle.std.proofs.Common.{ap, arith, length-append}
 use Rattle.laws.specs.Tabs.{length-tab}
 use Rattle.laws.specs.Tests.{never}
-use Rattle.meaning.specs.declared.Answer.{Answer}
 use Rattle.meaning.specs.declared.Outline.{Outline}
 use Rattle.meaning.specs.declared.PlantRead.{PlantRead}
 use Rattle.meaning.specs.declared.Refusal.{Refusal}
 use Rattle.meaning.specs.declared.State.{State}
-use Rattle.meaning.specs.declared.Verdict.{Verdict}
 use Rattle.meaning.specs.Boxes.{Side, side_at}
 use Rattle.meaning.specs.Control.{call}
 use Rattle.meaning.specs.Files.{Judged, good, bad}
@@ -91,14 +89,14 @@ pub record Taken (j : Judged Plant) (o : Outline) : Type 0 where
 
 -- the reader's answer x says how the plant was judged
 module _ (j : Judged Plant) (x : PlantRead) (q : x ≡ read_of j) where
-  pub read-good : x.verdict ≡ Verdict.Accepted → Taken j x.outline
+  pub read-good : x.verdict ≡ Ok tt → Taken j x.outline
   read-good h = go j q
     where
       go : (j : Judged Plant) → x ≡ read_of j → Taken j x.outline
       go (good p) e = record { plant = p; was = refl; outline = rw e refl }
       go (bad r) e = never cc
 
-  pub read-bad : (e : Refusal) → x.verdict ≡ Verdict.Refused e → j ≡ bad e
+  pub read-bad : (e : Refusal) → x.verdict ≡ Err e → j ≡ bad e
   read-bad e h = go j q
     where
       go : (j : Judged Plant) → x ≡ read_of j → j ≡ bad e
@@ -106,11 +104,11 @@ module _ (j : Judged Plant) (x : PlantRead) (q : x ≡ read_of j) where
       go (bad r) f = let same : r ≡ e = cc in rw same refl
 
 module _ (plant : List ℕ) (r : Refusal) (e : plant_judged plant ≡ bad r) where
-  pub checked-bad : (table : List ℕ) → checked plant table ≡ Verdict.Refused r
+  pub checked-bad : (table : List ℕ) → checked plant table ≡ Err r
   unfolding T.checked
   checked-bad table = rw e refl
 
-  pub controlled-bad : (table : List ℕ) (st : State) (x : List ℤ) → controlled plant table st x ≡ Answer.Refused r
+  pub controlled-bad : (table : List ℕ) (st : State) (x : List ℤ) → controlled plant table st x ≡ Err r
   unfolding T.controlled
   controlled-bad table st x = rw e refl
 

@@ -2,11 +2,9 @@
 -- each mode that the controller answers, of any length, whatever readings come that the mode's equation and band allow. Relies on page Demand at
 -- document 01's rules, on page Modes, and on S12 (page PlantMotion) for that no run gets stuck. Its last sentence, that every table whose tiles keep the tile rule is
 -- accepted, is page Checked.
-use Rattle.std.specs.Prelude.{ℕ, ◌≤◌, ◌≡◌, true, List, ℤ}
+use Rattle.std.specs.Prelude.{ℕ, ◌≤◌, ◌≡◌, true, List, ℤ, Ok}
 use Rattle.std.proofs.Common.{sym, ◌∙◌, ltb-true}
-use Rattle.meaning.specs.declared.Verdict.{Verdict}
 use Rattle.meaning.specs.declared.State.{State}
-use Rattle.meaning.specs.declared.Answer.{Answer}
 use Rattle.meaning.specs.Control.{idle}
 use Rattle.meaning.specs.Files.{good}
 use Rattle.meaning.specs.Plants.{Plant, plant_judged}
@@ -27,7 +25,7 @@ use Rattle.promises.specs.Tables.Trips.{Repeated}
 pub record Promised (plant table : List ℕ) (most : ℕ) : Type 0 where
   -- no call is refused, and what is answered is a mode of the plant
   pub answered : {st : State} {x : List ℤ} → TableRun plant table st x
-      → (u : ℕ) × (then : State) × (controlled plant table st x ≡ Answer.Mode u then) × (is_mode plant u ≡ true)
+      → (u : ℕ) × (then : State) × (controlled plant table st x ≡ Ok (u, then)) × (is_mode plant u ≡ true)
   -- every reading lies in S, and in R where a tile is chosen
   pub in-safe : {st : State} {x : List ℤ} → TableRun plant table st x → safe_in plant x ≡ true
   pub in-root : {x : List ℤ} → TableRun plant table idle x → starts_in plant x ≡ true
@@ -52,7 +50,7 @@ promised plant table p e most s d =
     }
 
 -- S9: of every accepted table, and of the one tree that it is the layout of
-pub promise : (plant table : List ℕ) → checked plant table ≡ Verdict.Accepted → (t : Tiled plant table) × Promised plant table (longest t.tree)
+pub promise : (plant table : List ℕ) → checked plant table ≡ Ok tt → (t : Tiled plant table) × Promised plant table (longest t.tree)
 promise plant table a =
     let w = accepted-judged plant table a in
     let p = w.0 in

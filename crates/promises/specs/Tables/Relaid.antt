@@ -2,13 +2,13 @@
 -- it is the same bytes, since a table is that of one tree. On the two, calls in states of the same tile with the same modes done answer the same mode and number left on every
 -- reading, each state's place being that in its own file; and what a run of the one comes to, a run of the other comes to, and back. And what the maker makes of a plant in two such
 -- forms is one tree. Relies on pages SameTree, Accept, Unique and Made.
-use Rattle.std.specs.Prelude.{ℕ, ◌≡◌, refl, true, List, ℤ}
+use Rattle.std.specs.Prelude.{ℕ, ◌≡◌, refl, true, List, ℤ, Ok, Err}
 use Rattle.std.proofs.Common.{sym, ap, subst, ◌∙◌}
 use Rattle.std.proofs.Math.Option.{Option, none, some}
+use Rattle.laws.specs.Pairs.{ok-first, ok-second}
 use Rattle.laws.specs.Tests.{never}
-use Rattle.meaning.specs.declared.Answer.{Answer}
+use Rattle.meaning.specs.Answers.{Answer}
 use Rattle.meaning.specs.declared.State.{State}
-use Rattle.meaning.specs.declared.Verdict.{Verdict}
 use Rattle.meaning.specs.Control.{idle, call}
 use Rattle.meaning.specs.Defined.{defined_tree}
 use Rattle.meaning.specs.Files.{good, bad}
@@ -37,7 +37,7 @@ module _ {plant table : List ℕ} (t : Tiled plant table) (other : ℕ) (known :
       working-alike (form_of table) other p.n p.modes p.k p.d (root_of p) (root_of p) (safe_of p) (step_of p) alike t.tree t.works
 
   -- it is accepted, and says that form
-  pub relaid-accepted : (form_of (relaid t other) ≡ other) × (checked plant (relaid t other) ≡ Verdict.Accepted)
+  pub relaid-accepted : (form_of (relaid t other) ≡ other) × (checked plant (relaid t other) ≡ Ok tt)
   relaid-accepted =
       let a = (accepted-exactly (rules_of other t.p) (judged-sizes plant t.p t.judged other known) (relaid t other)).1 (t.tree, works, refl) in
       (accepted-form plant (relaid t other) t.p t.judged other known).0 a
@@ -86,24 +86,24 @@ module _ {plant table : List ℕ} (t : Tiled plant table) (other : ℕ) (known :
       rw (a, b) h
 
   -- a mode that the one gives the other gives
-  given : (a b : Answer) → AnswersAlike a b → (u : ℕ) (st : State) → a ≡ Answer.Mode u st
-      → (st' : State) × (b ≡ Answer.Mode u st') × Alike st st'
-  given (Answer.Mode u st) (Answer.Mode v st') h w s e =
-      let q : u ≡ w = cc in
-      let z : st ≡ s = cc in
+  given : (a b : Answer) → AnswersAlike a b → (u : ℕ) (st : State) → a ≡ Ok (u, st)
+      → (st' : State) × (b ≡ Ok (u, st')) × Alike st st'
+  given (Ok (u, st)) (Ok (v, st')) h w s e =
+      let q : u ≡ w = ok-first e in
+      let z : st ≡ s = ok-second e in
       let k : u ≡ v = h.0 in
-      (st', ap (λ (i : ℕ). Answer.Mode i st') (sym k ∙ q), rw z at h.1)
-  given (Answer.Mode u st) (Answer.Refused f) h w s e = absurd h
-  given (Answer.Refused f) (Answer.Mode v st') h w s e = absurd h
-  given (Answer.Refused f) (Answer.Refused g) h w s e = never cc
+      (st', ap (λ (i : ℕ). Ok (i, st')) (sym k ∙ q), rw z at h.1)
+  given (Ok (u, st)) (Err f) h w s e = absurd h
+  given (Err f) (Ok (v, st')) h w s e = absurd h
+  given (Err f) (Err g) h w s e = never cc
 
   left-alike : (st st' : State) → Alike st st' → st.left ≡ st'.left
   left-alike st st' w =
       same_left (form_of table) other t.p.n t.p.modes t.p.k t.p.d (root_of t.p) (root_of t.p) (safe_of t.p) (step_of t.p) t.tree st st' w
 
   -- with the same number left
-  pub relaid-mode : (st st' : State) → Alike st st' → (x : List ℤ) (u : ℕ) (then : State) → controlled plant table st x ≡ Answer.Mode u then
-      → (then' : State) × (controlled plant (relaid t other) st' x ≡ Answer.Mode u then') × (then.left ≡ then'.left) × Alike then then'
+  pub relaid-mode : (st st' : State) → Alike st st' → (x : List ℤ) (u : ℕ) (then : State) → controlled plant table st x ≡ Ok (u, then)
+      → (then' : State) × (controlled plant (relaid t other) st' x ≡ Ok (u, then')) × (then.left ≡ then'.left) × Alike then then'
   relaid-mode st st' w x u then e =
       let v = given (controlled plant table st x) (controlled plant (relaid t other) st' x) (relaid-answers st st' w x) u then e in
       (v.0, v.1, left-alike then v.0 v.2, v.2)
@@ -121,16 +121,16 @@ module _ {plant table : List ℕ} (t : Tiled plant table) (other : ℕ) (known :
       (v.0, sample w.1 v.1 f, v.2)
 
   -- and the other way round
-  given_back : (a b : Answer) → AnswersAlike a b → (u : ℕ) (st' : State) → b ≡ Answer.Mode u st'
-      → (st : State) × (a ≡ Answer.Mode u st) × Alike st st'
-  given_back (Answer.Mode u st) (Answer.Mode v st') h w s e =
-      let q : v ≡ w = cc in
-      let z : st' ≡ s = cc in
+  given_back : (a b : Answer) → AnswersAlike a b → (u : ℕ) (st' : State) → b ≡ Ok (u, st')
+      → (st : State) × (a ≡ Ok (u, st)) × Alike st st'
+  given_back (Ok (u, st)) (Ok (v, st')) h w s e =
+      let q : v ≡ w = ok-first e in
+      let z : st' ≡ s = ok-second e in
       let k : u ≡ v = h.0 in
-      (st, ap (λ (i : ℕ). Answer.Mode i st) (k ∙ q), rw z at h.1)
-  given_back (Answer.Mode u st) (Answer.Refused f) h w s e = absurd h
-  given_back (Answer.Refused f) (Answer.Mode v st') h w s e = absurd h
-  given_back (Answer.Refused f) (Answer.Refused g) h w s e = never cc
+      (st, ap (λ (i : ℕ). Ok (i, st)) (k ∙ q), rw z at h.1)
+  given_back (Ok (u, st)) (Err f) h w s e = absurd h
+  given_back (Err f) (Ok (v, st')) h w s e = absurd h
+  given_back (Err f) (Err g) h w s e = never cc
 
   pub relaid-runs-back : {st' : State} {x : List ℤ} → TableRun plant (relaid t other) st' x → (st : State) × TableRun plant table st x × Alike st st'
   relaid-runs-back (start h) = (idle, start h, both-idle)

@@ -3,16 +3,15 @@
 -- bytes. By reading a tree as it is walked over: a tree of sound shape that stands somewhere is the tree that is read there. Relies on pages Layouts,
 -- SplitLengths and Relaid.
 use Prim.Native.Nat.{ℕ, zero, suc, ◌+◌, ◌≤◌}
-use Rattle.std.specs.Prelude.{◌≡◌, refl, Bool, true, false, ◌&&◌, not, cond, ◌↔◌, List, [], ◌∷◌, length}
+use Rattle.std.specs.Prelude.{◌≡◌, refl, Bool, true, false, ◌&&◌, not, cond, ◌↔◌, List, [], ◌∷◌, length, Some, Ok, Err}
 use Rattle.std.proofs.Math.Path.{sym}
 use Rattle.std.proofs.Common.{ap, ◌∙◌, append-nil, arith}
 use borrow.Author.Tests.{le-leb}
 use Rattle.laws.specs.Guards.{guard}
 use Rattle.laws.specs.Standing.{Stands, stand-front, stand-back}
 use Rattle.laws.specs.Tests.{never, first, second}
-use Rattle.meaning.specs.declared.Number.{Number}
+use Rattle.meaning.specs.Answers.{Verdict}
 use Rattle.meaning.specs.declared.Refusal.{Refusal}
-use Rattle.meaning.specs.declared.Verdict.{Verdict}
 use Rattle.meaning.specs.Files.{Read, read, refused, Judged, good, bad}
 use Rattle.meaning.specs.Numbers.{number_at, bytes_of}
 use Rattle.meaning.specs.Plants.{Plant, plant_judged}
@@ -43,11 +42,11 @@ module _ (r : Rules) where
   split_by d s bs at = on_read (lengths_by (tells form) bs s at) refused λ _ first. read_as split (trees_at (λ p c. tree_at r d s p c) bs first)
 
   module _ (d : ℕ) (s : List ℕ) (at : ℕ) (b : Box) where
-    tree-split : (m c : ℕ) → number_at s at ≡ Number.Value 0 m → d ≡ suc c → (children b ≡ [] → ⊥) → tree_at r d s at b ≡ split_by c s (children b) m
+    tree-split : (m c : ℕ) → number_at s at ≡ Some (0, m) → d ≡ suc c → (children b ≡ [] → ⊥) → tree_at r d s at b ≡ split_by c s (children b) m
     unfolding L.tree_at
     tree-split m c e z y = rw z (rw e (split-some (refused (bad_table at)) (λ cs. split_by c s cs m) (children b) y))
 
-    tree-tile : (k m : ℕ) → number_at s at ≡ Number.Value k m → 1 ≤ k → k ≤ K → tree_at r d s at b ≡ read_as tile (modes_at N k s m)
+    tree-tile : (k m : ℕ) → number_at s at ≡ Some (k, m) → 1 ≤ k → k ≤ K → tree_at r d s at b ≡ read_as tile (modes_at N k s m)
     unfolding L.tree_at
     tree-tile zero m e z l = absurd (omega arith)
     tree-tile (suc k) m e z l = elim d as (λ n. tree_at r n s at b ≡ read_as tile (modes_at N (suc k) s m)) [ zero ↦ simp (e, le-leb (suc k) K l) | suc c ↦ simp (e, le-leb (suc k) K l) ]
@@ -100,11 +99,11 @@ alike-exactly form other = go (one_side form) (one_side other)
 
 -- ---- what the checker refuses
 
-pub relayed-refused : (plant table : List ℕ) (form : ℕ) (e : Refusal) → checked plant table ≡ Verdict.Refused e → relayed plant table form ≡ bad e
+pub relayed-refused : (plant table : List ℕ) (form : ℕ) (e : Refusal) → checked plant table ≡ Err e → relayed plant table form ≡ bad e
 unfolding T.checked L.relayed
 relayed-refused plant table form e = go (plant_judged plant)
   where
-    go : (j : Judged Plant) → on_plant j Verdict.Refused (λ p. verdict (rules_of (form_of table) p) table) ≡ Verdict.Refused e
+    go : (j : Judged Plant) → on_plant j Err (λ p. verdict (rules_of (form_of table) p) table) ≡ Err e
         → on_plant j bad (λ p.
         on_verdict (verdict (rules_of (form_of table) p) table) bad λ _.
         guard (known_form form && splits_alike (form_of table) form) (bad wrong_form) λ _.
@@ -121,7 +120,7 @@ module _ {plant table : List ℕ} (t : Tiled plant table) (form : ℕ) where
   relayed-by =
       let p = t.p in
       let own = rules_of (form_of table) p in
-      let accepted : verdict own table ≡ Verdict.Accepted = sym (checked-as plant p t.judged table) ∙ (checked-exactly plant table).1 t in
+      let accepted : verdict own table ≡ Ok tt = sym (checked-as plant p t.judged table) ∙ (checked-exactly plant table).1 t in
       let tree : tree_in own table ≡ good t.tree = tree-in own (judged-sizes plant p t.judged (form_of table) (form-known table)) table t.tree t.is (working-shaped own t.tree t.works) in
       rw (t.judged, accepted) (ap (λ (j : Judged Tree). guard (known_form form && splits_alike (form_of table) form) (bad wrong_form) λ _. on_tree j λ u. good (table_of (rules_of form p) u)) tree)
 
@@ -138,7 +137,7 @@ module _ {plant table : List ℕ} (t : Tiled plant table) (form : ℕ) where
 -- ---- and back
 
 pub record Relays (plant table : List ℕ) (form : ℕ) (z : List ℕ) : Type 0 where
-  pub accepted : checked plant z ≡ Verdict.Accepted
+  pub accepted : checked plant z ≡ Ok tt
   pub says : form_of z ≡ form
   pub back : relayed plant z (form_of table) ≡ good table
 
@@ -160,7 +159,7 @@ relayed-back plant table form z = go (checked plant table) refl
         })
 
     go : (v : Verdict) → checked plant table ≡ v → relayed plant table form ≡ good z → Relays plant table form z
-    go (Verdict.Refused x) a e = let q = relayed-refused plant table form x a in never cc
-    go Verdict.Accepted a e =
+    go (Err x) a e = let q = relayed-refused plant table form x a in never cc
+    go (Ok _) a e =
         let t = (checked-exactly plant table).0 a in
         of t (known_form form && splits_alike (form_of table) form) refl (sym (relayed-by t form) ∙ e)

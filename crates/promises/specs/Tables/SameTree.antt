@@ -3,7 +3,7 @@
 -- its place in its own file, answer alike on every reading: the same mode and number left, and again such states; or the same refusal. The defined tree is one too. Over document 01's rules,
 -- whose numbers fit five bytes, of every tree of sound shape, its tiles working or not. Relies on page Finds. What that says of accepted tables and their runs is page Relaid.
 use Prim.Native.Nat.{ℕ, zero, suc, ◌+◌, ◌≤◌}
-use Rattle.std.specs.Prelude.{◌≡◌, Bool, ◌⊎◌, ℤ}
+use Rattle.std.specs.Prelude.{◌≡◌, Bool, ◌⊎◌, ℤ, Ok, Err}
 use Rattle.std.proofs.Math.Path.{refl, sym, ap, subst, fun_ext}
 use Rattle.std.proofs.Common.{◌∙◌, arith}
 use Rattle.std.proofs.Math.Bool.{true, false, cond}
@@ -17,7 +17,7 @@ use Rattle.laws.specs.Every.{Every, every_append, every_map}
 use Rattle.laws.specs.Guards.{guard}
 use Rattle.laws.specs.Standing.{Stands, stand-front, stand-back}
 use Rattle.laws.specs.Tests.{never}
-use Rattle.meaning.specs.declared.Answer.{Answer}
+use Rattle.meaning.specs.Answers.{Answer}
 use Rattle.meaning.specs.declared.State.{State}
 use Rattle.meaning.specs.declared.Tried.{Tried}
 use Rattle.meaning.specs.Boxes.{Side, within}
@@ -175,7 +175,7 @@ module _ (r : Rules) (sizes : Sizes r) (t : Tree) (shape : Shaped r t) (s : List
 
   -- running: the next of the modes to come, where S holds the reading
   module _ (u : ℕ) (us : List ℕ) (place : ℕ) (w : Coming K N s (u ∷ us) place) (x : Reading) where
-    runs : holds r safe x ≡ true → call r s (state_with (u ∷ us) place) x ≡ Answer.Mode u (state_with us (next_place place u))
+    runs : holds r safe x ≡ true → call r s (state_with (u ∷ us) place) x ≡ Ok (u, state_with us (next_place place u))
     unfolding C.call
     runs h = simp (
       table-header r sizes s [] t whole,
@@ -186,7 +186,7 @@ module _ (r : Rules) (sizes : Sizes r) (t : Tree) (shape : Shaped r t) (s : List
       first_read N sizes.modes u us s place w.end w.are-AllBelow w.stand,
     )
 
-    runs-outside : holds r safe x ≡ false → call r s (state_with (u ∷ us) place) x ≡ Answer.Refused (outside (missed r safe x))
+    runs-outside : holds r safe x ≡ false → call r s (state_with (u ∷ us) place) x ≡ Err (outside (missed r safe x))
     unfolding C.call
     runs-outside h = simp (
       table-header r sizes s [] t whole,
@@ -196,7 +196,7 @@ module _ (r : Rules) (sizes : Sizes r) (t : Tree) (shape : Shaped r t) (s : List
       h,
     )
 
-  idle-outside : (x : Reading) → holds r root x ≡ false → call r s idle x ≡ Answer.Refused (outside (missed r root x))
+  idle-outside : (x : Reading) → holds r root x ≡ false → call r s idle x ≡ Err (outside (missed r root x))
   unfolding C.call
   idle-outside x h = simp (table-header r sizes s [] t whole, h)
 
@@ -226,10 +226,10 @@ module _ (form other n N K D : ℕ) (root goal safe : List Side) (step : ℕ →
 
   -- the same mode, and again such states; or the same refusal
   abbrev pub SameAnswer : Tree → Answer → Answer → Type 0
-  SameAnswer t (Answer.Mode u st) (Answer.Mode v st') = (u ≡ v) × SameState t st st'
-  SameAnswer t (Answer.Refused e) (Answer.Refused f) = e ≡ f
-  SameAnswer t (Answer.Mode u st) (Answer.Refused f) = ⊥
-  SameAnswer t (Answer.Refused e) (Answer.Mode v st') = ⊥
+  SameAnswer t (Ok (u, st)) (Ok (v, st')) = (u ≡ v) × SameState t st st'
+  SameAnswer t (Err e) (Err f) = e ≡ f
+  SameAnswer t (Ok (u, st)) (Err f) = ⊥
+  SameAnswer t (Err e) (Ok (v, st')) = ⊥
 
   same_answer : (t : Tree) {a b : Answer} (c d : Answer) → a ≡ c → b ≡ d → SameAnswer t c d → SameAnswer t a b
   same_answer t c d p q h = rw (p, q) h
@@ -382,8 +382,8 @@ module _ (form other n N K D : ℕ) (root goal safe : List Side) (step : ℕ →
         let here = found_in first f.box f.first f.later f.place (having-member first x (tiles_of first t root (headed form n)) (the first f) f.only) in
         let there = found_in second g.box g.first g.later g.place (having-member second x (tiles_of second t root (headed other n)) (the second g) g.only) in
         same_answer form other n N K D root goal safe step t
-        (Answer.Mode f.first (state_with f.later (next_place (first_place first (the first f)) f.first)))
-        (Answer.Mode g.first (state_with g.later (next_place (first_place second (the second g)) g.first)))
+        (Ok (f.first, state_with f.later (next_place (first_place first (the first f)) f.first)))
+        (Ok (g.first, state_with g.later (next_place (first_place second (the second g)) g.first)))
         (call-finds first sizes splits Patterns (λ b us g. g) s [] t w shape x h)
         (call-finds second sizes' splits' Patterns (λ b us g. g) z [] t w' shape' x h)
         (sym u, in-tile f.box (f.first ∷ []) f.later here (moved g.box f.box g.first f.first g.later f.later b u us there))
@@ -397,8 +397,8 @@ module _ (form other n N K D : ℕ) (root goal safe : List Side) (step : ℕ →
     pub calls-alike : (st st' : State) → SameState form other n N K D root goal safe step t st st' → (x : List ℤ) → Same (call first s st x) (call second z st' x)
     calls-alike st st' state x = of st st' state
       where
-        refused : (c : List Side) {a b : Answer} → a ≡ Answer.Refused (outside (missed first c x)) → b ≡ Answer.Refused (outside (missed second c x)) → Same a b
-        refused c p q = same_answer form other n N K D root goal safe step t (Answer.Refused (outside (missed first c x))) (Answer.Refused (outside (missed second c x))) p q refl
+        refused : (c : List Side) {a b : Answer} → a ≡ Err (outside (missed first c x)) → b ≡ Err (outside (missed second c x)) → Same a b
+        refused c p q = same_answer form other n N K D root goal safe step t (Err (outside (missed first c x))) (Err (outside (missed second c x))) p q refl
 
         idles : (c : Bool) → holds first root x ≡ c → Same (call first s idle x) (call second z idle x)
         idles true h = idle-alike x h
@@ -409,7 +409,7 @@ module _ (form other n N K D : ℕ) (root goal safe : List Side) (step : ℕ →
         run st st' b done u us w v true e =
             let place = place_at first w.the-tile done in
             let place' = place_at second v.the-tile done in
-            same_answer form other n N K D root goal safe step t (Answer.Mode u (state_with us (next_place place u))) (Answer.Mode u (state_with us (next_place place' u)))
+            same_answer form other n N K D root goal safe step t (Ok (u, state_with us (next_place place u))) (Ok (u, state_with us (next_place place' u)))
             (ap (λ (y : State). call first s y x) w.place_is ∙ runs first sizes t shape s is u us place (in-coming first sizes t shape s is b done (u ∷ us) st w) x e)
             (ap (λ (y : State). call second z y x) v.place_is ∙ runs second sizes' t shape' z is' u us place' (in-coming second sizes' t shape' z is' b done (u ∷ us) st' v) x e)
             (refl, in-tile b (done ++ u ∷ []) us (next-in first sizes t shape s is b done u us st w) (next-in second sizes' t shape' z is' b done u us st' v))

@@ -1,14 +1,13 @@
 -- The lengths that a split tells of its children (request 2026-01): what is read as lengths stands there; and those of a forest whose lengths stand are read, each
 -- that of its tree, and point at no place behind a file that holds the forest. Over any flag: where lengths are not told there are none. That what stands is
 -- read needs lengths that fit five bytes. Relies on the laws of numbers. What the walk does with them is page Layouts, what a call does page Finds.
-use Rattle.std.specs.Prelude.{ℕ, zero, suc, ◌+◌, ◌-◌, ◌^◌, ◌≤◌, ◌<◌, ◌≡◌, refl, Bool, true, false, cond, List, [], ◌∷◌, ◌++◌, length}
+use Rattle.std.specs.Prelude.{ℕ, zero, suc, ◌+◌, ◌-◌, ◌^◌, ◌≤◌, ◌<◌, ◌≡◌, refl, Bool, true, false, cond, List, [], ◌∷◌, ◌++◌, length, Some}
 use Rattle.std.proofs.Common.{ap, ◌∙◌, arith, length-append, le-leb}
 use Rattle.std.proofs.Math.Option.{none}
 use Rattle.laws.specs.Every as E
 use Rattle.laws.specs.Every.{Every}
 use Rattle.laws.specs.Standing.{Stands, stand-nil, stand-join, stand-front, stand-back, stand-within}
 use Rattle.laws.specs.Tests.{never}
-use Rattle.meaning.specs.declared.Number.{Number}
 use Rattle.meaning.specs.declared.Refusal.{Refusal}
 use Rattle.meaning.specs.Control as C
 use Rattle.meaning.specs.Control.{past_file}
@@ -155,11 +154,11 @@ past-none told (more t f) (l ∷ ls) s at m c h p =
 -- ---- a split that stands: its number, the lengths that it tells of its children, and they behind them
 
 -- a split's number
-pub split-read : (rest s : List ℕ) (at m : ℕ) → Stands s at (bytes_of 0 ++ rest) m → number_at s at ≡ Number.Value 0 (at + length (bytes_of 0))
+pub split-read : (rest s : List ℕ) (at m : ℕ) → Stands s at (bytes_of 0 ++ rest) m → number_at s at ≡ Some (0, at + length (bytes_of 0))
 split-read rest s at m p = reads 0 at (at + length (bytes_of 0)) s (omega arith) (stand-front (bytes_of 0) rest p)
 
 pub record SplitStands {B : Type 0} (told : Bool) (f : Forest) (bs : List B) (s : List ℕ) (at m : ℕ) : Type 0 where
-  pub number : number_at s at ≡ Number.Value 0 (at + length (bytes_of 0))
+  pub number : number_at s at ≡ Some (0, at + length (bytes_of 0))
   pub lengths : List Length
   pub are : lengths_by told bs s (at + length (bytes_of 0)) ≡ read lengths (first_child told f at)
   pub held : Held told lengths f

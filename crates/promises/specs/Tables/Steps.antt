@@ -1,17 +1,15 @@
 -- A call hangs on neither bands nor coefficients: what the modes of a plant do to boxes is asked by the checker and the maker alone. The walk hangs on it by its
 -- judge only, and the controller passes subtrees by the judge that lets every tile be. So a controller can be handed a plant without them. Assumes nothing.
 use Prim.Native.Nat.{ℕ, zero, suc}
-use Rattle.std.specs.Prelude.{◌≡◌, eqb, length, ℤ}
+use Rattle.std.specs.Prelude.{◌≡◌, eqb, length, ℤ, Err}
 use Rattle.std.proofs.Math.Path.{refl, ap, fun_ext}
 use Rattle.std.proofs.Common.{◌∙◌}
 use mathlib.Core.List.{List}
 use Rattle.laws.specs.Guards.{guard}
+use Rattle.meaning.specs.Answers.{Walk, Found, Answer}
 use Rattle.meaning.specs.declared.Tried.{Tried}
 use Rattle.meaning.specs.declared.Tried.TheVariants.{Works}
-use Rattle.meaning.specs.declared.Walk.{Walk}
-use Rattle.meaning.specs.declared.Found.{Found}
 use Rattle.meaning.specs.declared.State.{State}
-use Rattle.meaning.specs.declared.Answer.{Answer}
 use Rattle.meaning.specs.Boxes.{Side}
 use Rattle.meaning.specs.Control.{tile_found, past_file, unless_past, pass_by, among, on_found, find, inside, state_call, call}
 use Rattle.meaning.specs.Images.{Step}
@@ -33,9 +31,9 @@ module _ (form n N K D : ℕ) (root goal safe : List Side) (step step' : ℕ →
   walk_same judge (suc d) s at b = ap node (fun_ext (λ p. fun_ext (λ c. walk_same judge d s p c)))
     where
       node : (ℕ → List Side → Walk) → Walk
-      node one = node_at K s at Walk.Refused
-          (λ next. split_at (children_by form b) (Walk.Refused (bad_table at)) λ cs.
-          on_read (lengths_by (tells form) cs s next) Walk.Refused λ ls first. each one cs ls first)
+      node one = node_at K s at Err
+          (λ next. split_at (children_by form b) (Err (bad_table at)) λ cs.
+          on_read (lengths_by (tells form) cs s next) Err λ ls first. each one cs ls first)
           (λ k next. on_modes (modes_at N k s next) at (judge b))
 
   -- the tile that holds a reading
@@ -50,19 +48,19 @@ module _ (form n N K D : ℕ) (root goal safe : List Side) (step step' : ℕ →
       pass t p c = walk (by t) (λ _ _. Works) d s p c
 
       node : (ℕ → List Side → Found) → (ℕ → List Side → Walk) → Found
-      node enter over = node_at K s at Found.Refused
-          (λ next. split_at (children_by form b) (Found.Refused (bad_table at)) λ cs.
-          on_read (lengths_by (tells form) cs s next) Found.Refused λ ls first.
-          unless_past (past_file (length s) ls first) (λ place. Found.Refused (bad_table place)) λ _.
+      node enter over = node_at K s at Err
+          (λ next. split_at (children_by form b) (Err (bad_table at)) λ cs.
+          on_read (lengths_by (tells form) cs s next) Err λ ls first.
+          unless_past (past_file (length s) ls first) (λ place. Err (bad_table place)) λ _.
           among (λ c. holds (by step) c x) enter (pass_by (tells form) over) at cs ls first)
           (λ k next. tile_found (modes_at N k s next) next k)
 
   state-same : (s : List ℕ) (at place left : ℕ) (x : List ℤ) → state_call (by step) s at place left x ≡ state_call (by step') s at place left x
   state-same s at place zero x =
-      ap (λ (o : Found). guard (eqb place 0) (Answer.Refused bad_state) λ _. inside (by step) root x λ _. on_found s o) (find-same (depth_by form n D) s at root x)
+      ap (λ (o : Found). guard (eqb place 0) (Err bad_state) λ _. inside (by step) root x λ _. on_found s o) (find-same (depth_by form n D) s at root x)
   state-same s at place (suc m) x = refl
 
   -- the controller's call
   pub call_same : (s : List ℕ) (st : State) (x : List ℤ) → call (by step) s st x ≡ call (by step') s st x
   unfolding call
-  call_same s st x = ap (λ (rest : ℕ → Answer). on_walk (header form n s) Answer.Refused rest) (fun_ext (λ at. state-same s at st.place st.left x))
+  call_same s st x = ap (λ (rest : ℕ → Answer). on_walk (header form n s) Err rest) (fun_ext (λ at. state-same s at st.place st.left x))

@@ -1,12 +1,12 @@
 -- The forms of tables (requests 2026-01 and 2026-06): those that are known are 1, 2 and 3, so each takes one byte; the form that a table's header says is a known one; and
 -- a header of a known form says that form, and any other is 2. Relies on meaning's page Tables and the laws of numbers. What each form means for a table is its rules alone.
-use Rattle.std.specs.Prelude.{ℕ, ◌<◌, ◌≡◌, refl, Bool, true, false, ◌||◌, cond, List, [], ◌↔◌, ◌⊎◌, eqb, length}
+use Rattle.std.specs.Prelude.{ℕ, ◌<◌, ◌≡◌, refl, Bool, true, false, ◌||◌, cond, List, [], ◌↔◌, ◌⊎◌, eqb, length, Some, None, Ok, Err}
 use Rattle.std.proofs.Common.{sym, ap, ◌∙◌, append-nil, inl, inr, arith, eqb-true, eq-eqb}
+use Rattle.laws.specs.Pairs.{some-first}
 use Rattle.laws.specs.Guards.{guard}
 use Rattle.laws.specs.Tests.{never, guard_passed}
-use Rattle.meaning.specs.declared.Number.{Number}
+use Rattle.meaning.specs.Answers.{Number, Walk}
 use Rattle.meaning.specs.declared.Refusal.{Refusal}
-use Rattle.meaning.specs.declared.Walk.{Walk}
 use Rattle.meaning.specs.Refusals.{broken, wrong_form, bad_table}
 use Rattle.meaning.specs.Numbers.{number_at, bytes_of}
 use Rattle.meaning.specs.Rules.{Rules}
@@ -53,24 +53,24 @@ form-known s = told (number_at s 0)
     of form false q = refl
 
     told : (v : Number) → known_form (form_told v) ≡ true
-    told Number.Broken = refl
-    told (Number.Value form next) = of form (known_form form) refl
+    told None = refl
+    told (Some (form, next)) = of form (known_form form) refl
 
-refused-next : {e : Refusal} {m : ℕ} → Walk.Refused e ≡ Walk.Next m → ⊥
+refused-next : {e : Refusal} {m : ℕ} → Err e ≡ Ok m → ⊥
 refused-next e = never cc
 
 -- a header that is passed says its form
-pub header-form : (form n : ℕ) → known_form form ≡ true → (s : List ℕ) (at : ℕ) → header form n s ≡ Walk.Next at → form_of s ≡ form
+pub header-form : (form n : ℕ) → known_form form ≡ true → (s : List ℕ) (at : ℕ) → header form n s ≡ Ok at → form_of s ≡ form
 unfolding W.header
 header-form form n known s at e =
-    let f = number_read (number_at s 0) (λ told p. guard (eqb told form) (Walk.Refused wrong_form) λ _. second p) refused-next e in
+    let f = number_read (number_at s 0) (λ told p. guard (eqb told form) (Err wrong_form) λ _. second p) refused-next e in
     let told = f.0 in
     let same : told ≡ form = eqb-true told form (guard_passed (eqb told form) (λ _. second f.1) refused-next f.3).0 in
-    let says : number_at s 0 ≡ Number.Value form f.1 = f.2 ∙ ap (λ (k : ℕ). Number.Value k f.1) same in
+    let says : number_at s 0 ≡ Some (form, f.1) = f.2 ∙ ap (λ (k : ℕ). Some (k, f.1)) same in
     rw (says, known) refl
   where
     second : ℕ → Walk
-    second p = on_number (number_at s p) (Walk.Refused (broken p)) λ m next. guard (eqb m n) (Walk.Refused (bad_table p)) λ _. Walk.Next next
+    second p = on_number (number_at s p) (Err (broken p)) λ m next. guard (eqb m n) (Err (bad_table p)) λ _. Ok next
 
 -- and so a table says the form of its rules
 pub table-form : (r : Rules) → Sizes r → known_form r.form ≡ true → (s : List ℕ) (t : Tree) → s ≡ table_of r t → form_of s ≡ r.form
@@ -79,35 +79,35 @@ table-form r sizes known s t is =
 
 -- ---- 2 means no known form
 
-refusal_is : {e f : Refusal} → Walk.Refused e ≡ Walk.Refused f → e ≡ f
+refusal_is : {e f : Refusal} → ◌≡◌ {A = Walk} (Err e) (Err f) → e ≡ f
 refusal_is q = cc
 
 -- a header is refused by 2 exactly where it says a form that is not known
 pub two-exactly : (n : ℕ) (s : List ℕ)
-    → (header (form_of s) n s ≡ Walk.Refused wrong_form) ↔ ((form : ℕ) × (next : ℕ) × (number_at s 0 ≡ Number.Value form next) × (known_form form ≡ false))
+    → (header (form_of s) n s ≡ Err wrong_form) ↔ ((form : ℕ) × (next : ℕ) × (number_at s 0 ≡ Some (form, next)) × (known_form form ≡ false))
 unfolding W.header
 two-exactly n s = go (number_at s 0)
   where
     second : ℕ → Walk
-    second p = on_number (number_at s p) (Walk.Refused (broken p)) λ m next. guard (eqb m n) (Walk.Refused (bad_table p)) λ _. Walk.Next next
+    second p = on_number (number_at s p) (Err (broken p)) λ m next. guard (eqb m n) (Err (bad_table p)) λ _. Ok next
 
     -- n is told by 1 and 6
-    behind : (p : ℕ) → second p ≡ Walk.Refused wrong_form → ⊥
+    behind : (p : ℕ) → second p ≡ Err wrong_form → ⊥
     behind p = of (number_at s p)
       where
-        fits : (m next : ℕ) (c : Bool) → guard c (Walk.Refused (bad_table p)) (λ _. Walk.Next next) ≡ Walk.Refused wrong_form → ⊥
+        fits : (m next : ℕ) (c : Bool) → guard c (Err (bad_table p)) (λ _. Ok next) ≡ Err wrong_form → ⊥
         fits m next true e = never cc
         fits m next false e = let q = ap (λ (f : Refusal). f.number) (refusal_is e) in omega (arith, q)
 
-        of : (v : Number) → on_number v (Walk.Refused (broken p)) (λ m next. guard (eqb m n) (Walk.Refused (bad_table p)) λ _. Walk.Next next) ≡ Walk.Refused wrong_form → ⊥
-        of Number.Broken e = let q = ap (λ (f : Refusal). f.number) (refusal_is e) in omega (arith, q)
-        of (Number.Value m next) e = fits m next (eqb m n) e
+        of : (v : Number) → on_number v (Err (broken p)) (λ m next. guard (eqb m n) (Err (bad_table p)) λ _. Ok next) ≡ Err wrong_form → ⊥
+        of None e = let q = ap (λ (f : Refusal). f.number) (refusal_is e) in omega (arith, q)
+        of (Some (m, next)) e = fits m next (eqb m n) e
 
     head : Number → Walk
-    head v = on_number v (Walk.Refused (broken 0)) λ told at. guard (eqb told (form_told v)) (Walk.Refused wrong_form) λ _. second at
+    head v = on_number v (Err (broken 0)) λ told at. guard (eqb told (form_told v)) (Err wrong_form) λ _. second at
 
     by_form : (form next : ℕ) (c : Bool) → known_form form ≡ c
-        → (guard (eqb form (cond c form 1)) (Walk.Refused wrong_form) (λ _. second next) ≡ Walk.Refused wrong_form) ↔ (c ≡ false)
+        → (guard (eqb form (cond c form 1)) (Err wrong_form) (λ _. second next) ≡ Err wrong_form) ↔ (c ≡ false)
     by_form form next true q = (λ e. absurd (behind next (rw (eq-eqb form form refl) at e)), λ e. never cc)
     by_form form next false q = (λ e. refl, λ e. rw (not-one (eqb form 1) q) refl)
       where
@@ -115,10 +115,10 @@ two-exactly n s = go (number_at s 0)
         not-one true e = never cc
         not-one false e = refl
 
-    go : (v : Number) → (head v ≡ Walk.Refused wrong_form) ↔ ((form : ℕ) × (next : ℕ) × (v ≡ Number.Value form next) × (known_form form ≡ false))
-    go Number.Broken = (λ e. let q = ap (λ (f : Refusal). f.number) (refusal_is e) in absurd (omega (arith, q)), λ w. let q = w.2 in never cc)
-    go (Number.Value form next) =
+    go : (v : Number) → (head v ≡ Err wrong_form) ↔ ((form : ℕ) × (next : ℕ) × (v ≡ Some (form, next)) × (known_form form ≡ false))
+    go None = (λ e. let q = ap (λ (f : Refusal). f.number) (refusal_is e) in absurd (omega (arith, q)), λ w. let q = w.2 in never cc)
+    go (Some (form, next)) =
         let k = by_form form next (known_form form) refl in (
           λ e. (form, next, refl, k.0 e),
-          λ w. let q : form ≡ w.0 = cc w.2 in k.1 (rw q w.3),
+          λ w. let q : form ≡ w.0 = some-first w.2 in k.1 (rw q w.3),
         )

@@ -1,9 +1,8 @@
 -- How long an accepted table may be: by its form, and over all forms, whose longest is form 2. Of form 1 (document 01, "Table file") at most 30,039 bytes while
 -- N ≤ 128, and 54,615 (request 2026-08); of form 2 (request 2026-01) 34,389 and 58,965; of form 3 (request 2026-06) 32,769 and 57,345. The header has two bytes, and
 -- the rest is page TreeLengths. Relies on page Accept too. That 30,039, 34,389 and 32,769 are reached is page LongestTable; that 54,615, 58,965 and 57,345 are, is tested.
-use Rattle.std.specs.Prelude.{ℕ, ◌+◌, ◌*◌, ◌≤◌, ◌≡◌, true, false, List, length}
+use Rattle.std.specs.Prelude.{ℕ, ◌+◌, ◌*◌, ◌≤◌, ◌≡◌, true, false, List, length, Ok}
 use Rattle.std.proofs.Common.{sym, ap, subst, ◌∙◌, arith, le-leb}
-use Rattle.meaning.specs.declared.Verdict.{Verdict}
 use Rattle.meaning.specs.Boxes.{Side}
 use Rattle.meaning.specs.Files.{good}
 use Rattle.meaning.specs.Plants.{Plant, plant_judged, root_of}
@@ -21,7 +20,7 @@ use Rattle.promises.specs.Tables.TreeLengths.{most, children_most, tile_bytes, t
 
 -- of a plant's table of a known form over any box of n sides, into any goal
 module _ (form : ℕ) (known : known_form form ≡ true) (p : Plant) (s : Sound p) (root goal : List Side) (sides : length root ≡ p.n)
-    (table : List ℕ) (a : verdict (table_rules form p root goal) table ≡ Verdict.Accepted) where
+    (table : List ℕ) (a : verdict (table_rules form p root goal) table ≡ Ok tt) where
   pub over-most : length table ≤ 2 + most (tells form) (children_most form p.n) (tile_bytes p.modes) (depth_by form p.n p.d)
   over-most =
       let rules = table_rules form p root goal in
@@ -43,8 +42,8 @@ module _ (form : ℕ) (known : known_form form ≡ true) (p : Plant) (s : Sound 
   pub over-box : length table ≤ 58_965
   over-box = omega (arith, by-splits, splits-most form)
 
-module _ (plant table : List ℕ) (a : checked plant table ≡ Verdict.Accepted) where
-  w : (p : Plant) × (plant_judged plant ≡ good p) × (verdict (rules_of (form_of table) p) table ≡ Verdict.Accepted)
+module _ (plant table : List ℕ) (a : checked plant table ≡ Ok tt) where
+  w : (p : Plant) × (plant_judged plant ≡ good p) × (verdict (rules_of (form_of table) p) table ≡ Ok tt)
   w = let v = accepted-judged plant table a in (v.0, v.1, sym (checked-as plant v.0 v.1 table) ∙ a)
 
   bounded : length table ≤ 53_250 + splits_most (form_of table)

@@ -1,15 +1,16 @@
 -- S9, its first half: on a table that is the layout of a working tree, an idle call on a reading in the root begins a trip to the goal, of as many samples as
 -- the tile that holds the reading has modes. Over any rules whose numbers fit five bytes, that split well and whose patterns keep their word; that the goal
 -- lies in the root is not asked. Relies on page Finds for the tile and on page Patterns for its pattern. Trips repeated are page Demand.
-use Rattle.std.specs.Prelude.{ℕ, suc, ◌≤◌, ◌≡◌, true, length}
+use Rattle.std.specs.Prelude.{ℕ, suc, ◌≤◌, ◌≡◌, true, length, Ok}
 use Rattle.std.proofs.Math.Path.{refl, ap}
 use Rattle.std.proofs.Common.{sym, arith, length-append}
 use mathlib.Core.List.{List, [], ◌∷◌, ◌++◌, append-nil}
 use borrow.Author.Tests.{le-leb}
+use Rattle.meaning.specs.Answers.{Answer}
+use Rattle.laws.specs.Pairs.{ok-first, ok-second}
 use Rattle.laws.specs.Every as E
 use Rattle.laws.specs.Standing.{Stands, stand-back}
 use Rattle.meaning.specs.declared.State.{State}
-use Rattle.meaning.specs.declared.Answer.{Answer}
 use Rattle.meaning.specs.Numbers.{bytes_of}
 use Rattle.meaning.specs.Rules.{Rules, rule, holds}
 use Rattle.meaning.specs.Trees as Y
@@ -31,7 +32,7 @@ module _ (r : Rules) where
 
   -- a call on the table s gives a mode and the next state; a trip of so many samples; so many to go
   abbrev pub Gives : List ℕ → State → Reading → ℕ → State → Type 0
-  Gives s st x u then = call r s st x ≡ Answer.Mode u then
+  Gives s st x u then = call r s st x ≡ Ok (u, then)
 
   abbrev pub TripOn : List ℕ → ℕ → Reading → Type 0
   TripOn s = Trip idle (Gives s) follows (holds r safe) (holds r goal)
@@ -67,13 +68,14 @@ module _ (r : Rules) (sizes : Sizes r) (splits : Splits r) (motion : Motion r) (
   is = sym (append-nil table)
 
   -- a sample by a call that is answered so
-  answers : (P : State → Reading → Type 0) (st : State) (x : Reading) (u : ℕ) (then : State) → call r table st x ≡ Answer.Mode u then
+  answers : (P : State → Reading → Type 0) (st : State) (x : Reading) (u : ℕ) (then : State) → call r table st x ≡ Ok (u, then)
       → ((y : Reading) → follows u x y ≡ true → P then y) → Sampled idle (Gives r table) follows P st x
   answers P st x u then e h = record {
     told = (u, then, e);
     leads = λ {u = v} {then = next} {y} g f.
-        let a : v ≡ u = cc in
-        let b : next ≡ then = cc in
+        let same : ◌≡◌ {A = Answer} (Ok (v, next)) (Ok (u, then)) = cc in
+        let a : v ≡ u = ok-first same in
+        let b : next ≡ then = ok-second same in
         rw b (h y (rw a at f));
   }
 
@@ -98,7 +100,7 @@ module _ (r : Rules) (sizes : Sizes r) (splits : Splits r) (motion : Motion r) (
           motion.inside (kept c) safe y h.lands.in-safe.0 (motion.in_kept c y there),
         )
 
-    running-told : holds r safe x ≡ true → call r table (state_with (u ∷ us) place) x ≡ Answer.Mode u (state_with us (next_place place u))
+    running-told : holds r safe x ≡ true → call r table (state_with (u ∷ us) place) x ≡ Ok (u, state_with us (next_place place u))
     unfolding C.call Y.AllBelow
     running-told w =
         let mode = first_read N sizes.modes u us table place h.end h.modes h.stand in

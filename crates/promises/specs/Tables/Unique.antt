@@ -2,6 +2,7 @@
 -- Over any rules whose numbers fit five bytes.
 use Rattle.std.specs.Prelude.{ℕ, zero, suc, ◌+◌, ◌≡◌, refl, List, [], ◌∷◌, ◌++◌, length}
 use Rattle.std.proofs.Common.{sym, ap, ◌∙◌, append-nil, arith}
+use Rattle.laws.specs.Pairs.{some-first}
 use Rattle.laws.specs.Standing.{Stands, stand-front, stand-back}
 use Rattle.meaning.specs.Numbers.{bytes_of}
 use Rattle.meaning.specs.Files.{read}
@@ -23,7 +24,7 @@ module _ (r : Rules) (sizes : Sizes r) where
   one-tile us vs s at m k g h p q =
       let a = tile-read r sizes us s at m g p in
       let b = tile-read r sizes vs s at k h q in
-      let e : length us ≡ length vs = cc (a.0, b.0) in
+      let e : length us ≡ length vs = some-first (sym a.0 ∙ b.0) in
       let c : read us m ≡ read vs k = sym a.1 ∙ rw e b.1 in
       (cc c, cc c)
 
@@ -33,7 +34,7 @@ module _ (r : Rules) (sizes : Sizes r) where
   mixed us rest s at m k g p q =
       let a = tile-read r sizes us s at m g p in
       let b = split-read rest s at k q in
-      let e : length us ≡ 0 = cc (a.0, b) in
+      let e : length us ≡ 0 = some-first (sym a.0 ∙ b) in
       omega (arith, g.some)
 
   mutual

@@ -2,7 +2,7 @@
 -- with a step that the tile has. Places lie in the table or just behind it. Of any bytes, over any rules, and any judge of a tile; what a judge tells is
 -- a parameter. Relies on S5 (page Patterns) for the steps of the tile rule. What is told of a plant and a table is page Told.
 use Prim.Native.Nat.{ℕ, zero, suc, ◌+◌, ◌≤◌}
-use Rattle.std.specs.Prelude.{◌≡◌, Bool, leb, ltb, eqb}
+use Rattle.std.specs.Prelude.{◌≡◌, Bool, leb, ltb, eqb, Some, None, Ok, Err}
 use Rattle.std.proofs.Math.Path.{refl}
 use Rattle.std.proofs.Common.{sym, ap, ◌∙◌, arith, leb-true}
 use Rattle.std.proofs.Math.Bool.{true, false}
@@ -17,12 +17,10 @@ use Rattle.laws.specs.Guards.{guard, choose}
 use Rattle.laws.specs.Lists.{first_false}
 use Rattle.laws.specs.Standing.{stand-within}
 use Rattle.laws.specs.Tests.{never, guard_passed}
+use Rattle.meaning.specs.Answers.{Number, Walk, Found}
 use Rattle.meaning.specs.declared.Refusal.{Refusal}
-use Rattle.meaning.specs.declared.Number.{Number}
 use Rattle.meaning.specs.declared.Tried.{Tried}
 use Rattle.meaning.specs.declared.Tried.TheVariants.{Works, Leaves, Misses}
-use Rattle.meaning.specs.declared.Walk.{Walk}
-use Rattle.meaning.specs.declared.Found.{Found}
 use Rattle.meaning.specs.Refusals.{broken, bad_table}
 use Rattle.meaning.specs.Numbers.{number_at, bytes_of}
 use Rattle.meaning.specs.Files.{Read, read, refused, before}
@@ -56,8 +54,8 @@ module _ {A : Type 0} (P : A → Type 0) where
   number-keeps {otherwise} s at rest a b = go (number_at s at) refl
     where
       go : (n : Number) → number_at s at ≡ n → P (on_number n otherwise rest)
-      go Number.Broken q = a
-      go (Number.Value v next) q = b v next (stand-within s (bytes_of v) at next (was v at next s q).1 (bytes-some v))
+      go None q = a
+      go (Some (v, next)) q = b v next (stand-within s (bytes_of v) at next (was v at next s q).1 (bytes-some v))
 
   read_keeps : {B : Type 0} (o : Read B) (refuse : Refusal → A) (rest : B → ℕ → A) → ((e : Refusal) → o ≡ refused e → P (refuse e))
       → ((b : B) (m : ℕ) → o ≡ read b m → P (rest b m)) → P (on_read o refuse rest)
@@ -67,17 +65,17 @@ module _ {A : Type 0} (P : A → Type 0) where
 module _ (numbers : List ℕ) (size : ℕ) where
   -- goes on in the file, or is refused so; is a tile, or is refused so
   abbrev pub WalkTells : Walk → Type 0
-  WalkTells (Walk.Next m) = m ≤ size
-  WalkTells (Walk.Refused e) = Telling numbers size e
+  WalkTells (Ok m) = m ≤ size
+  WalkTells (Err e) = Telling numbers size e
 
   abbrev pub FoundTells : Found → Type 0
-  FoundTells (Found.Tile from k) = Unit {0}
-  FoundTells (Found.Refused e) = Telling numbers size e
+  FoundTells (Ok (from, k)) = Unit {0}
+  FoundTells (Err e) = Telling numbers size e
 
   pub walk-keeps : {A : Type 0} (P : A → Type 0) (w : Walk) (refuse : Refusal → A) (rest : ℕ → A) → WalkTells w
       → ((e : Refusal) → Telling numbers size e → P (refuse e)) → ((m : ℕ) → m ≤ size → P (rest m)) → P (on_walk w refuse rest)
-  walk-keeps P (Walk.Refused e) refuse rest h a b = a e h
-  walk-keeps P (Walk.Next m) refuse rest h a b = b m h
+  walk-keeps P (Err e) refuse rest h a b = a e h
+  walk-keeps P (Ok m) refuse rest h a b = b m h
 
   -- a length that its child has not is told at its place
   each_tells : one_of numbers 6 ≡ true → {B : Type 0} (one : ℕ → B → Walk) → ((at : ℕ) (b : B) → at ≤ size → WalkTells (one at b)) → (bs : List B) (ls : List Length)
@@ -86,9 +84,9 @@ module _ (numbers : List ℕ) (size : ℕ) where
   each_tells six one h [] [] i at l = l
   each_tells six one h [] (k ∷ ks) i at l = l
   each_tells six one h (b ∷ bs) [] i at l =
-      walk-keeps WalkTells (one at b) Walk.Refused (λ m. each one bs [] m) (h at b l) (λ e t. t) (λ m k. each_tells six one h bs [] i m k)
+      walk-keeps WalkTells (one at b) Err (λ m. each one bs [] m) (h at b l) (λ e t. t) (λ m k. each_tells six one h bs [] i m k)
   each_tells six one h (b ∷ bs) (k ∷ ks) i at l =
-      walk-keeps WalkTells (one at b) Walk.Refused (λ m. guard (eqb m (at + k.size)) (Walk.Refused (bad_table k.place)) λ _. each one bs ks m) (h at b l) (λ e t. t)
+      walk-keeps WalkTells (one at b) Err (λ m. guard (eqb m (at + k.size)) (Err (bad_table k.place)) λ _. each one bs ks m) (h at b l) (λ e t. t)
       (λ m in-file. guard-keeps WalkTells (eqb m (at + k.size)) (λ _. each one bs ks m) (λ _. record { number = six; place = i.0; step = refl })
       (λ _. each_tells six one h bs ks i.1 m in-file))
 
@@ -172,14 +170,14 @@ module _ (numbers s : List ℕ) (one : one_of numbers 1 ≡ true) (six : one_of 
       pub walk-tells : (d at : ℕ) (b : Box) → at ≤ length s → WalkTells numbers (length s) (walk r judge d s at b)
       unfolding W.walk
       walk-tells zero at b l =
-          node-keeps (WalkTells numbers (length s)) K at Walk.Refused (λ next. Walk.Refused (bad_table at)) (λ k next. on_modes (modes_at N k s next) at (judge b)) l
+          node-keeps (WalkTells numbers (length s)) K at Err (λ next. Err (bad_table at)) (λ k next. on_modes (modes_at N k s next) at (judge b)) l
           (λ e t. t) (λ next m. table-told at l) (λ k next some few m. tile-tells b k at next some few l m)
       walk-tells (suc d) at b l =
-          node-keeps (WalkTells numbers (length s)) K at Walk.Refused
-          (λ next. split_at (children b) (Walk.Refused (bad_table at)) λ cs. each_by r judge d s cs next) (λ k next. on_modes (modes_at N k s next) at (judge b)) l
+          node-keeps (WalkTells numbers (length s)) K at Err
+          (λ next. split_at (children b) (Err (bad_table at)) λ cs. each_by r judge d s cs next) (λ k next. on_modes (modes_at N k s next) at (judge b)) l
           (λ e t. t)
           (λ next m. split-keeps (WalkTells numbers (length s)) (children b) (λ cs. each_by r judge d s cs next) (table-told at l)
-          (λ cs. by_tells (WalkTells numbers (length s)) (tells form) cs next Walk.Refused (λ ls first. each (λ p c. walk r judge d s p c) cs ls first) m (λ e t. t)
+          (λ cs. by_tells (WalkTells numbers (length s)) (tells form) cs next Err (λ ls first. each (λ p c. walk r judge d s p c) cs ls first) m (λ e t. t)
           (λ ls first q i k. each_tells numbers (length s) six (λ p c. walk r judge d s p c) (λ p c k. walk-tells d p c k) cs ls i first k)))
           (λ k next some few m. tile-tells b k at next some few l m)
 
@@ -207,8 +205,8 @@ module _ (numbers s : List ℕ) (one : one_of numbers 1 ≡ true) (six : one_of 
 
     -- a child was passed, by a length or by a walk
     abbrev PassTells : Bool → List Length → Walk → Type 0
-    PassTells told ls (Walk.Next m) = (m ≤ length s) × Ahead told (C.behind ls) m
-    PassTells told ls (Walk.Refused e) = Tells e
+    PassTells told ls (Ok m) = (m ≤ length s) × Ahead told (C.behind ls) m
+    PassTells told ls (Err e) = Tells e
 
     by-pass : (told : Bool) (over : ℕ → Box → Walk) (ls : List Length) (at : ℕ) (b : Box) → at ≤ length s → Ahead told ls at
         → WalkTells numbers (length s) (over at b) → PassTells told ls (pass_by told over ls at b)
@@ -216,17 +214,17 @@ module _ (numbers s : List ℕ) (one : one_of numbers 1 ≡ true) (six : one_of 
     by-pass false over ls at b l h w = go (over at b) w
       where
         go : (o : Walk) → WalkTells numbers (length s) o → PassTells false ls o
-        go (Walk.Next m) k = (k, rw h refl)
-        go (Walk.Refused e) t = t
+        go (Ok m) k = (k, rw h refl)
+        go (Err e) t = t
     by-pass true over [] at b l h w = (l, refl)
     by-pass true over (k ∷ ks) at b l h w =
         let g = guard_passed (leb (at + k.size) (length s)) (λ _. past_file (length s) ks (at + k.size)) (λ e. never cc) h in
         (leb-true (at + k.size) (length s) g.0, g.1)
 
     pass-keeps : (told : Bool) (ls : List Length) (o : Walk) (rest : ℕ → Found) → PassTells told ls o
-        → ((m : ℕ) → m ≤ length s → Ahead told (C.behind ls) m → FoundTells numbers (length s) (rest m)) → FoundTells numbers (length s) (on_walk o Found.Refused rest)
-    pass-keeps told ls (Walk.Refused e) rest h a = h
-    pass-keeps told ls (Walk.Next m) rest h a = a m h.0 h.1
+        → ((m : ℕ) → m ≤ length s → Ahead told (C.behind ls) m → FoundTells numbers (length s) (rest m)) → FoundTells numbers (length s) (on_walk o Err rest)
+    pass-keeps told ls (Err e) rest h a = h
+    pass-keeps told ls (Ok m) rest h a = a m h.0 h.1
 
     module _ (x : Reading) where
       among-tells : (d : ℕ) → ((at : ℕ) (b : Box) → at ≤ length s → FoundTells numbers (length s) (find r d s at b x)) → (split : ℕ) → split ≤ length s
@@ -238,7 +236,7 @@ module _ (numbers s : List ℕ) (one : one_of numbers 1 ≡ true) (six : one_of 
         where
           go : (t : Bool) → ((next : ℕ) → next ≤ length s → Ahead (tells form) (C.behind ls) next → FoundTells numbers (length s) (look_among r x d s split bs (C.behind ls) next))
               → FoundTells numbers (length s)
-              (choose t (λ _. find r d s at b x) λ _. on_walk (pass_over r d s ls at b) Found.Refused λ next. look_among r x d s split bs (C.behind ls) next)
+              (choose t (λ _. find r d s at b x) λ _. on_walk (pass_over r d s ls at b) Err λ next. look_among r x d s split bs (C.behind ls) next)
           go true later = ih at b l
           go false later = pass-keeps (tells form) ls (pass_over r d s ls at b) _ (by-pass (tells form) _ ls at b l h (pass-tells d at b l)) later
 
@@ -246,15 +244,15 @@ module _ (numbers s : List ℕ) (one : one_of numbers 1 ≡ true) (six : one_of 
       look-tells : (d : ℕ) → ((at : ℕ) (b : Box) → at ≤ length s → FoundTells numbers (length s) (find r d s at b x)) → (split : ℕ) → split ≤ length s
           → (bs : List Box) (at : ℕ) → at ≤ length s → FoundTells numbers (length s) (look_by r x d s split bs at)
       look-tells d ih split m bs at l =
-          by_tells (FoundTells numbers (length s)) (tells form) bs at Found.Refused
-          (λ ls first. unless_past (past_file (length s) ls first) (λ place. Found.Refused (bad_table place)) λ _. look_among r x d s split bs ls first) l (λ e t. t) of
+          by_tells (FoundTells numbers (length s)) (tells form) bs at Err
+          (λ ls first. unless_past (past_file (length s) ls first) (λ place. Err (bad_table place)) λ _. look_among r x d s split bs ls first) l (λ e t. t) of
         where
           of : (ls : List Length) (first : ℕ) → lengths_by (tells form) bs s at ≡ read ls first → Inside ls → first ≤ length s
-              → FoundTells numbers (length s) (unless_past (past_file (length s) ls first) (λ place. Found.Refused (bad_table place)) λ _. look_among r x d s split bs ls first)
+              → FoundTells numbers (length s) (unless_past (past_file (length s) ls first) (λ place. Err (bad_table place)) λ _. look_among r x d s split bs ls first)
           of ls first q i k = go (past_file (length s) ls first) refl
             where
               go : (o : Option ℕ) → past_file (length s) ls first ≡ o
-                  → FoundTells numbers (length s) (unless_past o (λ place. Found.Refused (bad_table place)) λ _. look_among r x d s split bs ls first)
+                  → FoundTells numbers (length s) (unless_past o (λ place. Err (bad_table place)) λ _. look_among r x d s split bs ls first)
               go none e = among-tells d ih split m bs ls first k (ahead-from (tells form) bs ls at first q e)
               go (O.some place) e = table-told place (past-place ls first place i e)
 
@@ -268,11 +266,11 @@ module _ (numbers s : List ℕ) (one : one_of numbers 1 ≡ true) (six : one_of 
       pub find-tells : (d at : ℕ) (b : Box) → at ≤ length s → FoundTells numbers (length s) (find r d s at b x)
       unfolding C.find
       find-tells zero at b l =
-          node-keeps (FoundTells numbers (length s)) K at Found.Refused (λ next. Found.Refused (bad_table at)) (λ k next. tile_found (modes_at N k s next) next k) l
+          node-keeps (FoundTells numbers (length s)) K at Err (λ next. Err (bad_table at)) (λ k next. tile_found (modes_at N k s next) next k) l
           (λ e t. t) (λ next m. table-told at l) (λ k next some few m. found-tells k next m)
       find-tells (suc d) at b l =
-          node-keeps (FoundTells numbers (length s)) K at Found.Refused
-          (λ next. split_at (children b) (Found.Refused (bad_table at)) λ cs. look_by r x d s at cs next)
+          node-keeps (FoundTells numbers (length s)) K at Err
+          (λ next. split_at (children b) (Err (bad_table at)) λ cs. look_by r x d s at cs next)
           (λ k next. tile_found (modes_at N k s next) next k) l (λ e t. t)
           (λ next m. split-keeps (FoundTells numbers (length s)) (children b) _ (table-told at l)
           (λ cs. look-tells d (λ p c k. find-tells d p c k) at l cs next m))

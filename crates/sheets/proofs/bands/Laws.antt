@@ -1,4 +1,5 @@
 -- The widening, and the ends of a band: sizes, and what the code's tests say; the ends of all bands. Assumes nothing.
+use Rattle.std.specs.Prelude.{Some, None}
 use Prim.Native.Nat.{ℕ, zero, suc, ◌+◌, ◌*◌, ◌/◌, ◌%◌, ◌≤◌, ◌<◌, max}
 use mathlib.Core.Path.{◌≡◌, refl, sym, ap, ◌∙◌}
 use mathlib.Core.List.{List, [], ◌∷◌, ◌++◌, append_assoc}
@@ -18,8 +19,8 @@ use Rattle.laws.specs.Expressions as E
 use Rattle.laws.specs.Expressions.{Ex}
 use Rattle.laws.specs.Lists.{at, tabs, first_false}
 use Rattle.laws.specs.Tabs.{tabs-snoc, length-tabs}
+use Rattle.meaning.specs.Answers.{Whole}
 use Rattle.meaning.specs.declared.Sheet.{Sheet}
-use Rattle.meaning.specs.declared.Whole.{Whole}
 use Rattle.meaning.specs.Plants.{edge_limit, band_limit}
 use Rattle.meaning.specs.Sheets.{limited_to, largest_edge, widening, made_band, near_value}
 use Rattle.sheets.specs.declared.bands.Bands.{Bands}
@@ -79,13 +80,13 @@ module _ (h : Sheet) (s : Sized h) (w : ℕ) (e : w ≡ widening h) where
 
 -- ---- an end of a band
 
-pub low-out : (v : ℤ) → v <ℤ negsuc 999999999 → Whole.Out ≡ limited_to band_limit v
+pub low-out : (v : ℤ) → v <ℤ negsuc 999999999 → None ≡ limited_to band_limit v
 low-out v h = simp (lt-leb (nat_abs v) band_limit (omega (zarith, abs v, apart v)))
 
-pub high-out : (v : ℤ) → pos 1000000000 <ℤ v → Whole.Out ≡ limited_to band_limit v
+pub high-out : (v : ℤ) → pos 1000000000 <ℤ v → None ≡ limited_to band_limit v
 high-out v h = simp (lt-leb (nat_abs v) band_limit (omega (zarith, abs v, apart v)))
 
-pub end-in : (v : ℤ) → negsuc 999999999 ≤ℤ v → v ≤ℤ pos 1000000000 → Whole.Near v ≡ limited_to band_limit v
+pub end-in : (v : ℤ) → negsuc 999999999 ≤ℤ v → v ≤ℤ pos 1000000000 → Some v ≡ limited_to band_limit v
 end-in v h l = simp (le-leb (nat_abs v) band_limit (within band_limit h l))
 
 -- ---- the ends in plant order

@@ -15,8 +15,8 @@ use lib.Ieee.{Float}
 use Rattle.laws.specs.Lists.{tab, tabs, first_false}
 use Rattle.laws.specs.Tabs.{length-tab, tab-snoc}
 use Rattle.laws.specs.Columns.{tabs-tab}
+use Rattle.meaning.specs.Answers.{Whole}
 use Rattle.meaning.specs.declared.Sheet.{Sheet}
-use Rattle.meaning.specs.declared.Whole.{Whole}
 use Rattle.meaning.specs.Plants.{entry_limit, offset_limit, coef_count}
 use Rattle.meaning.specs.Sheets.{whole_of, coefficient, offset, made_row, made_modes, near_value}
 use Rattle.promises.specs.Sheets.SheetPlants.{emitters-few}

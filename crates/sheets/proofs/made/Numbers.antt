@@ -1,4 +1,5 @@
 -- The numbers of the made plant are those of the definition, and the place of the first that is out. Relies on page Laws, and on promises' page SheetNumbers.
+use Rattle.std.specs.Prelude.{Some}
 use Prim.Native.Nat.{ℕ, suc, ◌+◌, ◌*◌, ◌≤◌, ◌<◌}
 use mathlib.Core.Path.{◌≡◌, refl, sym, ap, ◌∙◌}
 use mathlib.Core.Bool.{Bool}
@@ -14,8 +15,8 @@ use Rattle.laws.specs.Lists.{at, tab, tabs, all, first_false}
 use Rattle.laws.specs.Columns.{tabs-tab}
 use Rattle.laws.specs.Tabs.{length-tab, length-tabs, map-tab, map-tabs, tab-same, padded-at}
 use Rattle.laws.specs.Tests.{first-within, first-behind}
+use Rattle.meaning.specs.Answers.{Whole}
 use Rattle.meaning.specs.declared.Sheet.{Sheet}
-use Rattle.meaning.specs.declared.Whole.{Whole}
 use Rattle.meaning.specs.Plants.{coef_count, edges_of, band_numbers, row_numbers, numbers_of}
 use Rattle.meaning.specs.Sheets.{sheet_edges, made_band, made_modes, made_numbers, is_near, near_value}
 use Rattle.promises.specs.Sheets.SheetNumbers.{map-values}
@@ -29,17 +30,17 @@ use Rattle.sheets.proofs.bands.Laws.{low-at, high-at}
 use Rattle.sheets.proofs.made.Laws.{rows_are, count-few}
 
 -- numbers that are taken over as they are are all near
-near-all : (l : List ℤ) → first_out (map Whole.Near l) ≡ length (map Whole.Near l)
+near-all : (l : List ℤ) → first_out (map Some l) ≡ length (map Some l)
 unfolding first_false
 near-all [] = refl
 near-all (v ∷ l) = ap suc (near-all l)
 
 module _ (h : Sheet) (s : Sized h) where
   abbrev head : List Whole
-  head = map (λ v. Whole.Near (pos v)) (1 ∷ h.n ∷ made_modes h ∷ h.q ∷ h.k ∷ h.d ∷ [])
+  head = map (λ v. Some (pos v)) (1 ∷ h.n ∷ made_modes h ∷ h.q ∷ h.k ∷ h.d ∷ [])
 
   abbrev edges : List Whole
-  edges = map Whole.Near (sheet_edges h)
+  edges = map Some (sheet_edges h)
 
   abbrev bands : List Whole
   bands = tabs (made_band h) h.n 0
@@ -97,7 +98,7 @@ module _ (h : Sheet) (s : Sized h) where
   -- ---- the place of the first that is out
 
   edges-long : length edges ≡ 4 * h.n
-  edges-long = length-map (sheet_edges h) Whole.Near ∙ length-tabs (edges_of h.rlo h.rhi h.slo h.shi) 4 (λ k. refl) h.n 0
+  edges-long = length-map (sheet_edges h) Some ∙ length-tabs (edges_of h.rlo h.rhi h.slo h.shi) 4 (λ k. refl) h.n 0
 
   bands-long : length bands ≡ 2 * h.n
   bands-long = length-tabs (made_band h) 2 (λ k. refl) h.n 0

@@ -1,5 +1,6 @@
 -- Rooms read against the form: exchanges by their loop, an emitter by its number, a room by its parts, rooms by their loop.
 -- Relies on promises' page SheetRooms, and on files' pages FieldLaws and Parts.
+use Rattle.std.specs.Prelude.{Some, None, Ok, Err}
 use Prim.Native.Nat.{ℕ, ◌+◌, ◌-◌, ◌≤◌, ◌<◌}
 use mathlib.Core.Path.{◌≡◌, refl, ap, ◌∙◌}
 use mathlib.Core.Bool.{true}
@@ -14,9 +15,8 @@ use borrow.Author.Tests.{le-leb, lt-leb}
 use Rattle.laws.specs.Columns.{tab-tabs}
 use Rattle.laws.specs.Tabs.{any-default, FilledBy, filling-none, filling-more, get_d-below}
 use Rattle.laws.specs.Writing.{Put}
+use Rattle.meaning.specs.Answers.{Walk}
 use Rattle.meaning.specs.declared.Refusal.{Refusal}
-use Rattle.meaning.specs.declared.Number.{Number}
-use Rattle.meaning.specs.declared.Walk.{Walk}
 use Rattle.meaning.specs.declared.Emitter.{Emitter}
 use Rattle.meaning.specs.declared.Room.{Room}
 use Rattle.meaning.specs.Numbers.{number_at}
@@ -27,7 +27,6 @@ use Rattle.meaning.specs.Sheets.{zero_f, bits_of, floating, any_float, not_below
 use Rattle.promises.specs.Sheets.SheetRooms.{Held, HeldRoom, TidyRoom}
 use Rattle.files.specs.FieldLaws.{taken-right, taken-wrong, not_taken}
 use Rattle.files.specs.Parts.{behind, Fails, holds_then, holds-fails, fails-then, Rows, rows_none, rows_more, rows-fails, rows_all}
-use Rattle.sheets.specs.declared.rooms.EmitterRead.{EmitterRead}
 use Rattle.sheets.specs.Floats.{Floated, TwoFloated}
 use Rattle.sheets.specs.Rooms.{exchange_bits, ExchangesRead, kind_of, own_values, own_part, emitter_part, OwnRead, OwnTold, EmitterHeld, EmitterTold, rest_part, RestRead, RestAs, values_of_room, RoomHeld, RoomAs, RoomsHeld, room_bytes, bytes_of_room}
 
@@ -87,10 +86,10 @@ values-split (Emitter.Heater p water) = refl
 values-split (Emitter.Steady rate) = refl
 
 module _ (s : List ℕ) (start : ℕ) where
-  pub kind-cut : number_at s start ≡ Number.Broken → Fails emitter_part s start (broken start)
+  pub kind-cut : number_at s start ≡ None → Fails emitter_part s start (broken start)
   kind-cut e = record { fails = λ rest. not_taken (from 0 2) (emitter_form rest) s start e }
 
-  module _ (kind mid : ℕ) (e : number_at s start ≡ Number.Value kind mid) where
+  module _ (kind mid : ℕ) (e : number_at s start ≡ Some (kind, mid)) where
     pub kind-over : 2 < kind → Fails emitter_part s start (unfit start)
     kind-over h = record { fails = λ rest. taken-wrong (from 0 2) (emitter_form rest) s start kind mid e (let z : 0 ≤ kind = omega arith in simp (le-leb _ _ z, lt-leb _ _ h)) }
 
@@ -115,8 +114,8 @@ module _ (s : List ℕ) (start : ℕ) where
       }
 
       pub own-told : (r : EmitterRead) → OwnTold kind s mid r → EmitterTold s start r
-      own-told (EmitterRead.Emitter m next) t = own_held m next t
-      own-told (EmitterRead.Refused r) t = own-fails r t
+      own-told (Ok (m, next)) t = own_held m next t
+      own-told (Err r) t = own-fails r t
 
 -- ---- a room of n
 
@@ -155,8 +154,8 @@ module _ (s : List ℕ) (start n : ℕ) where
     }
 
     pub rest-told : (room : Room) (r : Walk) → RestAs s mid n loss room r → RoomAs s start n room r
-    rest-told room (Walk.Next next) u = room-held room next u
-    rest-told room (Walk.Refused e) u = rest-cut e u
+    rest-told room (Ok next) u = room-held room next u
+    rest-told room (Err e) u = rest-cut e u
 
 -- ---- the loop over rooms: i of n are done
 

@@ -1,5 +1,6 @@
 -- A sheet's file judged to the end: what was read up to and with 5, then 14 of the plant that is made; and what sheet to plant leaves. Relies on page Sheets,
 -- and for the plant on made's page Written.
+use Rattle.std.specs.Prelude.{Ok, Err}
 use Prim.Native.Nat.{ℕ}
 use mathlib.Core.Path.{◌≡◌, refl, sym, ap, ◌∙◌}
 use mathlib.Core.Bool.{true, false}
@@ -9,7 +10,6 @@ use Rattle.laws.specs.Tests.{never}
 use Rattle.meaning.specs.declared.Refusal.{Refusal}
 use Rattle.meaning.specs.declared.Sheet.{Sheet}
 use Rattle.meaning.specs.declared.SheetRead.{SheetRead}
-use Rattle.meaning.specs.declared.Verdict.{Verdict}
 use Rattle.meaning.specs.Refusals.{bad_result}
 use Rattle.meaning.specs.Buffers.{refused_with}
 use Rattle.meaning.specs.Files.{Judged, good, bad, values_of}
@@ -23,11 +23,11 @@ use Rattle.sheets.proofs.made.Written.{held-left}
 
 -- ---- a verdict says how a file was judged
 
-pub refused-judged : (j : Judged Sheet) (e : Refusal) → (sheet_read_of j).verdict ≡ Verdict.Refused e → j ≡ bad e
+pub refused-judged : (j : Judged Sheet) (e : Refusal) → (sheet_read_of j).verdict ≡ Err e → j ≡ bad e
 refused-judged (good h) e v = never cc
 refused-judged (bad r) e v = let q : r ≡ e = cc in ap bad q
 
-pub taken-judged : (j : Judged Sheet) → (sheet_read_of j).verdict ≡ Verdict.Accepted → j ≡ good (sheet_read_of j).sheet
+pub taken-judged : (j : Judged Sheet) → (sheet_read_of j).verdict ≡ Ok tt → j ≡ good (sheet_read_of j).sheet
 taken-judged (good h) v = refl
 taken-judged (bad r) v = never cc
 
@@ -41,13 +41,13 @@ module _ (h : Sheet) (m : Made) (e : m ≡ made_of h) where
   all-fitting f = let q : all (map is_near (made_numbers h)) ≡ true = ap (λ (x : Made). x.fits) (sym e) ∙ f in simp q
 
 module _ (s : List ℕ) (r : SheetRead) (e : r ≡ unfitted s) where
-  pub values-refused : (x : Refusal) → r.verdict ≡ Verdict.Refused x → sheet_judged s ≡ bad x
+  pub values-refused : (x : Refusal) → r.verdict ≡ Err x → sheet_judged s ≡ bad x
   unfolding sheet_judged unfitted
   values-refused x v =
       let j = unfitted_of (values_of sheet_form s) in
       fitted (values_of sheet_form s) ∙ ap then_fitting (refused-judged j x (ap (λ (z : SheetRead). z.verdict) (sym e) ∙ v))
 
-  module _ (v : r.verdict ≡ Verdict.Accepted) where
+  module _ (v : r.verdict ≡ Ok tt) where
     pub values-taken : sheet_judged s ≡ then_fitting (good r.sheet)
     unfolding sheet_judged unfitted
     values-taken =

@@ -1,5 +1,6 @@
 -- Numbers of the plant one behind another: where the first that is out stands when one more is told, and an array that is filled with them.
 -- Assumes nothing.
+use Rattle.std.specs.Prelude.{Some, None}
 use Prim.Native.Nat.{ℕ, suc, ◌+◌, ◌≤◌, ◌<◌}
 use mathlib.Core.Path.{◌≡◌, refl, sym, ap, ◌∙◌}
 use mathlib.Core.Bool.{Bool, true, false, cond}
@@ -12,7 +13,7 @@ use lib.ListN.{length, set, replicate, length-map}
 use lib.IntN.{ℤ, pos}
 use Rattle.laws.specs.Lists.{at, tab, first_false}
 use Rattle.laws.specs.Tabs.{tab-snoc, Filled, filled_none, filled_more, tab-stored, filled-padded}
-use Rattle.meaning.specs.declared.Whole.{Whole}
+use Rattle.meaning.specs.Answers.{Whole}
 use Rattle.meaning.specs.Sheets.{is_near, near_value}
 use Rattle.sheets.specs.Wholes.{first_out, joined, near, held}
 
@@ -58,8 +59,8 @@ joined_is ws vs first m more e l q =
 
 pub near-is : (w : Whole) → near w ≡ first_out (w ∷ [])
 unfolding first_false
-near-is (Whole.Near v) = refl
-near-is Whole.Out = refl
+near-is (Some v) = refl
+near-is None = refl
 
 -- one number more
 pub joined-one : (ws : List Whole) (w : Whole) (first m : ℕ) → first ≡ first_out ws → m ≡ length ws → joined first m (near w) ≡ first_out (ws ++ w ∷ [])

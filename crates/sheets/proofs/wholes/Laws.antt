@@ -1,5 +1,6 @@
 -- How `whole` rounds: the nearest whole number does not depend on the fraction that a float is written as, and by the exponent's field it is out of
 -- every limit, 0, or what the shifted product says. Relies on page Fields, and on promises' page Nearest.
+use Rattle.std.specs.Prelude.{Some, None}
 use Prim.Native.Nat.{ℕ, zero, suc, ◌+◌, ◌-◌, ◌*◌, ◌/◌, ◌%◌, ◌^◌, ◌≤◌, ◌<◌}
 use mathlib.Core.Path.{◌≡◌, refl, sym, ap, ◌∙◌, subst}
 use mathlib.Core.Bool.{Bool, true, false, not, cond, true≢false}
@@ -14,17 +15,16 @@ use lib.Ieee.Fits.{down_pos}
 use lib.Ieee.Exact.{HasValue}
 use lib.Ieee.Nearest.{div_same}
 use lib.Ieee.Compare.{nan_differs}
-use Rattle.meaning.specs.declared.Whole.{Whole}
 use Rattle.meaning.specs.Sheets.{signed_by, limited_to, whole_of}
 use Rattle.promises.specs.Sheets.Nearest.{signed-size, crossed}
 use Rattle.sheets.proofs.wholes.Fields.{top-is, low_value, field-value}
 
 -- ---- within the limit, or not
 
-pub limited-in : (limit : ℕ) (s : Bool) (v : ℕ) → v ≤ limit → limited_to limit (signed_by s v) ≡ Whole.Near (signed_by s v)
+pub limited-in : (limit : ℕ) (s : Bool) (v : ℕ) → v ≤ limit → limited_to limit (signed_by s v) ≡ Some (signed_by s v)
 limited-in limit s v h = simp (le-leb (nat_abs (signed_by s v)) limit (omega (arith, signed-size s v)))
 
-pub limited-out : (limit : ℕ) (s : Bool) (v : ℕ) → limit < v → limited_to limit (signed_by s v) ≡ Whole.Out
+pub limited-out : (limit : ℕ) (s : Bool) (v : ℕ) → limit < v → limited_to limit (signed_by s v) ≡ None
 limited-out limit s v h = simp (lt-leb (nat_abs (signed_by s v)) limit (omega (arith, signed-size s v)))
 
 -- ---- the whole number nearest k·u/l, halves upwards, from any fraction u/l that a float is
@@ -45,7 +45,7 @@ whole-at limit k (fin t m e) s u l p h =
 
 -- ---- not a number, and what lies outside every limit
 
-pub nan-out : (limit k : ℕ) → whole_of limit k nan ≡ Whole.Out
+pub nan-out : (limit k : ℕ) → whole_of limit k nan ≡ None
 unfolding whole_of
 nan-out limit k = refl
 
@@ -56,7 +56,7 @@ itself nan h = absurd (true≢false (sym nan_differs ∙ h))
 itself (inf s) h = tt
 itself (fin s m e) h = tt
 
-top-out : (limit k : ℕ) (b s : Bool) → whole_of limit k (cond b (inf s) nan) ≡ Whole.Out
+top-out : (limit k : ℕ) (b s : Bool) → whole_of limit k (cond b (inf s) nan) ≡ None
 unfolding whole_of
 top-out limit k true s = refl
 top-out limit k false s = refl
@@ -72,11 +72,11 @@ big limit k u a b h =
         omega arith
 
 -- 2 ^ 34 or more, or an infinity
-pub far-out : (limit k : ℕ) (s : Bool) (e t : ℕ) → limit ≤ 10000000000 → 1 ≤ k → 1057 ≤ e → whole_of limit k (of_fields binary64 s e t) ≡ Whole.Out
+pub far-out : (limit k : ℕ) (s : Bool) (e t : ℕ) → limit ≤ 10000000000 → 1 ≤ k → 1057 ≤ e → whole_of limit k (of_fields binary64 s e t) ≡ None
 far-out limit k s zero t a b h = absurd (omega arith)
 far-out limit k s (suc j) t a b h = go (eqb (suc j) 2047) refl
   where
-    go : (z : Bool) → eqb (suc j) 2047 ≡ z → whole_of limit k (of_fields binary64 s (suc j) t) ≡ Whole.Out
+    go : (z : Bool) → eqb (suc j) 2047 ≡ z → whole_of limit k (of_fields binary64 s (suc j) t) ≡ None
     go true q = ap (whole_of limit k) (top-is s (suc j) t (eqb-true (suc j) 2047 q)) ∙ top-out limit k (eqb t 0) s
     go false q =
         let u = (2 ^ 52 + t) * 2 ^ j in
@@ -86,7 +86,7 @@ far-out limit k s (suc j) t a b h = go (eqb (suc j) 2047) refl
 
 -- ---- below a half
 
-zero_is : (limit : ℕ) (s : Bool) (v : ℕ) → v ≡ 0 → limited_to limit (signed_by s v) ≡ Whole.Near (pos 0)
+zero_is : (limit : ℕ) (s : Bool) (v : ℕ) → v ≡ 0 → limited_to limit (signed_by s v) ≡ Some (pos 0)
 zero_is limit false v h = rw h (limited-in limit false 0 (omega arith))
 zero_is limit true v h = rw h (limited-in limit true 0 (omega arith))
 
@@ -96,7 +96,7 @@ tiny k u a h = div-eq_of_lt (less (2 ^ 1074) (2 * (k * u)) (lt_of_le_of_lt (mul-
     less : (l z : ℕ) → z < l → z + l < 2 * l
     less l z h = omega arith
 
-pub near-zero : (limit k : ℕ) (s : Bool) (e t : ℕ) → k ≤ 10000000 → e < 993 → t < 2 ^ 52 → whole_of limit k (of_fields binary64 s e t) ≡ Whole.Near (pos 0)
+pub near-zero : (limit k : ℕ) (s : Bool) (e t : ℕ) → k ≤ 10000000 → e < 993 → t < 2 ^ 52 → whole_of limit k (of_fields binary64 s e t) ≡ Some (pos 0)
 near-zero limit k s zero t a h b =
     whole-at limit k (of_fields binary64 s 0 t) s (t * 2 ^ 0) (2 ^ 1074) (pow_pos 1074) (low_value s t)
     ∙ zero_is limit s (near_at k (t * 2 ^ 0) (2 ^ 1074)) (tiny k (t * 2 ^ 0) a (le_trans (mul-le-mul_right 1 (le_of_lt b)) (lit≤ tt)))

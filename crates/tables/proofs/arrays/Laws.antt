@@ -1,5 +1,6 @@
 -- Arrays of zeros that a plant is read into: which have room for the plant of a file; and that a plant that was read into such is its frame with these arrays,
 -- sound, with the plant's own rules. Relies on page frames/Laws and on promises' `Sound`.
+use Rattle.std.specs.Prelude.{Ok}
 use Prim.Native.Nat.{ℕ, ◌+◌, ◌*◌, ◌≤◌}
 use mathlib.Core.Path.{◌≡◌, sym, ap, ◌∙◌}
 use mathlib.Core.List.{List}
@@ -11,7 +12,6 @@ use lib.Seq.{sets, length-sets}
 use Rattle.laws.specs.Lists.{at}
 use Rattle.laws.specs.Stored.{stored_at}
 use Rattle.meaning.specs.declared.PlantRead.{PlantRead}
-use Rattle.meaning.specs.declared.Verdict.{Verdict}
 use Rattle.meaning.specs.Files.{Judged, good}
 use Rattle.meaning.specs.Plants.{Plant, most_modes, plant_judged, plant_read, array_left, bands_left, coef_left}
 use Rattle.promises.specs.Files.Judged.{judged-sound}
@@ -97,7 +97,7 @@ pub record ReadInto (s : List ℕ) (f : Frame) (bands coef : List ℤ) : Type 1 
   pub rules : (g : Frame) → rules_in g bands coef ≡ rules_in g plant.bands plant.coef
 
 pub read-into : (s : List ℕ) (bands coef : List ℤ) → RoomFor s bands coef → (x : PlantRead) (bands' coef' : List ℤ)
-    → (x ≡ plant_read s) × ((bands' ≡ bands_left s bands) × (coef' ≡ coef_left s coef)) → x.verdict ≡ Verdict.Accepted
+    → (x ≡ plant_read s) × ((bands' ≡ bands_left s bands) × (coef' ≡ coef_left s coef)) → x.verdict ≡ Ok tt
     → (f : Frame) → f ≡ frame_of x.outline → ReadInto s f bands' coef'
 read-into s bands coef room x bands' coef' e h f q =
     let t = read-good (plant_judged s) x e.0 h in

@@ -1,4 +1,5 @@
 -- A chain that was accepted: its boxes and frames, as the code takes them out of its edges, are meaning's, and each frame is sound. Assumes nothing.
+use Rattle.std.specs.Prelude.{Ok, Err}
 use Prim.Native.Nat.{ℕ, zero, suc, ◌+◌, ◌-◌, ◌*◌, ◌≤◌, ◌<◌}
 use mathlib.Core.Path.{◌≡◌, refl, sym, ap, ◌∙◌, subst}
 use mathlib.Core.Bool.{Bool, true, false, ◌&&◌}
@@ -19,7 +20,6 @@ use Rattle.laws.specs.Lists.{at, tab, padded, all, first_false}
 use Rattle.laws.specs.Tabs.{padded-at, tab-same, Filled, filled_none, filled_more, filled-padded, at-below, at_stored}
 use Rattle.laws.specs.Tests.{never, second, orders, all-tab}
 use Rattle.meaning.specs.declared.Refusal.{Refusal}
-use Rattle.meaning.specs.declared.Verdict.{Verdict}
 use Rattle.meaning.specs.Boxes.{Side, side, side_at, within}
 use Rattle.meaning.specs.Files.{Form, end, Read, read, refused, values_at}
 use Rattle.meaning.specs.Plants.{Plant, edge_limit, span, column, root_of, safe_of}
@@ -183,7 +183,7 @@ module _ (whole : Bool) (f : Frame) (s : List ℕ) (r : ChainRead) (q : r ≡ ch
   abbrev kept_of : List ℤ → List Bool
   kept_of vs = tab (held n root vs safe) (above vs) 0
 
-  pub chain-taken : r.verdict ≡ Verdict.Accepted → Chained whole f s r
+  pub chain-taken : r.verdict ≡ Ok tt → Chained whole f s r
   chain-taken h = go (chain_values whole n s) refl q
     where
       go : (t : Read (List ℤ)) → chain_values whole n s ≡ t → r ≡ on_chain n root safe t no_chain chain_with → Chained whole f s r
@@ -200,7 +200,7 @@ module _ (whole : Bool) (f : Frame) (s : List ℕ) (r : ChainRead) (q : r ≡ ch
               let d : r ≡ no_chain (not_held (first_false (kept_of vs) + 1)) = c ∙ simp k in
               never cc
 
-  pub chain-refused : {A : Type 0} (e : Refusal) → r.verdict ≡ Verdict.Refused e → (refuse : Refusal → A) (rest : List ℤ → ℕ → A)
+  pub chain-refused : {A : Type 0} (e : Refusal) → r.verdict ≡ Err e → (refuse : Refusal → A) (rest : List ℤ → ℕ → A)
       → refuse e ≡ on_chain n root safe (chain_values whole n s) refuse rest
   chain-refused {A} e h refuse rest = go (chain_values whole n s) q
     where
@@ -290,10 +290,10 @@ module _ (whole : Bool) (p : Plant) (g : Sound p) (f : Frame) (e : f ≡ own_fra
   own : r ≡ chain_read whole (own_frame p) s
   own = q ∙ ap (λ (f : Frame). chain_read whole f s) e
 
-  pub plant-chain : r.verdict ≡ Verdict.Accepted → Chained whole (own_frame p) s r
+  pub plant-chain : r.verdict ≡ Ok tt → Chained whole (own_frame p) s r
   plant-chain = chain-taken whole (own_frame p) s r own
 
-  pub plant-refused : {A : Type 0} (x : Refusal) → r.verdict ≡ Verdict.Refused x → (refuse : Refusal → A) (rest : List ℤ → ℕ → A)
+  pub plant-refused : {A : Type 0} (x : Refusal) → r.verdict ≡ Err x → (refuse : Refusal → A) (rest : List ℤ → ℕ → A)
       → refuse x ≡ on_chain p.n (root_of p) (safe_of p) (chain_values whole p.n s) refuse rest
   plant-refused = chain-refused whole (own_frame p) s r own
 

@@ -1,4 +1,5 @@
 -- A chain read against its form: form and m, the loop over the sides, and the whole by its parts. Assumes nothing.
+use Rattle.std.specs.Prelude.{Some, None, Ok}
 use Prim.Native.Nat.{ℕ, suc, ◌+◌, ◌*◌, ◌≤◌, ◌<◌}
 use mathlib.Core.Path.{◌≡◌, refl, sym, ap, ◌∙◌}
 use mathlib.Core.Bool.{Bool, true, false, ◌&&◌, not}
@@ -15,9 +16,7 @@ use Rattle.laws.specs.Lists as L
 use Rattle.laws.specs.Lists.{at, tab, first_false}
 use Rattle.laws.specs.Tabs.{length-tab, tab-same, Filled, filled_none, filled_more, filled-padded, at-below, at_stored}
 use Rattle.laws.specs.Tests.{never, first-within, first-behind}
-use Rattle.meaning.specs.declared.Number.{Number}
 use Rattle.meaning.specs.declared.Refusal.{Refusal}
-use Rattle.meaning.specs.declared.Verdict.{Verdict}
 use Rattle.meaning.specs.Boxes.{Side, within}
 use Rattle.meaning.specs.Files.{end, Read, read, refused, values_at, ended}
 use Rattle.meaning.specs.Numbers.{number_at}
@@ -35,11 +34,11 @@ use Rattle.tables.proofs.chains.Laws.{Edged, above-edged, in-edged, box-same}
 -- ---- form and m
 
 module _ (s : List ℕ) where
-  pub form-broken : number_at s 0 ≡ Number.Broken → (n : ℕ) → values_at (chain_form n) s 0 ≡ refused (broken 0)
+  pub form-broken : number_at s 0 ≡ None → (n : ℕ) → values_at (chain_form n) s 0 ≡ refused (broken 0)
   unfolding chain_form values_at
   form-broken e n = simp e
 
-  module _ (form at : ℕ) (e : number_at s 0 ≡ Number.Value form at) where
+  module _ (form at : ℕ) (e : number_at s 0 ≡ Some (form, at)) where
     pub form-wrong : (form ≡ 1 → ⊥) → (n : ℕ) → values_at (chain_form n) s 0 ≡ refused wrong_form
     unfolding chain_form values_at
     form-wrong h n = simp (e, not-one (dec_lt form 1))
@@ -49,11 +48,11 @@ module _ (s : List ℕ) where
         not-one (no l) = let a : 1 ≤ form = omega arith in let b : 1 < form = omega (arith, h) in simp (le-leb _ _ a, lt-leb _ _ b)
 
     module _ (h : form ≡ 1) where
-      pub m-broken : number_at s at ≡ Number.Broken → (n : ℕ) → values_at (chain_form n) s 0 ≡ refused (broken at)
+      pub m-broken : number_at s at ≡ None → (n : ℕ) → values_at (chain_form n) s 0 ≡ refused (broken at)
       unfolding chain_form values_at
       m-broken f n = simp (e, h, f)
 
-      module _ (m next : ℕ) (f : number_at s at ≡ Number.Value m next) where
+      module _ (m next : ℕ) (f : number_at s at ≡ Some (m, next)) where
         pub m-over : most_above < m → (n : ℕ) → values_at (chain_form n) s 0 ≡ refused (unfit at)
         unfolding chain_form values_at
         m-over g n = simp (e, h, f, lt-leb _ _ g, le-leb 0 m (omega arith))
@@ -191,10 +190,10 @@ module _ (whole : Bool) (f : Frame) (s : List ℕ) where
             let none = first-within (tab (held n root vs safe) m 0) (omega (arith, here, long)) in
             sym (ap answered (values-whole whole n s values h) ∙ simp (none, ← here))
 
-        pub taken : m ≤ fault → record { verdict = Verdict.Accepted; m = m; next = next; edges = edges } ≡ chain_read whole f s
+        pub taken : m ≤ fault → record { verdict = Ok tt; m = m; next = next; edges = edges } ≡ chain_read whole f s
         taken l =
             let every = first-behind (tab (held n root vs safe) m 0) (omega (arith, here, long)) in
             sym (ap answered (values-whole whole n s values h) ∙ simp every (ap (λ (l : List ℤ). with-edges l) same))
           where
             with-edges : List ℤ → ChainRead
-            with-edges l = record { verdict = Verdict.Accepted; m = m; next = next; edges = l }
+            with-edges l = record { verdict = Ok tt; m = m; next = next; edges = l }

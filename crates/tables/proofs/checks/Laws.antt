@@ -1,35 +1,35 @@
 -- The check of a table in the terms that the code has: header and tree, then leftover bytes. At any rules. Assumes nothing.
+use Rattle.std.specs.Prelude.{Ok, Err}
 use Prim.Native.Nat.{ℕ}
 use mathlib.Core.Path.{◌≡◌, refl}
 use mathlib.Core.List.{List}
 use borrow.Author.Tests.{eq-eqb, ne_eqb}
 use lib.ListN.{length}
+use Rattle.meaning.specs.Answers.{Walk}
 use Rattle.meaning.specs.declared.Refusal.{Refusal}
-use Rattle.meaning.specs.declared.Walk.{Walk}
-use Rattle.meaning.specs.declared.Verdict.{Verdict}
 use Rattle.meaning.specs.Refusals.{bad_table}
 use Rattle.meaning.specs.Rules.{Rules, rule}
 use Rattle.meaning.specs.Verdicts.{walk, header, table_end, verdict}
 
 -- w is the answer for the header
 module _ (r : Rules) (s : List ℕ) (w : Walk) (q : w ≡ header (Rules.form r) (Rules.n r) s) where
-  pub header-stopped : (e : Refusal) → w ≡ Walk.Refused e → Walk.Refused e ≡ table_end r s
+  pub header-stopped : (e : Refusal) → w ≡ Err e → Err e ≡ table_end r s
   header-stopped e h = rw (← q, h) refl
 
-  pub tree-walked : (at : ℕ) → w ≡ Walk.Next at → walk r (rule r) (Rules.D r) s at (Rules.root r) ≡ table_end r s
+  pub tree-walked : (at : ℕ) → w ≡ Ok at → walk r (rule r) (Rules.D r) s at (Rules.root r) ≡ table_end r s
   tree-walked at h = rw (← q, h) refl
 
 -- w is the answer for header and tree
 module _ (r : Rules) (s : List ℕ) (w : Walk) (q : w ≡ table_end r s) where
-  pub table-stopped : (e : Refusal) → w ≡ Walk.Refused e → Verdict.Refused e ≡ verdict r s
+  pub table-stopped : (e : Refusal) → w ≡ Err e → Err e ≡ verdict r s
   unfolding verdict
   table-stopped e h = rw (← q, h) refl
 
-  module _ (next : ℕ) (h : w ≡ Walk.Next next) where
-    pub left_over : (next ≡ length s → ⊥) → Verdict.Refused (bad_table next) ≡ verdict r s
+  module _ (next : ℕ) (h : w ≡ Ok next) where
+    pub left_over : (next ≡ length s → ⊥) → Err (bad_table next) ≡ verdict r s
     unfolding verdict
     left_over z = rw (← q, h, ne_eqb _ _ z) refl
 
-    pub accepted : next ≡ length s → Verdict.Accepted ≡ verdict r s
+    pub accepted : next ≡ length s → Ok tt ≡ verdict r s
     unfolding verdict
     accepted z = rw (← q, h, eq-eqb next (length s) z) refl

@@ -1,5 +1,6 @@
 -- Laws of the controller's call for the proofs of modules control and start_control: each answer of each part, in the terms of the code, at any rules; and
 -- that a call hangs on no band and no coefficient. Assumes nothing.
+use Rattle.std.specs.Prelude.{Ok, Err}
 use Prim.Native.Nat.{ℕ, zero, suc, ◌≤◌, ◌<◌}
 use mathlib.Core.Path.{◌≡◌, refl, sym, ap, ◌∙◌}
 use mathlib.Core.Bool.{Bool, true, false}
@@ -10,11 +11,9 @@ use lib.Dec.{eqb}
 use Rattle.laws.specs.Guards.{guard}
 use Rattle.laws.specs.Lists.{all, first_false}
 use Rattle.laws.specs.Tests.{never}
-use Rattle.meaning.specs.declared.Answer.{Answer}
+use Rattle.meaning.specs.Answers.{Walk, Verdict, Answer}
 use Rattle.meaning.specs.declared.Refusal.{Refusal}
 use Rattle.meaning.specs.declared.State.{State}
-use Rattle.meaning.specs.declared.Verdict.{Verdict}
-use Rattle.meaning.specs.declared.Walk.{Walk}
 use Rattle.meaning.specs.Boxes as B
 use Rattle.meaning.specs.Control.{can_run, mode_at, on_found, find, idle_call, running_call, state_call, call}
 use Rattle.meaning.specs.Refusals.{outside, bad_state}
@@ -30,38 +29,38 @@ use Rattle.tables.proofs.finds.Laws.{held, not-held}
 
 -- ---- whether a call may go on
 
-pub admit-state : (can : Bool) (fit : List Bool) → can ≡ false → Verdict.Refused bad_state ≡ admission can fit
+pub admit-state : (can : Bool) (fit : List Bool) → can ≡ false → Err bad_state ≡ admission can fit
 admit-state can fit c = simp c
 
 module _ (can : Bool) (c : can ≡ true) (n : ℕ) (lo hi x : List ℤ) (i : ℕ) (q : i ≡ first_false (B.fits (B.sides_of n lo hi) (reading_of n x))) where
-  pub admit-reading : i < n → Verdict.Refused (outside i) ≡ admission can (B.fits (B.sides_of n lo hi) (reading_of n x))
+  pub admit-reading : i < n → Err (outside i) ≡ admission can (B.fits (B.sides_of n lo hi) (reading_of n x))
   admit-reading h =
       let e = not-held n lo hi x (omega (arith, q, h)) in
-      ap (λ (j : ℕ). Verdict.Refused (outside j)) q ∙ simp (c, e)
+      ap (λ (j : ℕ). Err (outside j)) q ∙ simp (c, e)
 
-  pub admit-both : n ≤ i → Verdict.Accepted ≡ admission can (B.fits (B.sides_of n lo hi) (reading_of n x))
+  pub admit-both : n ≤ i → Ok tt ≡ admission can (B.fits (B.sides_of n lo hi) (reading_of n x))
   admit-both h = let e = held n lo hi x (omega (arith, q, h)) in simp (c, e)
 
 -- where it may, the box holds the reading
-pub admitted : (can : Bool) (fit : List Bool) → admission can fit ≡ Verdict.Accepted → all fit ≡ true
+pub admitted : (can : Bool) (fit : List Bool) → admission can fit ≡ Ok tt → all fit ≡ true
 admitted can fit e = go can (all fit) (first_false fit) e
   where
-    go : (can held : Bool) (i : ℕ) → guard can (Verdict.Refused bad_state) (λ _. guard held (Verdict.Refused (outside i)) λ _. Verdict.Accepted) ≡ Verdict.Accepted → held ≡ true
+    go : (can held : Bool) (i : ℕ) → guard can (Err bad_state) (λ _. guard held (Err (outside i)) λ _. Ok tt) ≡ Ok tt → held ≡ true
     go true true i e = refl
     go true false i e = never cc
     go false held i e = never cc
 
 -- what is behind it, where it was refused and where not
 stopped : (can all : Bool) (i : ℕ) (rest : Unit {0} → Answer) (e : Refusal)
-    → guard can (Verdict.Refused bad_state) (λ _. guard all (Verdict.Refused (outside i)) λ _. Verdict.Accepted) ≡ Verdict.Refused e
-    → Answer.Refused e ≡ guard can (Answer.Refused bad_state) λ _. guard all (Answer.Refused (outside i)) rest
+    → guard can (Err bad_state) (λ _. guard all (Err (outside i)) λ _. Ok tt) ≡ Err e
+    → Err e ≡ guard can (Err bad_state) λ _. guard all (Err (outside i)) rest
 stopped true true i rest e q = never cc
 stopped true false i rest e q = cc
 stopped false a i rest e q = cc
 
 goes_on : (can all : Bool) (i : ℕ) (rest : Unit {0} → Answer)
-    → guard can (Verdict.Refused bad_state) (λ _. guard all (Verdict.Refused (outside i)) λ _. Verdict.Accepted) ≡ Verdict.Accepted
-    → rest tt ≡ guard can (Answer.Refused bad_state) λ _. guard all (Answer.Refused (outside i)) rest
+    → guard can (Err bad_state) (λ _. guard all (Err (outside i)) λ _. Ok tt) ≡ Ok tt
+    → rest tt ≡ guard can (Err bad_state) λ _. guard all (Err (outside i)) rest
 goes_on true true i rest q = refl
 goes_on true false i rest q = never cc
 goes_on false a i rest q = never cc
@@ -75,10 +74,10 @@ module _ (r : Rules) (s : List ℕ) (x : Rules.Reading r) where
     abbrev in_root : List Bool
     in_root = fits root x
 
-    pub idle-refused : (e : Refusal) → v ≡ Verdict.Refused e → Answer.Refused e ≡ idle_call r s at place x
+    pub idle-refused : (e : Refusal) → v ≡ Err e → Err e ≡ idle_call r s at place x
     idle-refused e g = stopped (eqb place 0) (all in_root) (first_false in_root) (λ _. on_found s (find r D s at root x)) e (sym q ∙ g)
 
-    pub idle-finds : v ≡ Verdict.Accepted → on_found s (find r D s at root x) ≡ idle_call r s at place x
+    pub idle-finds : v ≡ Ok tt → on_found s (find r D s at root x) ≡ idle_call r s at place x
     idle-finds g = goes_on (eqb place 0) (all in_root) (first_false in_root) (λ _. on_found s (find r D s at root x)) (sym q ∙ g)
 
   -- ---- running
@@ -90,10 +89,10 @@ module _ (r : Rules) (s : List ℕ) (x : Rules.Reading r) where
     went-by : v ≡ admission (can_run K N s place left) in_safe
     went-by = q ∙ ap (λ (t : Bool). admission t in_safe) c
 
-    pub running-refused : (e : Refusal) → v ≡ Verdict.Refused e → Answer.Refused e ≡ running_call r s place left x
+    pub running-refused : (e : Refusal) → v ≡ Err e → Err e ≡ running_call r s place left x
     running-refused e g = stopped (can_run K N s place left) (all in_safe) (first_false in_safe) (λ _. mode_at s place left) e (sym went-by ∙ g)
 
-    pub running-answers : v ≡ Verdict.Accepted → mode_at s place left ≡ running_call r s place left x
+    pub running-answers : v ≡ Ok tt → mode_at s place left ≡ running_call r s place left x
     running-answers g = goes_on (can_run K N s place left) (all in_safe) (first_false in_safe) (λ _. mode_at s place left) (sym went-by ∙ g)
 
   -- ---- either
@@ -107,21 +106,21 @@ module _ (r : Rules) (s : List ℕ) (x : Rules.Reading r) where
 
   module _ (st : State) (w : Walk) (q : w ≡ header form n s) where
     abbrev behind : Walk → Answer
-    behind v = on_walk v Answer.Refused λ at. state_call r s at st.place st.left x
+    behind v = on_walk v Err λ at. state_call r s at st.place st.left x
 
     headed : (v : Walk) → w ≡ v → behind v ≡ call r s st x
     unfolding call
     headed v g = ap behind (sym g ∙ q)
 
-    pub call-refused : (e : Refusal) → w ≡ Walk.Refused e → Answer.Refused e ≡ call r s st x
-    call-refused e g = headed (Walk.Refused e) g
+    pub call-refused : (e : Refusal) → w ≡ Err e → Err e ≡ call r s st x
+    call-refused e g = headed (Err e) g
 
-    module _ (at : ℕ) (g : w ≡ Walk.Next at) where
+    module _ (at : ℕ) (g : w ≡ Ok at) where
       pub call-idle : st.left ≡ 0 → idle_call r s at st.place x ≡ call r s st x
-      call-idle z = state-idle at st.place st.left z ∙ headed (Walk.Next at) g
+      call-idle z = state-idle at st.place st.left z ∙ headed (Ok at) g
 
       pub call-running : (st.left ≡ 0 → ⊥) → running_call r s st.place st.left x ≡ call r s st x
-      call-running h = state-running at st.place st.left h ∙ headed (Walk.Next at) g
+      call-running h = state-running at st.place st.left h ∙ headed (Ok at) g
 
 -- ---- at the rules of a frame: a call is the same by any bands and coefficients
 

@@ -1,5 +1,6 @@
 -- The defined table, written: a tile's modes one after another; a box by its first pattern; the children of a split one after another; the whole
 -- by its parts. Assumes nothing.
+use Rattle.std.specs.Prelude.{Some, None}
 use Prim.Native.Nat.{ℕ, zero, suc, ◌+◌, ◌*◌, ◌-◌, ◌^◌, ◌≤◌, ◌<◌}
 use mathlib.Core.Path.{◌≡◌, refl, sym, ap, ◌∙◌}
 use mathlib.Core.Bool.{Bool, true, false, cond}
@@ -30,7 +31,6 @@ use Rattle.promises.specs.Tables.TableForms.{form-byte}
 use Rattle.promises.specs.Tables.TreeLengths.{most, children_most, tile_bytes, tile-most, told-sides, layout-length, cap, cap-halving, cap-few, cap-halving-few}
 use Rattle.files.specs.DraftLaws.{InDraft, in_buffer}
 use Rattle.tables.specs.declared.frames.Frame.{Frame}
-use Rattle.tables.specs.declared.drafts.Grown.{Grown}
 use Rattle.tables.specs.Boxes.{box_of}
 use Rattle.tables.specs.Frames.{step_in, rules_in, FrameSound}
 use Rattle.tables.specs.Search.{pattern_by}
@@ -61,17 +61,17 @@ module _ (k : ℕ) (us : List ℕ) where
 
 wrote-behind : {buf : List ℕ} {at : ℕ} {xs : List ℕ} {next : ℕ} {mid : List ℕ} → Put buf at xs next mid
     → (o : Option (List ℕ)) (a : Grown) (out : List ℕ) → Wrote o mid next a out → Wrote (map_some (λ ys. xs ++ ys) o) buf at a out
-wrote-behind t (some ys) (Grown.Next n) out w = put-append t w
-wrote-behind t (some ys) Grown.Nothing out w = w
-wrote-behind t none (Grown.Next n) out w = w
-wrote-behind t none Grown.Nothing out w = w ∙ put-length t
+wrote-behind t (some ys) (Some n) out w = put-append t w
+wrote-behind t (some ys) None out w = w
+wrote-behind t none (Some n) out w = w
+wrote-behind t none None out w = w ∙ put-length t
 
 -- the buffer stays as long as it was
 pub wrote-length : (o : Option (List ℕ)) (buf : List ℕ) (at : ℕ) (a : Grown) (out : List ℕ) → Wrote o buf at a out → length out ≡ length buf
-wrote-length (some ys) buf at (Grown.Next n) out w = put-length w
-wrote-length (some ys) buf at Grown.Nothing out w = absurd w
-wrote-length none buf at (Grown.Next n) out w = absurd w
-wrote-length none buf at Grown.Nothing out w = w
+wrote-length (some ys) buf at (Some n) out w = put-length w
+wrote-length (some ys) buf at None out w = absurd w
+wrote-length none buf at (Some n) out w = absurd w
+wrote-length none buf at None out w = w
 
 -- ---- a box by its first pattern
 
@@ -129,9 +129,9 @@ pub grow-none : (buf : List ℕ) (at : ℕ) (whole : Option (List ℕ)) → at �
 grow-none buf at whole h = record { long = refl; within = h; goes = λ a out w. w }
 
 module _ (r : Rules) (d : ℕ) (bs : List (Rules.Box r)) (c : ℕ) (buf₀ : List ℕ) (at : ℕ) (whole : Option (List ℕ)) (place : ℕ) (buf : List ℕ) (g : Growing buf₀ at whole (trees_bytes r d (drop c bs)) place buf) where
-  pub grow-done : length bs ≤ c → Wrote whole buf₀ at (Grown.Next place) buf
+  pub grow-done : length bs ≤ c → Wrote whole buf₀ at (Some place) buf
   unfolding all_of layouts
-  grow-done h = g.goes (Grown.Next place) buf (rw at-end (put-none buf place g.within))
+  grow-done h = g.goes (Some place) buf (rw at-end (put-none buf place g.within))
     where
       at-end : trees_bytes r d (drop c bs) ≡ some []
       at-end = rw (drop_of_length-le bs h) refl
@@ -142,17 +142,17 @@ module _ (r : Rules) (d : ℕ) (bs : List (Rules.Box r)) (c : ℕ) (buf₀ : Lis
     unfolding all_of
     next-box o e = rw (add-one, drop-cons bs c b₀ h, ← k, e) refl
 
-    pub grow-stopped : a ≡ Grown.Nothing → Wrote whole buf₀ at Grown.Nothing out
+    pub grow-stopped : a ≡ None → Wrote whole buf₀ at None out
     grow-stopped z = go (tree_of r d kid) refl (rw z at w)
       where
-        go : (o : Option Tree) → tree_of r d kid ≡ o → Wrote (map_some (layout false) o) buf place Grown.Nothing out → Wrote whole buf₀ at Grown.Nothing out
+        go : (o : Option Tree) → tree_of r d kid ≡ o → Wrote (map_some (layout false) o) buf place None out → Wrote whole buf₀ at None out
         go (some t) e v = absurd v
-        go none e v = g.goes Grown.Nothing out (rw (next-box none e) v)
+        go none e v = g.goes None out (rw (next-box none e) v)
 
-    pub grow-more : (next : ℕ) → a ≡ Grown.Next next → Growing buf₀ at whole (trees_bytes r d (drop (c + 1) bs)) next out
+    pub grow-more : (next : ℕ) → a ≡ Some next → Growing buf₀ at whole (trees_bytes r d (drop (c + 1) bs)) next out
     grow-more next z = go (tree_of r d kid) refl (rw z at w)
       where
-        go : (o : Option Tree) → tree_of r d kid ≡ o → Wrote (map_some (layout false) o) buf place (Grown.Next next) out → Growing buf₀ at whole (trees_bytes r d (drop (c + 1) bs)) next out
+        go : (o : Option Tree) → tree_of r d kid ≡ o → Wrote (map_some (layout false) o) buf place (Some next) out → Growing buf₀ at whole (trees_bytes r d (drop (c + 1) bs)) next out
         go none e v = absurd v
         go (some t) e v = record {
           long = put-length v ∙ g.long;
@@ -168,7 +168,7 @@ empty [] e = refl
 empty (x ∷ xs) e = absurd (omega arith)
 
 module _ (f : Frame) (bands coef : List ℤ) (d : ℕ) (b : List Side) (size : ℕ) (us : List ℕ) (q : pattern_by size us ≡ first_pattern (rules_in f bands coef) b) (buf : List ℕ) (at : ℕ) where
-  pub node-tile : (size ≡ 0 → ⊥) → (next : ℕ) (out : List ℕ) → Put buf at (layout false (tile (pattern_of size us))) next out → Wrote (tree_bytes (rules_in f bands coef) d b) buf at (Grown.Next next) out
+  pub node-tile : (size ≡ 0 → ⊥) → (next : ℕ) (out : List ℕ) → Put buf at (layout false (tile (pattern_of size us))) next out → Wrote (tree_bytes (rules_in f bands coef) d b) buf at (Some next) out
   node-tile z next out t = rw (box-tile (rules_in f bands coef) d b (pattern_of size us) (sym q ∙ there size z)) t
     where
       there : (k : ℕ) → (k ≡ 0 → ⊥) → pattern_by k us ≡ some (pattern_of k us)
@@ -179,10 +179,10 @@ module _ (f : Frame) (bands coef : List ℤ) (d : ℕ) (b : List Side) (size : �
     nothing : first_pattern (rules_in f bands coef) b ≡ none
     nothing = sym q ∙ rw z refl
 
-    pub node-deep : d ≡ 0 → Wrote (tree_bytes (rules_in f bands coef) d b) buf at Grown.Nothing buf
+    pub node-deep : d ≡ 0 → Wrote (tree_bytes (rules_in f bands coef) d b) buf at None buf
     node-deep h = rw (box-deep (rules_in f bands coef) d b nothing h) refl
 
-    pub node-stuck : length (children_by f.form b) ≡ 0 → Wrote (tree_bytes (rules_in f bands coef) d b) buf at Grown.Nothing buf
+    pub node-stuck : length (children_by f.form b) ≡ 0 → Wrote (tree_bytes (rules_in f bands coef) d b) buf at None buf
     node-stuck h = rw (box-stuck (rules_in f bands coef) d b nothing (empty (children_by f.form b) h)) refl
 
     pub node-split : (d ≡ 0 → ⊥) → (length (children_by f.form b) ≡ 0 → ⊥) → (place : ℕ) (mid : List ℕ) → Put buf at (bytes_of 0) place mid
@@ -216,17 +216,17 @@ module _ (r : Rules) where
 
   module _ (draft : List ℕ) (a : Grown) (out : List ℕ) (w : Wrote (draft_bytes r) draft 0 a out) where
     -- nothing where there is none
-    pub draft-none : a ≡ Grown.Nothing → defined_tree r ≡ none
+    pub draft-none : a ≡ None → defined_tree r ≡ none
     draft-none z = go (defined_tree r) (rw z at w)
       where
-        go : (o : Option Tree) → Wrote (map_some (draft_of r) o) draft 0 Grown.Nothing out → o ≡ none
+        go : (o : Option Tree) → Wrote (map_some (draft_of r) o) draft 0 None out → o ≡ none
         go (some t) v = absurd v
         go none v = refl
 
-    drafted-by : (size : ℕ) → a ≡ Grown.Next size → ((t : Tree) → defined_tree r ≡ some t → length (draft_of r t) ≤ length draft) → Drafted r size out
+    drafted-by : (size : ℕ) → a ≡ Some size → ((t : Tree) → defined_tree r ≡ some t → length (draft_of r t) ≤ length draft) → Drafted r size out
     drafted-by size z room = go (defined_tree r) refl (rw z at w)
       where
-        go : (o : Option Tree) → defined_tree r ≡ o → Wrote (map_some (draft_of r) o) draft 0 (Grown.Next size) out → Drafted r size out
+        go : (o : Option Tree) → defined_tree r ≡ o → Wrote (map_some (draft_of r) o) draft 0 (Some size) out → Drafted r size out
         go none e v = absurd v
         go (some t) e v = record { tree = t; is = e; held = in_buffer draft (draft_of r t) size out (room t e) v }
 
@@ -312,6 +312,6 @@ module _ (f : Frame) (g : FrameSound f) where
 
 -- a draft that has room for a frame's table
 pub drafted : (f : Frame) (bands coef : List ℤ) → FrameSound f → (draft : List ℕ) → bytes_most f ≤ length draft → (a : Grown) (out : List ℕ)
-    → Wrote (draft_bytes (rules_in f bands coef)) draft 0 a out → (size : ℕ) → a ≡ Grown.Next size → Drafted (rules_in f bands coef) size out
+    → Wrote (draft_bytes (rules_in f bands coef)) draft 0 a out → (size : ℕ) → a ≡ Some size → Drafted (rules_in f bands coef) size out
 drafted f bands coef g draft l a out w size z =
     drafted-by (rules_in f bands coef) draft a out w size z (λ t e. omega (arith, draft-length f bands coef g t e, l))

@@ -1,5 +1,6 @@
 -- Laws of the tile that holds a reading, for the proofs of module finds: a node that is no split, at the rules of a frame in the terms of the code; and when a box
 -- holds a reading, for its callers too. A split is page Untold where lengths are not told, and page Told where they are. Assumes nothing.
+use Rattle.std.specs.Prelude.{Some, None, Ok, Err}
 use Prim.Native.Nat.{ℕ, ◌≤◌, ◌<◌}
 use mathlib.Core.Path.{◌≡◌, sym, ap, ◌∙◌}
 use mathlib.Core.Bool.{true, false}
@@ -10,10 +11,8 @@ use lib.ListN.{length}
 use Rattle.laws.specs.Lists.{at, all, first_false}
 use Rattle.laws.specs.Tabs.{length-tab}
 use Rattle.laws.specs.Tests.{first-within, first-behind}
-use Rattle.meaning.specs.declared.Found.{Found}
-use Rattle.meaning.specs.declared.Number.{Number}
+use Rattle.meaning.specs.Answers.{Walk}
 use Rattle.meaning.specs.declared.Refusal.{Refusal}
-use Rattle.meaning.specs.declared.Walk.{Walk}
 use Rattle.meaning.specs.Boxes.{Side, side_at, sides_of, fits}
 use Rattle.meaning.specs.Control.{tile_found, find}
 use Rattle.meaning.specs.Files.{Read}
@@ -42,10 +41,10 @@ module _ (n : ℕ) (lo hi x : List ℤ) where
 
 -- ---- a tile, by what was answered for its modes
 
-pub tile-refused : (us : List ℕ) (m : Read (List ℕ)) (from k : ℕ) (w : Walk) (e : Refusal) → told w us ≡ m → w ≡ Walk.Refused e → Found.Refused e ≡ tile_found m from k
+pub tile-refused : (us : List ℕ) (m : Read (List ℕ)) (from k : ℕ) (w : Walk) (e : Refusal) → told w us ≡ m → w ≡ Err e → Err e ≡ tile_found m from k
 tile-refused us m from k w e q g = ap (λ (v : Walk). tile_found (told v us) from k) (sym g) ∙ ap (λ (t : Read (List ℕ)). tile_found t from k) q
 
-pub tile-found : (us : List ℕ) (m : Read (List ℕ)) (from k : ℕ) (w : Walk) (next : ℕ) → told w us ≡ m → w ≡ Walk.Next next → Found.Tile from k ≡ tile_found m from k
+pub tile-found : (us : List ℕ) (m : Read (List ℕ)) (from k : ℕ) (w : Walk) (next : ℕ) → told w us ≡ m → w ≡ Ok next → Ok (from, k) ≡ tile_found m from k
 tile-found us m from k w next q g = ap (λ (v : Walk). tile_found (told v us) from k) (sym g) ∙ ap (λ (t : Read (List ℕ)). tile_found t from k) q
 
 -- ---- a node
@@ -55,19 +54,19 @@ module _ (f : Frame) (x : List ℤ) where
   rules = rules_in f [] []
 
   module _ (d : ℕ) (s : List ℕ) (at : ℕ) (b : List Side) where
-    pub node-broken : number_at s at ≡ Number.Broken → Found.Refused (broken at) ≡ find rules d s at b x
+    pub node-broken : number_at s at ≡ None → Err (broken at) ≡ find rules d s at b x
     node-broken e = sym (find-broken rules x d s at b e)
 
-    module _ (k m : ℕ) (e : number_at s at ≡ Number.Value k m) where
-      pub node_over : f.k < k → Found.Refused (bad_table at) ≡ find rules d s at b x
+    module _ (k m : ℕ) (e : number_at s at ≡ Some (k, m)) where
+      pub node_over : f.k < k → Err (bad_table at) ≡ find rules d s at b x
       node_over h = sym (find-over rules x d s at b k m e h)
 
       pub node-tile : 0 < k → k ≤ f.k → tile_found (modes_at f.modes k s m) m k ≡ find rules d s at b x
       node-tile h l = sym (find-tile rules x d s at b k m e (omega arith) l)
 
       module _ (z : k ≤ 0) where
-        split : number_at s at ≡ Number.Value 0 m
+        split : number_at s at ≡ Some (0, m)
         split = let q : k ≡ 0 = omega arith in rw q at e
 
-        pub node-deep : d ≡ 0 → Found.Refused (bad_table at) ≡ find rules d s at b x
+        pub node-deep : d ≡ 0 → Err (bad_table at) ≡ find rules d s at b x
         node-deep h = sym (find-deep rules x d s at b m split h)

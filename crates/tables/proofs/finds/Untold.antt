@@ -1,6 +1,7 @@
 -- The tile that holds a reading, in a table of a form that tells no lengths: a split, and a loop over its children up to the one that holds the reading, those
 -- before it walked over. At the rules of a frame, in the terms of the code, the walk being lent anything for bands and coefficients. Relies on promises' page
 -- Walking.
+use Rattle.std.specs.Prelude.{Some, Ok, Err}
 use Prim.Native.Nat.{ℕ, suc, ◌+◌, ◌-◌, ◌≤◌, ◌<◌}
 use mathlib.Core.Path.{◌≡◌, refl, sym, ap, ◌∙◌}
 use mathlib.Core.Bool.{Bool, true, false}
@@ -9,11 +10,9 @@ use native.Mathlib.Omega.{arith}
 use lib.IntN.{ℤ}
 use lib.ListN.{length, get_or, drop}
 use Rattle.laws.specs.Lists.{all}
-use Rattle.meaning.specs.declared.Found.{Found}
-use Rattle.meaning.specs.declared.Number.{Number}
+use Rattle.meaning.specs.Answers.{Walk, Found}
 use Rattle.meaning.specs.declared.Refusal.{Refusal}
 use Rattle.meaning.specs.declared.Tried.TheVariants.{Works}
-use Rattle.meaning.specs.declared.Walk.{Walk}
 use Rattle.meaning.specs.Boxes.{Side, fits}
 use Rattle.meaning.specs.Control.{among, find}
 use Rattle.meaning.specs.Numbers.{number_at}
@@ -38,8 +37,8 @@ module _ (f : Frame) (x : List ℤ) where
 
   module _ (untold : tells f.form ≡ false) where
     -- a split; where there are no children both sides refuse
-    module _ (d : ℕ) (s : List ℕ) (at : ℕ) (b : List Side) (k m : ℕ) (e : number_at s at ≡ Number.Value k m) (z : k ≤ 0) where
-      split : number_at s at ≡ Number.Value 0 m
+    module _ (d : ℕ) (s : List ℕ) (at : ℕ) (b : List Side) (k m : ℕ) (e : number_at s at ≡ Some (k, m)) (z : k ≤ 0) where
+      split : number_at s at ≡ Some (0, m)
       split = let q : k ≡ 0 = omega arith in rw q at e
 
       pub look-split : (d ≡ 0 → ⊥) → look_from (d - 1) s at b 0 m ≡ find rules d s at b x
@@ -63,7 +62,7 @@ module _ (f : Frame) (x : List ℤ) where
       abbrev enter : ℕ → List Side → Found
       enter p k = find rules d s p k x
 
-      pub look_none : length kids ≤ c → Found.Refused (bad_table node) ≡ look_from d s node b c w
+      pub look_none : length kids ≤ c → Err (bad_table node) ≡ look_from d s node b c w
       look_none h = sym (among_none has enter (pass_over rules d s) node kids c [] w h)
 
       module _ (h : c < length kids) (kid : List Side) (q : kid ≡ get_or kids c []) where
@@ -78,8 +77,8 @@ module _ (f : Frame) (x : List ℤ) where
               ∙ walk_same f.form f.n f.modes f.k f.d (box_of f.n f.root) (box_of f.n f.goal) (box_of f.n f.safe) (step_in f [] []) (step_in f bands coef) (λ _ _. Works) d s w kid
               ∙ sym g
 
-          pub look-more : (m : ℕ) → v ≡ Walk.Next m → look_from d s node b (c + 1) m ≡ look_from d s node b c w
+          pub look-more : (m : ℕ) → v ≡ Ok m → look_from d s node b (c + 1) m ≡ look_from d s node b c w
           look-more m u = sym (among-more has enter (pass_over rules d s) node kids c [] w [] m h (rw q at e) (came ∙ u))
 
-          pub look-refused : (r : Refusal) → v ≡ Walk.Refused r → Found.Refused r ≡ look_from d s node b c w
+          pub look-refused : (r : Refusal) → v ≡ Err r → Err r ≡ look_from d s node b c w
           look-refused r u = sym (among-refused has enter (pass_over rules d s) node kids c [] w [] r h (rw q at e) (came ∙ u))

@@ -1,5 +1,6 @@
 -- The lengths of a split as the code reads them: the place behind them, one held to its child, and where children end by them; and what that says of the lengths
 -- of the definitions. Assumes nothing.
+use Rattle.std.specs.Prelude.{Some, None, Ok, Err}
 use Prim.Native.Nat.{ℕ, zero, suc, ◌+◌, ◌-◌, ◌*◌, ◌≤◌, ◌<◌}
 use mathlib.Core.Path.{◌≡◌, refl, sym, ap, ◌∙◌}
 use mathlib.Core.Bool.{Bool, true, false}
@@ -12,9 +13,8 @@ use lib.ListN.{length}
 use borrow.Author.Tests.{eq-eqb, ne_eqb, le-leb, lt-leb}
 use Rattle.laws.specs.Guards.{guard}
 use Rattle.laws.specs.Tests.{never}
-use Rattle.meaning.specs.declared.Number.{Number}
+use Rattle.meaning.specs.Answers.{Number, Walk}
 use Rattle.meaning.specs.declared.Refusal.{Refusal}
-use Rattle.meaning.specs.declared.Walk.{Walk}
 use Rattle.meaning.specs.Control.{past_file}
 use Rattle.meaning.specs.Files.{Read, read, refused, before}
 use Rattle.meaning.specs.Numbers.{number_at}
@@ -23,7 +23,6 @@ use Rattle.meaning.specs.Verdicts.{Length, length_at, on_number, on_read, length
 use Rattle.promises.specs.Files.Numbers.{was}
 use Rattle.promises.specs.Tables.Walking.{lengths-broken, lengths-more}
 use Rattle.tables.specs.Finds.{place_by, or_past}
-use Rattle.tables.specs.declared.lengths.Sum.{Sum}
 use Rattle.tables.specs.Lengths.{behind_at, held_at, ends_at, sum_of, total_of, total_at}
 use Rattle.tables.proofs.parts.Laws.{number-within}
 
@@ -33,7 +32,7 @@ pub record OneRead (k : ℕ) (s : List ℕ) (at : ℕ) (ls : List Length) (first
   pub size : ℕ
   pub next : ℕ
   pub others : List Length
-  pub number : number_at s at ≡ Number.Value size next
+  pub number : number_at s at ≡ Some (size, next)
   pub behind : lengths_at k s next ≡ read others first
   pub all : ls ≡ length_at at size ∷ others
 
@@ -41,7 +40,7 @@ pub one-read : (k : ℕ) (s : List ℕ) (at : ℕ) (ls : List Length) (first : �
 unfolding lengths_at
 one-read k s at ls first e = go (number_at s at) refl e
   where
-    with_rest : (size next : ℕ) → number_at s at ≡ Number.Value size next → (o : Read (List Length)) → lengths_at k s next ≡ o → before (length_at at size) o ≡ read ls first
+    with_rest : (size next : ℕ) → number_at s at ≡ Some (size, next) → (o : Read (List Length)) → lengths_at k s next ≡ o → before (length_at at size) o ≡ read ls first
         → OneRead k s at ls first
     with_rest size next q (refused x) p e = never cc
     with_rest size next q (read others m) p e =
@@ -50,8 +49,8 @@ one-read k s at ls first e = go (number_at s at) refl e
         record { size = size; next = next; others = others; number = q; behind = p ∙ ap (read others) b; all = a }
 
     go : (n : Number) → number_at s at ≡ n → on_number n (refused (broken at)) (λ size next. before (length_at at size) (lengths_at k s next)) ≡ read ls first → OneRead k s at ls first
-    go Number.Broken q e = never cc
-    go (Number.Value size next) q e = with_rest size next q (lengths_at k s next) refl e
+    go None q e = never cc
+    go (Some (size, next)) q e = with_rest size next q (lengths_at k s next) refl e
 
 -- they end in the file
 pub lengths-within : (k : ℕ) (s : List ℕ) (at : ℕ) (ls : List Length) (first : ℕ) → at ≤ length s → lengths_at k s at ≡ read ls first → first ≤ length s
@@ -64,14 +63,14 @@ lengths-within (suc k) s at ls first l e =
 -- ---- the place behind k of them
 
 abbrev after : Read (List Length) → Walk
-after o = on_read o Walk.Refused λ ls next. Walk.Next next
+after o = on_read o Err λ ls next. Ok next
 
 after-before : (l : Length) (o : Read (List Length)) → after (before l o) ≡ after o
 after-before l (refused x) = refl
 after-before l (read ls m) = refl
 
 module _ (s : List ℕ) where
-  pub behind-none : (at : ℕ) → Walk.Next at ≡ behind_at 0 s at
+  pub behind-none : (at : ℕ) → Ok at ≡ behind_at 0 s at
   unfolding lengths_at
   behind-none at = refl
 
@@ -79,56 +78,56 @@ module _ (s : List ℕ) where
     one_more : lengths_at left s at ≡ lengths_at (suc (left - 1)) s at
     one_more = let e : left ≡ suc (left - 1) = omega arith in ap (λ (k : ℕ). lengths_at k s at) e
 
-    pub behind-broken : number_at s at ≡ Number.Broken → Walk.Refused (broken at) ≡ behind_at left s at
+    pub behind-broken : number_at s at ≡ None → Err (broken at) ≡ behind_at left s at
     behind-broken e = sym (ap after (one_more ∙ lengths-broken (left - 1) s at e))
 
-    pub behind_more : (size next : ℕ) → number_at s at ≡ Number.Value size next → behind_at (left - 1) s next ≡ behind_at left s at
+    pub behind_more : (size next : ℕ) → number_at s at ≡ Some (size, next) → behind_at (left - 1) s next ≡ behind_at left s at
     behind_more size next e = sym (ap after (one_more ∙ lengths-more (left - 1) s at size next e) ∙ after-before (length_at at size) (lengths_at (left - 1) s next))
 
   module _ (k at : ℕ) where
-    pub behind-read : (first : ℕ) → behind_at k s at ≡ Walk.Next first → (ls : List Length) × (lengths_at k s at ≡ read ls first)
+    pub behind-read : (first : ℕ) → behind_at k s at ≡ Ok first → (ls : List Length) × (lengths_at k s at ≡ read ls first)
     behind-read first e = go (lengths_at k s at) refl e
       where
-        go : (o : Read (List Length)) → lengths_at k s at ≡ o → after o ≡ Walk.Next first → (ls : List Length) × (lengths_at k s at ≡ read ls first)
+        go : (o : Read (List Length)) → lengths_at k s at ≡ o → after o ≡ Ok first → (ls : List Length) × (lengths_at k s at ≡ read ls first)
         go (refused x) q e = never cc
         go (read ls m) q e = let z : m ≡ first = cc in (ls, q ∙ ap (read ls) z)
 
-    pub behind-refused : (x : Refusal) → behind_at k s at ≡ Walk.Refused x → lengths_at k s at ≡ refused x
+    pub behind-refused : (x : Refusal) → behind_at k s at ≡ Err x → lengths_at k s at ≡ refused x
     behind-refused x e = go (lengths_at k s at) refl e
       where
-        go : (o : Read (List Length)) → lengths_at k s at ≡ o → after o ≡ Walk.Refused x → lengths_at k s at ≡ refused x
+        go : (o : Read (List Length)) → lengths_at k s at ≡ o → after o ≡ Err x → lengths_at k s at ≡ refused x
         go (refused y) q e = let z : y ≡ x = cc in q ∙ ap refused z
         go (read ls m) q e = never cc
 
 -- ---- one held to its child
 
 module _ (told : Bool) (s : List ℕ) (at from end : ℕ) where
-  pub held-untold : told ≡ false → Walk.Next at ≡ held_at told s at from end
+  pub held-untold : told ≡ false → Ok at ≡ held_at told s at from end
   held-untold t = rw t refl
 
   module _ (t : told ≡ true) where
-    pub held-broken : number_at s at ≡ Number.Broken → Walk.Refused (broken at) ≡ held_at told s at from end
+    pub held-broken : number_at s at ≡ None → Err (broken at) ≡ held_at told s at from end
     held-broken e = rw (t, e) refl
 
-    module _ (size next : ℕ) (e : number_at s at ≡ Number.Value size next) where
-      pub held-before : end < from → Walk.Refused (bad_table at) ≡ held_at told s at from end
+    module _ (size next : ℕ) (e : number_at s at ≡ Some (size, next)) where
+      pub held-before : end < from → Err (bad_table at) ≡ held_at told s at from end
       held-before h = rw (t, e, ne_eqb end (from + size) (λ q. omega (arith, q))) refl
 
-      pub held-other : from ≤ end → (end - from ≡ size → ⊥) → Walk.Refused (bad_table at) ≡ held_at told s at from end
+      pub held-other : from ≤ end → (end - from ≡ size → ⊥) → Err (bad_table at) ≡ held_at told s at from end
       held-other h n = rw (t, e, ne_eqb end (from + size) (λ q. n (omega (arith, q)))) refl
 
-      pub held_same : from ≤ end → end - from ≡ size → Walk.Next next ≡ held_at told s at from end
+      pub held_same : from ≤ end → end - from ≡ size → Ok next ≡ held_at told s at from end
       held_same h q = rw (t, e, eq-eqb end (from + size) (omega (arith, q))) refl
 
 -- ---- where children end by them
 
 module _ (s : List ℕ) where
-  pub ends-none : (at from : ℕ) → Walk.Next from ≡ ends_at 0 s at from
+  pub ends-none : (at from : ℕ) → Ok from ≡ ends_at 0 s at from
   unfolding ends_at
   ends-none at from = refl
 
   ends-unfold : (k at from : ℕ) → ends_at (suc k) s at from
-      ≡ on_number (number_at s at) (Walk.Refused (broken at)) λ size next. guard (leb (from + size) (length s)) (Walk.Refused (bad_table at)) λ _. ends_at k s next (from + size)
+      ≡ on_number (number_at s at) (Err (broken at)) λ size next. guard (leb (from + size) (length s)) (Err (bad_table at)) λ _. ends_at k s next (from + size)
   unfolding ends_at
   ends-unfold k at from = refl
 
@@ -136,11 +135,11 @@ module _ (s : List ℕ) where
     ends-one : ends_at left s at from ≡ ends_at (suc (left - 1)) s at from
     ends-one = let e : left ≡ suc (left - 1) = omega arith in ap (λ (k : ℕ). ends_at k s at from) e
 
-    pub ends-broken : number_at s at ≡ Number.Broken → Walk.Refused (broken at) ≡ ends_at left s at from
+    pub ends-broken : number_at s at ≡ None → Err (broken at) ≡ ends_at left s at from
     ends-broken e = sym (ends-one ∙ ends-unfold (left - 1) at from ∙ rw e refl)
 
-    module _ (size next : ℕ) (e : number_at s at ≡ Number.Value size next) where
-      pub ends-past : length s < from + size → Walk.Refused (bad_table at) ≡ ends_at left s at from
+    module _ (size next : ℕ) (e : number_at s at ≡ Some (size, next)) where
+      pub ends-past : length s < from + size → Err (bad_table at) ≡ ends_at left s at from
       ends-past l = sym (ends-one ∙ ends-unfold (left - 1) at from ∙ rw (e, lt-leb (from + size) (length s) l) refl)
 
       pub ends_more : from + size ≤ length s → ends_at (left - 1) s next (from + size) ≡ ends_at left s at from
@@ -148,7 +147,7 @@ module _ (s : List ℕ) where
 
   -- as the definitions say it of lengths that were read
   pub ends-are : (k at from : ℕ) (ls : List Length) (first : ℕ) → lengths_at k s at ≡ read ls first
-      → ends_at k s at from ≡ or_past (past_file (length s) ls from) (λ _. Walk.Next (place_by k ls from))
+      → ends_at k s at from ≡ or_past (past_file (length s) ls from) (λ _. Ok (place_by k ls from))
   unfolding ends_at lengths_at past_file place_by
   ends-are zero at from ls first e = let q : ls ≡ [] = cc in rw q refl
   ends-are (suc k) at from ls first e =
@@ -156,15 +155,15 @@ module _ (s : List ℕ) where
       rw (o.all, o.number) (go o.size o.next o.others (leb (from + o.size) (length s)) (ends-are k o.next (from + o.size) o.others first o.behind))
     where
       go : (size next : ℕ) (others : List Length) (t : Bool)
-          → ends_at k s next (from + size) ≡ or_past (past_file (length s) others (from + size)) (λ _. Walk.Next (place_by k others (from + size)))
-          → guard t (Walk.Refused (bad_table at)) (λ _. ends_at k s next (from + size))
-          ≡ or_past (guard t (some at) (λ _. past_file (length s) others (from + size))) (λ _. Walk.Next (place_by k others (from + size)))
+          → ends_at k s next (from + size) ≡ or_past (past_file (length s) others (from + size)) (λ _. Ok (place_by k others (from + size)))
+          → guard t (Err (bad_table at)) (λ _. ends_at k s next (from + size))
+          ≡ or_past (guard t (some at) (λ _. past_file (length s) others (from + size))) (λ _. Ok (place_by k others (from + size)))
       go size next others true ih = ih
       go size next others false ih = refl
 
   -- and where none points past the file, of the first c alone
   pub ends_some : (c k at from : ℕ) (ls : List Length) (first : ℕ) → c ≤ k → lengths_at k s at ≡ read ls first → past_file (length s) ls from ≡ none
-      → ends_at c s at from ≡ Walk.Next (place_by c ls from)
+      → ends_at c s at from ≡ Ok (place_by c ls from)
   unfolding ends_at lengths_at past_file place_by
   ends_some zero k at from ls first l e n = refl
   ends_some (suc c) zero at from ls first l e n = absurd (omega arith)
@@ -175,16 +174,16 @@ module _ (s : List ℕ) where
       (go o.size o.next o.others (leb (from + o.size) (length s)) (λ p. ends_some c k o.next (from + o.size) o.others first (omega arith) o.behind p) z)
     where
       go : (size next : ℕ) (others : List Length) (t : Bool)
-          → (past_file (length s) others (from + size) ≡ none → ends_at c s next (from + size) ≡ Walk.Next (place_by c others (from + size)))
+          → (past_file (length s) others (from + size) ≡ none → ends_at c s next (from + size) ≡ Ok (place_by c others (from + size)))
           → guard t (some at) (λ _. past_file (length s) others (from + size)) ≡ none
-          → guard t (Walk.Refused (bad_table at)) (λ _. ends_at c s next (from + size)) ≡ Walk.Next (place_by c others (from + size))
+          → guard t (Err (bad_table at)) (λ _. ends_at c s next (from + size)) ≡ Ok (place_by c others (from + size))
       go size next others true ih n = ih n
       go size next others false ih n = never cc
 
 -- ---- k of them added up: what is added so far, and those that are left
 
 module _ (s : List ℕ) where
-  pub total-none : (sum at : ℕ) → Sum.Of sum at ≡ total_of sum (lengths_at 0 s at)
+  pub total-none : (sum at : ℕ) → Some (sum, at) ≡ total_of sum (lengths_at 0 s at)
   unfolding lengths_at sum_of
   total-none sum at = let e : sum + 0 ≡ sum = omega arith in rw e refl
 
@@ -194,17 +193,17 @@ module _ (s : List ℕ) where
   total-before sum l (read ls m) = let e : sum + (l.size + sum_of ls) ≡ sum + l.size + sum_of ls = omega arith in rw e refl
 
   module _ (left sum at : ℕ) (h : 0 < left) where
-    pub total-broken : number_at s at ≡ Number.Broken → Sum.Broken ≡ total_of sum (lengths_at left s at)
+    pub total-broken : number_at s at ≡ None → None ≡ total_of sum (lengths_at left s at)
     total-broken e = sym (ap (total_of sum) (one_more s left at h ∙ lengths-broken (left - 1) s at e))
 
-    pub total-more : (size next : ℕ) → number_at s at ≡ Number.Value size next → total_of (sum + size) (lengths_at (left - 1) s next) ≡ total_of sum (lengths_at left s at)
+    pub total-more : (size next : ℕ) → number_at s at ≡ Some (size, next) → total_of (sum + size) (lengths_at (left - 1) s next) ≡ total_of sum (lengths_at left s at)
     total-more size next e = sym (ap (total_of sum) (one_more s left at h ∙ lengths-more (left - 1) s at size next e) ∙ total-before sum (length_at at size) (lengths_at (left - 1) s next))
 
   -- one behind another
-  pub total-read : (k at sum next : ℕ) → total_at k s at ≡ Sum.Of sum next → (ls : List Length) × (lengths_at k s at ≡ read ls next) × (sum ≡ sum_of ls)
+  pub total-read : (k at sum next : ℕ) → total_at k s at ≡ Some (sum, next) → (ls : List Length) × (lengths_at k s at ≡ read ls next) × (sum ≡ sum_of ls)
   total-read k at sum next e = go (lengths_at k s at) refl e
     where
-      go : (o : Read (List Length)) → lengths_at k s at ≡ o → total_of 0 o ≡ Sum.Of sum next → (ls : List Length) × (lengths_at k s at ≡ read ls next) × (sum ≡ sum_of ls)
+      go : (o : Read (List Length)) → lengths_at k s at ≡ o → total_of 0 o ≡ Some (sum, next) → (ls : List Length) × (lengths_at k s at ≡ read ls next) × (sum ≡ sum_of ls)
       go (refused x) q e = never cc
       go (read ls m) q e =
           let z : m ≡ next = cc in

@@ -1,4 +1,5 @@
 -- A tile's modes, read in a loop: what is read so far, in front of what is left, is the whole. And modes that were read are a pattern. Assumes nothing.
+use Rattle.std.specs.Prelude.{Some, None}
 use Prim.Native.Nat.{ℕ, zero, suc, ◌+◌, ◌-◌, ◌≤◌, ◌<◌}
 use mathlib.Core.Path.{◌≡◌, refl, sym, ◌∙◌}
 use mathlib.Core.List.{List, [], ◌∷◌, ◌++◌}
@@ -8,7 +9,6 @@ use lib.ListN.{length, get_or, set, length-set}
 use lib.Seq.{get_or-set_same, get_or-set_other}
 use Rattle.laws.specs.Tabs.{tab-snoc, tab-same, get_d-tab}
 use Rattle.laws.specs.Lists.{tab}
-use Rattle.meaning.specs.declared.Number.{Number}
 use Rattle.meaning.specs.Refusals.{broken, bad_table}
 use Rattle.meaning.specs.Numbers.{number_at}
 use Rattle.meaning.specs.Files.{read, refused}
@@ -49,10 +49,10 @@ module _ (modes k : ℕ) (s : List ℕ) (at : ℕ) where
         sym (behind-read (pattern_of k us) w) ∙ (rw (q, z) at m.left)
 
     module _ (h : i < k) where
-      pub modes-end : number_at s w ≡ Number.Broken → refused (broken w) ≡ modes_at modes k s at
+      pub modes-end : number_at s w ≡ None → refused (broken w) ≡ modes_at modes k s at
       modes-end b = sym (modes-broken modes s (pattern_of i us) w k i h b) ∙ m.left
 
-      module _ (u next : ℕ) (v : number_at s w ≡ Number.Value u next) where
+      module _ (u next : ℕ) (v : number_at s w ≡ Some (u, next)) where
         pub modes-past : modes ≤ u → refused (bad_table w) ≡ modes_at modes k s at
         modes-past l = sym (modes-over modes s (pattern_of i us) w k i h u next v l) ∙ m.left
 

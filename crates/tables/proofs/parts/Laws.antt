@@ -1,4 +1,5 @@
 -- Tables behind their lengths, as the code finds them: one, those that are passed, and what stands behind a found one in the definitions. Assumes nothing.
+use Rattle.std.specs.Prelude.{Some, None, Ok, Err}
 use Prim.Native.Nat.{ℕ, zero, suc, ◌+◌, ◌-◌, ◌≤◌, ◌<◌}
 use mathlib.Core.Path.{◌≡◌, refl, sym, ap, ◌∙◌}
 use mathlib.Core.Bool.{Bool, true, false}
@@ -10,7 +11,7 @@ use borrow.Author.Tests.{leb-true, le-leb, lt-leb}
 use Rattle.laws.specs.Guards.{guard}
 use Rattle.laws.specs.Standing.{stand-within}
 use Rattle.laws.specs.Tests.{never}
-use Rattle.meaning.specs.declared.Number.{Number}
+use Rattle.meaning.specs.Answers.{Number}
 use Rattle.meaning.specs.declared.Refusal.{Refusal}
 use Rattle.meaning.specs.Numbers.{number_at, bytes_of}
 use Rattle.meaning.specs.Refusals.{broken, unfit}
@@ -19,34 +20,33 @@ use Rattle.meaning.specs.Starts.{on_length, on_part, part}
 use Rattle.meaning.specs.Verdicts.{on_number}
 use Rattle.promises.specs.Files.Bytes.{bytes-some}
 use Rattle.promises.specs.Files.Numbers.{was}
-use Rattle.tables.specs.declared.parts.Part.{Part}
 use Rattle.tables.specs.Parts.{part_at, part_behind, on_found}
 
 -- ---- one
 
 module _ (s : List ℕ) (at : ℕ) where
-  pub number-within : (v next : ℕ) → number_at s at ≡ Number.Value v next → next ≤ length s
+  pub number-within : (v next : ℕ) → number_at s at ≡ Some (v, next) → next ≤ length s
   number-within v next q = stand-within s (bytes_of v) at next (was v at next s q).1 (bytes-some v)
 
-  pub part-broken : number_at s at ≡ Number.Broken → Part.Refused (broken at) ≡ part_at s at
+  pub part-broken : number_at s at ≡ None → Err (broken at) ≡ part_at s at
   part-broken e = simp e
 
-  module _ (size first : ℕ) (e : number_at s at ≡ Number.Value size first) where
-    pub part-over : length s - first < size → Part.Refused (unfit at) ≡ part_at s at
+  module _ (size first : ℕ) (e : number_at s at ≡ Some (size, first)) where
+    pub part-over : length s - first < size → Err (unfit at) ≡ part_at s at
     part-over h = let l : length s < first + size = omega arith in simp (e, lt-leb _ _ l)
 
-    pub part-there : size ≤ length s - first → Part.At first size ≡ part_at s at
+    pub part-there : size ≤ length s - first → Ok (first, size) ≡ part_at s at
     part-there h = let l : first + size ≤ length s = omega (arith, number-within size first e) in simp (e, le-leb _ _ l)
 
   -- a table that was found ends in the file
-  pub part-within : (first size : ℕ) → part_at s at ≡ Part.At first size → first + size ≤ length s
+  pub part-within : (first size : ℕ) → part_at s at ≡ Ok (first, size) → first + size ≤ length s
   part-within first size q = go (number_at s at) q
     where
-      go : (n : Number) → on_number n (Part.Refused (broken at)) (λ size first. guard (leb (first + size) (length s)) (Part.Refused (unfit at)) λ _. Part.At first size) ≡ Part.At first size → first + size ≤ length s
-      go Number.Broken e = never cc
-      go (Number.Value z f) e = tests (leb (f + z) (length s)) refl e
+      go : (n : Number) → on_number n (Err (broken at)) (λ size first. guard (leb (first + size) (length s)) (Err (unfit at)) λ _. Ok (first, size)) ≡ Ok (first, size) → first + size ≤ length s
+      go None e = never cc
+      go (Some (z, f)) e = tests (leb (f + z) (length s)) refl e
         where
-          tests : (t : Bool) → leb (f + z) (length s) ≡ t → guard t (Part.Refused (unfit at)) (λ _. Part.At f z) ≡ Part.At first size → first + size ≤ length s
+          tests : (t : Bool) → leb (f + z) (length s) ≡ t → guard t (Err (unfit at)) (λ _. Ok (f, z)) ≡ Ok (first, size) → first + size ≤ length s
           tests false p e = never cc
           tests true p e =
               let a : f ≡ first = cc in
@@ -58,11 +58,11 @@ module _ (s : List ℕ) (at : ℕ) where
   by_length {A} refuse rest = go (number_at s at)
     where
       go : (n : Number) → on_number n (refuse (broken at)) (λ size first. guard (leb (first + size) (length s)) (refuse (unfit at)) λ _. rest first size)
-          ≡ on_found (on_number n (Part.Refused (broken at)) (λ size first. guard (leb (first + size) (length s)) (Part.Refused (unfit at)) λ _. Part.At first size)) refuse rest
-      go Number.Broken = refl
-      go (Number.Value size first) = tests (leb (first + size) (length s))
+          ≡ on_found (on_number n (Err (broken at)) (λ size first. guard (leb (first + size) (length s)) (Err (unfit at)) λ _. Ok (first, size))) refuse rest
+      go None = refl
+      go (Some (size, first)) = tests (leb (first + size) (length s))
         where
-          tests : (t : Bool) → guard t (refuse (unfit at)) (λ _. rest first size) ≡ on_found (guard t (Part.Refused (unfit at)) (λ _. Part.At first size)) refuse rest
+          tests : (t : Bool) → guard t (refuse (unfit at)) (λ _. rest first size) ≡ on_found (guard t (Err (unfit at)) (λ _. Ok (first, size))) refuse rest
           tests true = refl
           tests false = refl
 
@@ -79,36 +79,36 @@ module _ (s : List ℕ) where
 
   -- one is passed, or stops it
   module _ (left at : ℕ) (h : 0 < left) where
-    one-passed : part_behind left s at ≡ on_found (part_at s at) Part.Refused (λ first size. part_behind (left - 1) s (first + size))
+    one-passed : part_behind left s at ≡ on_found (part_at s at) Err (λ first size. part_behind (left - 1) s (first + size))
     one-passed =
         let e : left ≡ suc (left - 1) = omega arith in
-        ap (λ (i : ℕ). part_behind i s at) e ∙ behind-step (left - 1) at Part.Refused Part.At
+        ap (λ (i : ℕ). part_behind i s at) e ∙ behind-step (left - 1) at Err Part.At
 
-    pub behind_more : (first size : ℕ) → part_at s at ≡ Part.At first size → part_behind (left - 1) s (first + size) ≡ part_behind left s at
+    pub behind_more : (first size : ℕ) → part_at s at ≡ Ok (first, size) → part_behind (left - 1) s (first + size) ≡ part_behind left s at
     behind_more first size q = sym (one-passed ∙ rw q refl)
 
-    pub behind-stopped : (e : Refusal) → part_at s at ≡ Part.Refused e → Part.Refused e ≡ part_behind left s at
+    pub behind-stopped : (e : Refusal) → part_at s at ≡ Err e → Err e ≡ part_behind left s at
     behind-stopped e q = sym (one-passed ∙ rw q refl)
 
   pub by_part : {A : Type 0} (i at : ℕ) (refuse : Refusal → A) (rest : ℕ → ℕ → A) → on_part i s at refuse rest ≡ on_found (part_behind i s at) refuse rest
   unfolding S.on_part
   by_part zero at refuse rest = by_length s at refuse rest
-  by_part {A} (suc i) at refuse rest = behind-step i at refuse rest ∙ go (part_at s at) (λ at. by_part i at refuse rest) ∙ ap (λ (p : Part). on_found p refuse rest) (sym (behind-step i at Part.Refused Part.At))
+  by_part {A} (suc i) at refuse rest = behind-step i at refuse rest ∙ go (part_at s at) (λ at. by_part i at refuse rest) ∙ ap (λ (p : Part). on_found p refuse rest) (sym (behind-step i at Err Part.At))
     where
       go : (p : Part) → ((at : ℕ) → on_part i s at refuse rest ≡ on_found (part_behind i s at) refuse rest)
-          → on_found p refuse (λ first size. on_part i s (first + size) refuse rest) ≡ on_found (on_found p Part.Refused (λ first size. part_behind i s (first + size))) refuse rest
-      go (Part.Refused e) ih = refl
-      go (Part.At first size) ih = ih (first + size)
+          → on_found p refuse (λ first size. on_part i s (first + size) refuse rest) ≡ on_found (on_found p Err (λ first size. part_behind i s (first + size))) refuse rest
+      go (Err e) ih = refl
+      go (Ok (first, size)) ih = ih (first + size)
 
-  pub behind-within : (i at first size : ℕ) → part_behind i s at ≡ Part.At first size → first + size ≤ length s
+  pub behind-within : (i at first size : ℕ) → part_behind i s at ≡ Ok (first, size) → first + size ≤ length s
   unfolding S.on_part
   behind-within zero at first size q = part-within s at first size q
-  behind-within (suc i) at first size q = go (part_at s at) (λ at. behind-within i at first size) (sym (behind-step i at Part.Refused Part.At) ∙ q)
+  behind-within (suc i) at first size q = go (part_at s at) (λ at. behind-within i at first size) (sym (behind-step i at Err Part.At) ∙ q)
     where
-      go : (p : Part) → ((at : ℕ) → part_behind i s at ≡ Part.At first size → first + size ≤ length s)
-          → on_found p Part.Refused (λ first size. part_behind i s (first + size)) ≡ Part.At first size → first + size ≤ length s
-      go (Part.Refused e) ih q = never cc
-      go (Part.At f z) ih q = ih (f + z) q
+      go : (p : Part) → ((at : ℕ) → part_behind i s at ≡ Ok (first, size) → first + size ≤ length s)
+          → on_found p Err (λ first size. part_behind i s (first + size)) ≡ Ok (first, size) → first + size ≤ length s
+      go (Err e) ih q = never cc
+      go (Ok (f, z)) ih q = ih (f + z) q
 
 -- a slice of the bytes between is the table
 pub slice-part : (s : List ℕ) (first size : ℕ) → take (first + size - first) (drop first s) ≡ part s first size

@@ -1,4 +1,5 @@
 -- What is told of a table has its place in it, where that is a byte: so it can be moved to the file that the table stands in. Assumes nothing.
+use Rattle.std.specs.Prelude.{Ok, Err}
 use Prim.Native.Nat.{ℕ, zero, suc, ◌≤◌}
 use mathlib.Core.Path.{◌≡◌, refl}
 use mathlib.Core.Bool.{true}
@@ -7,11 +8,9 @@ use native.Mathlib.Omega.{arith}
 use lib.Dec.{eqb}
 use lib.ListN.{length, get_or}
 use Rattle.laws.specs.Tests.{never}
-use Rattle.meaning.specs.declared.Answer.{Answer}
-use Rattle.meaning.specs.declared.Found.{Found}
+use Rattle.meaning.specs.Answers.{Walk, Found, Answer}
 use Rattle.meaning.specs.declared.Refusal.{Refusal}
 use Rattle.meaning.specs.declared.State.{State}
-use Rattle.meaning.specs.declared.Walk.{Walk}
 use Rattle.meaning.specs.Control as C
 use Rattle.meaning.specs.Control.{state_at, mode_at, on_found, can_run, find, inside, state_call, call}
 use Rattle.meaning.specs.Refusals.{at_byte}
@@ -48,27 +47,27 @@ told-inside {numbers} {size} {e} t = in-column e.number size e.place t.place
 
 -- ---- the walk over a table
 
-pub end-inside : (r : Rules) (s : List ℕ) → Rules.K r ≤ 6 → (e : Refusal) → table_end r s ≡ Walk.Refused e → Inside (length s) e
+pub end-inside : (r : Rules) (s : List ℕ) → Rules.K r ≤ 6 → (e : Refusal) → table_end r s ≡ Err e → Inside (length s) e
 end-inside r s most e q = go (table_end r s) q (end-tells r s most)
   where
-    go : (w : Walk) → w ≡ Walk.Refused e → WalkTells checker_numbers (length s) w → Inside (length s) e
-    go (Walk.Next m) q t = never cc
-    go (Walk.Refused x) q t = let same : x ≡ e = cc in rw same at (told-inside t)
+    go : (w : Walk) → w ≡ Err e → WalkTells checker_numbers (length s) w → Inside (length s) e
+    go (Ok m) q t = never cc
+    go (Err x) q t = let same : x ≡ e = cc in rw same at (told-inside t)
 
 -- ---- a call
 
 module _ (r : Rules) (s : List ℕ) where
   abbrev AnswerInside : Answer → Type 0
-  AnswerInside (Answer.Mode u then) = Unit {0}
-  AnswerInside (Answer.Refused e) = Inside (length s) e
+  AnswerInside (Ok (u, then)) = Unit {0}
+  AnswerInside (Err e) = Inside (length s) e
 
   mode-inside : (place left : ℕ) → AnswerInside (mode_at s place left)
   mode-inside place zero = λ h. never h
-  mode-inside place (suc m) = number-keeps AnswerInside s place (λ u next. Answer.Mode u (state_at next m)) (λ h. never h) (λ u next l. tt)
+  mode-inside place (suc m) = number-keeps AnswerInside s place (λ u next. Ok (u, state_at next m)) (λ h. never h) (λ u next l. tt)
 
   found_inside : (f : Found) → FoundTells controller_numbers (length s) f → AnswerInside (on_found s f)
-  found_inside (Found.Refused e) h = told-inside h
-  found_inside (Found.Tile from k) h = mode-inside from k
+  found_inside (Err e) h = told-inside h
+  found_inside (Ok (from, k)) h = mode-inside from k
 
   module _ (x : Rules.Reading r) where
     in-box : (b : Rules.Box r) (rest : Unit {0} → Answer) → AnswerInside (rest tt) → AnswerInside (inside r b x rest)
@@ -84,8 +83,8 @@ module _ (r : Rules) (s : List ℕ) where
     called : (st : State) → AnswerInside (call r s st x)
     unfolding C.call
     called st =
-        walk-keeps controller_numbers (length s) AnswerInside (header (Rules.form r) (Rules.n r) s) Answer.Refused _ (header-tells controller_numbers s refl refl refl (Rules.form r) (Rules.n r)) (λ e t. told-inside t)
+        walk-keeps controller_numbers (length s) AnswerInside (header (Rules.form r) (Rules.n r) s) Err _ (header-tells controller_numbers s refl refl refl (Rules.form r) (Rules.n r)) (λ e t. told-inside t)
         (λ at l. state-inside at st.place st.left l)
 
-    pub call-inside : (st : State) (e : Refusal) → call r s st x ≡ Answer.Refused e → Inside (length s) e
+    pub call-inside : (st : State) (e : Refusal) → call r s st x ≡ Err e → Inside (length s) e
     call-inside st e q = rw q at (called st)

@@ -1,5 +1,6 @@
 -- What relay leaves: what the checker refuses, 2, the table itself, or its tree in the other layout. Forms that are known, split alike and differ lay a
 -- tree out differently. Assumes nothing.
+use Rattle.std.specs.Prelude.{Err}
 use Prim.Native.Nat.{ℕ, suc}
 use mathlib.Core.Path.{◌≡◌, refl, sym, ap, subst, ◌∙◌}
 use mathlib.Core.Bool.{Bool, true, false, ◌&&◌, not}
@@ -11,7 +12,6 @@ use lib.ListN.{length}
 use Rattle.laws.specs.Tests.{never, first, second}
 use Rattle.meaning.specs.declared.PlantRead.{PlantRead}
 use Rattle.meaning.specs.declared.Refusal.{Refusal}
-use Rattle.meaning.specs.declared.Verdict.{Verdict}
 use Rattle.meaning.specs.Buffers.{refused_with, left}
 use Rattle.meaning.specs.Files.{Judged, good, bad}
 use Rattle.meaning.specs.Plants.{Plant, plant_judged, plant_read, outline_of, read_of}
@@ -79,7 +79,7 @@ module _ (plant table : List ℕ) (form : ℕ) (buf : List ℕ) where
   unfolding L.relay_left
   by j e = ap (λ (i : Judged (List ℕ)). left i buf) (sym e)
 
-  pub left-refused : (e : Refusal) → checked plant table ≡ Verdict.Refused e → refused_with e buf ≡ relay_left plant table form buf
+  pub left-refused : (e : Refusal) → checked plant table ≡ Err e → refused_with e buf ≡ relay_left plant table form buf
   left-refused e h = by (bad e) (relayed-refused plant table form e h)
 
   -- of an accepted table, which says the form own

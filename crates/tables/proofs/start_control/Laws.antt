@@ -1,5 +1,6 @@
 -- A call on a start file in the terms that the code has: the table that is called, by the boxes that hold the reading; the call on it; the whole. Assumes
 -- nothing.
+use Rattle.std.specs.Prelude.{Ok, Err}
 use Prim.Native.Nat.{ℕ, zero, suc, ◌+◌, ◌≤◌, ◌<◌}
 use mathlib.Core.Path.{◌≡◌, refl, sym, ap, ◌∙◌, fun_ext}
 use mathlib.Core.Bool.{Bool, true, false, ◌&&◌, ◌||◌, not, cond}
@@ -14,12 +15,10 @@ use Rattle.laws.specs.Lists as L
 use Rattle.laws.specs.Lists.{tab, all, first_false}
 use Rattle.laws.specs.Tabs.{tab-same}
 use Rattle.laws.specs.Tests.{never, first, second}
-use Rattle.meaning.specs.declared.Answer.{Answer}
+use Rattle.meaning.specs.Answers.{Verdict, Answer, StartAnswer}
 use Rattle.meaning.specs.declared.Refusal.{Refusal}
-use Rattle.meaning.specs.declared.StartAnswer.{StartAnswer}
 use Rattle.meaning.specs.declared.StartState.{StartState}
 use Rattle.meaning.specs.declared.State.{State}
-use Rattle.meaning.specs.declared.Verdict.{Verdict}
 use Rattle.meaning.specs.Boxes.{Side, fits}
 use Rattle.meaning.specs.Control.{idle, call}
 use Rattle.meaning.specs.Files.{good, bad}
@@ -30,8 +29,6 @@ use Rattle.meaning.specs.Starts.{above, box_at, chosen, part, is_idle, state_in,
 use Rattle.meaning.specs.Tables.{reading_of, form_of, table_rules}
 use Rattle.tables.specs.declared.boxes.Bx.{Bx}
 use Rattle.tables.specs.declared.frames.Frame.{Frame}
-use Rattle.tables.specs.declared.parts.Part.{Part}
-use Rattle.tables.specs.declared.start_control.Choice.{Choice}
 use Rattle.tables.specs.Boxes.{box_of}
 use Rattle.tables.specs.Chains.{values_in, bx_at, frame_at}
 use Rattle.tables.specs.Control.{admission}
@@ -82,14 +79,14 @@ module _ (n : ℕ) (rooms : n ≤ 4) (root : Bx) (edges : List ℤ) (m : ℕ) (x
 -- ---- the table that is called
 
 -- by the admission to Rm
-refused-by : (can held : Bool) (k low : ℕ) (e : Refusal) → guard can (Verdict.Refused bad_state) (λ _. guard held (Verdict.Refused (outside k)) λ _. Verdict.Accepted) ≡ Verdict.Refused e
-    → Choice.Refused e ≡ guard can (Choice.Refused bad_state) (λ _. guard held (Choice.Refused (outside k)) λ _. Choice.Table low)
+refused-by : (can held : Bool) (k low : ℕ) (e : Refusal) → guard can (Err bad_state) (λ _. guard held (Err (outside k)) λ _. Ok tt) ≡ Err e
+    → Err e ≡ guard can (Err bad_state) (λ _. guard held (Err (outside k)) λ _. Ok low)
 refused-by true true k low e q = never cc
 refused-by true false k low e q = cc
 refused-by false held k low e q = cc
 
-accepted-by : (can held : Bool) (k low : ℕ) → guard can (Verdict.Refused bad_state) (λ _. guard held (Verdict.Refused (outside k)) λ _. Verdict.Accepted) ≡ Verdict.Accepted
-    → Choice.Table low ≡ guard can (Choice.Refused bad_state) (λ _. guard held (Choice.Refused (outside k)) λ _. Choice.Table low)
+accepted-by : (can held : Bool) (k low : ℕ) → guard can (Err bad_state) (λ _. guard held (Err (outside k)) λ _. Ok tt) ≡ Ok tt
+    → Ok low ≡ guard can (Err bad_state) (λ _. guard held (Err (outside k)) λ _. Ok low)
 accepted-by true true k low q = refl
 accepted-by true false k low q = never cc
 accepted-by false held k low q = never cc
@@ -99,19 +96,19 @@ module _ (n : ℕ) (root : List Side) (vs : List ℤ) (x : List ℤ) where
     abbrev fit : List Bool
     fit = fits_at n root vs x (above vs)
 
-    pub choice-refused : (e : Refusal) → v ≡ Verdict.Refused e → Choice.Refused e ≡ idle_choice n root vs i x
+    pub choice-refused : (e : Refusal) → v ≡ Err e → Err e ≡ idle_choice n root vs i x
     choice-refused e h = refused-by (eqb i 0) (all fit) (first_false fit) (chosen n root vs x) e (sym q ∙ h)
 
-    pub choice-lowest : v ≡ Verdict.Accepted → (k : ℕ) → k ≡ chosen n root vs x → Choice.Table k ≡ idle_choice n root vs i x
-    choice-lowest h k c = ap Choice.Table c ∙ accepted-by (eqb i 0) (all fit) (first_false fit) (chosen n root vs x) (sym q ∙ h)
+    pub choice-lowest : v ≡ Ok tt → (k : ℕ) → k ≡ chosen n root vs x → Ok k ≡ idle_choice n root vs i x
+    choice-lowest h k c = ap Ok c ∙ accepted-by (eqb i 0) (all fit) (first_false fit) (chosen n root vs x) (sym q ∙ h)
 
   module _ (st : StartState) where
-    pub index-over : above vs < st.index → Choice.Refused bad_state ≡ choice_of n root vs st x
+    pub index-over : above vs < st.index → Err bad_state ≡ choice_of n root vs st x
     index-over h = sym (simp (lt-leb st.index (above vs) h))
 
     -- by the tests
     abbrev by : Bool → Bool → Choice
-    by can none = guard can (Choice.Refused bad_state) λ _. choose none (λ _. idle_choice n root vs st.index x) (λ _. Choice.Table st.index)
+    by can none = guard can (Err bad_state) λ _. choose none (λ _. idle_choice n root vs st.index x) (λ _. Ok st.index)
 
     module _ (h : st.index ≤ above vs) where
       known : (none : Bool) → is_idle st.state ≡ none → by true none ≡ choice_of n root vs st x
@@ -120,7 +117,7 @@ module _ (n : ℕ) (root : List Side) (vs : List ℤ) (x : List ℤ) where
       pub index-idle : is_idle st.state ≡ true → idle_choice n root vs st.index x ≡ choice_of n root vs st x
       index-idle e = known true e
 
-      pub index-running : is_idle st.state ≡ false → Choice.Table st.index ≡ choice_of n root vs st x
+      pub index-running : is_idle st.state ≡ false → Ok st.index ≡ choice_of n root vs st x
       index-running e = known false e
 
 -- the first that does not hold is no later than one that does not
@@ -141,11 +138,11 @@ module _ (n : ℕ) (root : List Side) (vs : List ℤ) (x : List ℤ) where
       let z : 0 + above vs ≡ above vs = zero-add (above vs) in
       first_under (misses_at n root vs x) (above vs + 1) 0 (above vs) (omega arith) (rw z (ap not e))
 
-  pub choice-within : (st : StartState) (i : ℕ) → choice_of n root vs st x ≡ Choice.Table i → i ≤ above vs
+  pub choice-within : (st : StartState) (i : ℕ) → choice_of n root vs st x ≡ Ok i → i ≤ above vs
   choice-within st i q = go (leb st.index (above vs)) refl (is_idle st.state) (eqb st.index 0) (all (fits_at n root vs x (above vs))) refl q
     where
       go : (a : Bool) → leb st.index (above vs) ≡ a → (none nought held : Bool) → all (fits_at n root vs x (above vs)) ≡ held
-          → guard a (Choice.Refused bad_state) (λ _. choose none (λ _. guard nought (Choice.Refused bad_state) λ _. guard held (Choice.Refused (outside (first_false (fits_at n root vs x (above vs))))) λ _. Choice.Table (chosen n root vs x)) (λ _. Choice.Table st.index)) ≡ Choice.Table i
+          → guard a (Err bad_state) (λ _. choose none (λ _. guard nought (Err bad_state) λ _. guard held (Err (outside (first_false (fits_at n root vs x (above vs))))) λ _. Ok (chosen n root vs x)) (λ _. Ok st.index)) ≡ Ok i
           → i ≤ above vs
       go false p none nought held r q = never cc
       go true p true false held r q = never cc
@@ -159,16 +156,16 @@ module _ (f : Frame) (s : List ℕ) (at i : ℕ) (st : State) (x : List ℤ) (p 
   abbrev behind : ℕ → ℕ → StartAnswer
   behind first size = let t = part s first size in answer_in i first (call (rules_by f [] [] (form_of t)) t st x)
 
-  pub behind-refused : (e : Refusal) → p ≡ Part.Refused e → StartAnswer.Refused e ≡ call_behind f s at i st x
-  behind-refused e h = sym (by_part s i at StartAnswer.Refused behind ∙ ap (λ (o : Part). on_found o StartAnswer.Refused behind) (sym q ∙ h))
+  pub behind-refused : (e : Refusal) → p ≡ Err e → Err e ≡ call_behind f s at i st x
+  behind-refused e h = sym (by_part s i at Err behind ∙ ap (λ (o : Part). on_found o Err behind) (sym q ∙ h))
 
-  pub behind-answered : (first size : ℕ) → p ≡ Part.At first size → (a : Answer) → a ≡ call (rules_by f [] [] (form_of (part s first size))) (part s first size) st x → answer_in i first a ≡ call_behind f s at i st x
-  behind-answered first size h a t = ap (answer_in i first) t ∙ sym (by_part s i at StartAnswer.Refused behind ∙ ap (λ (o : Part). on_found o StartAnswer.Refused behind) (sym q ∙ h))
+  pub behind-answered : (first size : ℕ) → p ≡ Ok (first, size) → (a : Answer) → a ≡ call (rules_by f [] [] (form_of (part s first size))) (part s first size) st x → answer_in i first a ≡ call_behind f s at i st x
+  behind-answered first size h a t = ap (answer_in i first) t ∙ sym (by_part s i at Err behind ∙ ap (λ (o : Part). on_found o Err behind) (sym q ∙ h))
 
 -- ---- the whole, for a plant
 
 module _ (p : Plant) (vs : List ℤ) (s : List ℕ) (at : ℕ) (st : StartState) (x : List ℤ) where
-  pub called-as : on_choice (choice_of p.n (root_of p) vs st x) StartAnswer.Refused (λ i. call_in p vs s at i st.state x) ≡ start_call p vs s at st x
+  pub called-as : on_choice (choice_of p.n (root_of p) vs st x) Err (λ i. call_in p vs s at i st.state x) ≡ start_call p vs s at st x
   called-as = go (leb st.index (above vs)) (is_idle st.state) refl (eqb st.index 0) (all fit)
     where
       fit : List Bool
@@ -178,8 +175,8 @@ module _ (p : Plant) (vs : List ℤ) (s : List ℕ) (at : ℕ) (st : StartState)
       low = chosen p.n (root_of p) vs x
 
       go : (a none : Bool) → is_idle st.state ≡ none → (nought held : Bool)
-          → on_choice (guard a (Choice.Refused bad_state) (λ _. choose none (λ _. guard nought (Choice.Refused bad_state) λ _. guard held (Choice.Refused (outside (first_false fit))) λ _. Choice.Table low) (λ _. Choice.Table st.index))) StartAnswer.Refused (λ i. call_in p vs s at i st.state x)
-          ≡ guard (a && (nought || not none)) (StartAnswer.Refused bad_state) (λ _. choose none (λ _. guard held (StartAnswer.Refused (outside (first_false fit))) λ _. call_in p vs s at low idle x) (λ _. call_in p vs s at st.index st.state x))
+          → on_choice (guard a (Err bad_state) (λ _. choose none (λ _. guard nought (Err bad_state) λ _. guard held (Err (outside (first_false fit))) λ _. Ok low) (λ _. Ok st.index))) Err (λ i. call_in p vs s at i st.state x)
+          ≡ guard (a && (nought || not none)) (Err bad_state) (λ _. choose none (λ _. guard held (Err (outside (first_false fit))) λ _. call_in p vs s at low idle x) (λ _. call_in p vs s at st.index st.state x))
       go false none e nought held = refl
       go true false e true held = refl
       go true false e false held = refl
@@ -190,8 +187,8 @@ module _ (p : Plant) (vs : List ℤ) (s : List ℕ) (at : ℕ) (st : StartState)
 -- the same boxes, the same choice
 abbrev choice_by : ℕ → List Bool → ℕ → StartState → Choice
 choice_by m fit low st =
-    guard (leb st.index m) (Choice.Refused bad_state) λ _.
-    choose (is_idle st.state) (λ _. guard (eqb st.index 0) (Choice.Refused bad_state) λ _. guard (all fit) (Choice.Refused (outside (first_false fit))) λ _. Choice.Table low) (λ _. Choice.Table st.index)
+    guard (leb st.index m) (Err bad_state) λ _.
+    choose (is_idle st.state) (λ _. guard (eqb st.index 0) (Err bad_state) λ _. guard (all fit) (Err (outside (first_false fit))) λ _. Ok low) (λ _. Ok st.index)
 
 choice-same : (n : ℕ) (root : List Side) (vs ws : List ℤ) (st : StartState) (x : List ℤ) → above vs ≡ above ws → ((i : ℕ) → box_at n root vs i ≡ box_at n root ws i)
     → choice_of n root vs st x ≡ choice_of n root ws st x
@@ -204,9 +201,9 @@ choice-same n root vs ws st x e box =
     ∙ ap (λ (k : ℕ). choice_by m (fits_at n root ws x m) k st) low
     ∙ ap (λ (k : ℕ). choice_by k (fits_at n root ws x k) (first_false (tab (misses_at n root ws x) (k + 1) 0)) st) e
 
-on_choice-same : (c : Choice) (f g : ℕ → StartAnswer) → ((i : ℕ) → f i ≡ g i) → on_choice c StartAnswer.Refused f ≡ on_choice c StartAnswer.Refused g
-on_choice-same (Choice.Refused e) f g h = refl
-on_choice-same (Choice.Table i) f g h = h i
+on_choice-same : (c : Choice) (f g : ℕ → StartAnswer) → ((i : ℕ) → f i ≡ g i) → on_choice c Err f ≡ on_choice c Err g
+on_choice-same (Err e) f g h = refl
+on_choice-same (Ok i) f g h = h i
 
 module _ (p : Plant) (rooms : p.n ≤ 4) (edges vs : List ℤ) (q : Edged edges vs) (m : ℕ) (c : m ≡ above vs) where
   pub answer-as : (f : Frame) → f ≡ own_frame p → (s : List ℕ) (at : ℕ) (st : StartState) (x : List ℤ) → start_answer f edges s m at st x ≡ start_call p vs s at st x
@@ -214,20 +211,20 @@ module _ (p : Plant) (rooms : p.n ≤ 4) (edges vs : List ℤ) (q : Edged edges 
       let box : (i : ℕ) → box_at p.n (root_of p) (values_in m edges) i ≡ box_at p.n (root_of p) vs i =
       λ i. sym (box-same p.n rooms edges (values_in m edges) (in-edged m edges) (own_frame p).root i) ∙ box-same p.n rooms edges vs q (own_frame p).root i in
       ap (λ (g : Frame). start_answer g edges s m at st x) e
-      ∙ ap (λ (o : Choice). on_choice o StartAnswer.Refused (λ i. call_behind (frame_at (own_frame p) edges i) s at i st.state x)) (choice-same p.n (root_of p) (values_in m edges) vs st x c box)
+      ∙ ap (λ (o : Choice). on_choice o Err (λ i. call_behind (frame_at (own_frame p) edges i) s at i st.state x)) (choice-same p.n (root_of p) (values_in m edges) vs st x c box)
       ∙ on_choice-same (choice_of p.n (root_of p) vs st x) (λ i. call_behind (frame_at (own_frame p) edges i) s at i st.state x) (λ i. call_in p vs s at i st.state x)
-      (λ i. by-rules i (frame_at (own_frame p) edges i) ∙ answers_at p rooms edges vs q (λ root goal. on_part i s at StartAnswer.Refused λ first size. let t = part s first size in answer_in i first (call (table_rules (form_of t) p root goal) t st.state x)) i)
+      (λ i. by-rules i (frame_at (own_frame p) edges i) ∙ answers_at p rooms edges vs q (λ root goal. on_part i s at Err λ first size. let t = part s first size in answer_in i first (call (table_rules (form_of t) p root goal) t st.state x)) i)
       ∙ called-as p vs s at st x
     where
       -- a call hangs on no band and no coefficient
-      by-rules : (i : ℕ) (f : Frame) → call_behind f s at i st.state x ≡ on_part i s at StartAnswer.Refused λ first size. let t = part s first size in answer_in i first (call (rules_by f p.bands p.coef (form_of t)) t st.state x)
-      by-rules i f = ap (λ (answer : List ℕ → Answer). on_part i s at StartAnswer.Refused λ first size. answer_in i first (answer (part s first size))) (fun_ext (λ t. call_by (formed f (form_of t)) [] [] p.bands p.coef t st.state x))
+      by-rules : (i : ℕ) (f : Frame) → call_behind f s at i st.state x ≡ on_part i s at Err λ first size. let t = part s first size in answer_in i first (call (rules_by f p.bands p.coef (form_of t)) t st.state x)
+      by-rules i f = ap (λ (answer : List ℕ → Answer). on_part i s at Err λ first size. answer_in i first (answer (part s first size))) (fun_ext (λ t. call_by (formed f (form_of t)) [] [] p.bands p.coef t st.state x))
 
 module _ (plant start : List ℕ) (st : StartState) (x : List ℤ) where
-  pub plant-bad : (e : Refusal) → plant_judged plant ≡ bad e → StartAnswer.Refused e ≡ start_controlled plant start st x
+  pub plant-bad : (e : Refusal) → plant_judged plant ≡ bad e → Err e ≡ start_controlled plant start st x
   unfolding S.start_controlled
   plant-bad e h = rw h refl
 
-  pub plant-good : (p : Plant) → plant_judged plant ≡ good p → on_start p start StartAnswer.Refused (λ vs next. start_call p vs start next st x) ≡ start_controlled plant start st x
+  pub plant-good : (p : Plant) → plant_judged plant ≡ good p → on_start p start Err (λ vs next. start_call p vs start next st x) ≡ start_controlled plant start st x
   unfolding S.start_controlled
   plant-good p h = rw h refl

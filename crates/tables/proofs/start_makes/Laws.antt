@@ -1,5 +1,6 @@
 -- The start file, written: a table behind its length; the tables of the boxes one after another; the chain's bytes before them; and the whole by what was
 -- read of the chain. Assumes nothing.
+use Rattle.std.specs.Prelude.{Some, None, Ok, Err}
 use Prim.Native.Nat.{ℕ, zero, suc, ◌+◌, ◌-◌, ◌≤◌, ◌<◌}
 use mathlib.Core.Path.{◌≡◌, refl, sym, ap, ◌∙◌}
 use mathlib.Core.Bool.{Bool, true, false}
@@ -11,10 +12,8 @@ use lib.ListN.{length}
 use Rattle.laws.specs.Guards.{guard}
 use Rattle.laws.specs.Tests.{never}
 use Rattle.laws.specs.Writing.{Put, put-append, put-length, put-none}
+use Rattle.meaning.specs.Answers.{Walk}
 use Rattle.meaning.specs.declared.Refusal.{Refusal}
-use Rattle.meaning.specs.declared.Verdict.{Verdict}
-use Rattle.meaning.specs.declared.Walk.{Walk}
-use Rattle.meaning.specs.declared.Written.{Written}
 use Rattle.meaning.specs.Refusals.{wrong_form, no_table, short}
 use Rattle.meaning.specs.Buffers.{Left, refused_with, left}
 use Rattle.meaning.specs.Defined.{map_some, defined_tree}
@@ -28,7 +27,6 @@ use Rattle.meaning.specs.Tables.{known_form, rules_from, defined_table}
 use Rattle.meaning.specs.Trees.{Tree, table_of}
 use Rattle.promises.specs.Files.Files.{file-writes}
 use Rattle.tables.specs.declared.chains.ChainRead.{ChainRead}
-use Rattle.tables.specs.declared.drafts.Grown.{Grown}
 use Rattle.tables.specs.declared.frames.Frame.{Frame}
 use Rattle.tables.specs.Boxes.{box_of}
 use Rattle.tables.specs.Chains.{chain_read}
@@ -42,21 +40,21 @@ use Rattle.tables.proofs.turns.Laws.{put-fits, put-short}
 -- ---- a table behind its length
 
 module _ (r : Rules) (buf : List ℕ) (at : ℕ) where
-  pub part_none : defined_tree r ≡ none → Wrote (part_bytes r) buf at Grown.Nothing buf
+  pub part_none : defined_tree r ≡ none → Wrote (part_bytes r) buf at None buf
   part_none e = rw e refl
 
   pub part-wrote : (t : Tree) → defined_tree r ≡ some t → (bytes : List ℕ) → table_of r t ≡ bytes → {size past : ℕ} {mid : List ℕ} {next : ℕ} {out : List ℕ} → size ≡ length bytes
-      → Put buf at (bytes_of size) past mid → Put mid past bytes next out → Wrote (part_bytes r) buf at (Grown.Next next) out
+      → Put buf at (bytes_of size) past mid → Put mid past bytes next out → Wrote (part_bytes r) buf at (Some next) out
   part-wrote t e bytes q l p w = rw (e, q) (put-append (rw l at p) w)
 
 -- and those behind it
 parts-behind : (t : List ℕ) {buf : List ℕ} {at next : ℕ} {mid : List ℕ} → Put buf at (with_length t) next mid
     → (j : Judged (List (List ℕ))) (a : Walk) (out : List ℕ) → WroteParts j mid next a out → WroteParts (table_with t j) buf at a out
 unfolding parts_of
-parts-behind t p (good ts) (Walk.Next n) out w = rw (← append_assoc (bytes_of (length t)) t (parts_of ts)) (put-append p w)
-parts-behind t p (good ts) (Walk.Refused e) out w = w
-parts-behind t p (bad e) (Walk.Next n) out w = w
-parts-behind t p (bad e) (Walk.Refused f) out w = (w.0, w.1 ∙ put-length p)
+parts-behind t p (good ts) (Ok n) out w = rw (← append_assoc (bytes_of (length t)) t (parts_of ts)) (put-append p w)
+parts-behind t p (good ts) (Err e) out w = w
+parts-behind t p (bad e) (Ok n) out w = w
+parts-behind t p (bad e) (Err f) out w = (w.0, w.1 ∙ put-length p)
 
 -- ---- the tables of some boxes, in a loop: those of `rest` are to be written, from `place` on
 
@@ -70,9 +68,9 @@ pub parts-begin : (r : ℕ → Rules) (m : ℕ) (buf : List ℕ) (at : ℕ) → 
 parts-begin r m buf at h = let q : m + 1 - 0 ≡ m + 1 = omega arith in rw q (record { long = refl; within = h; goes = λ a out w. w })
 
 module _ (r : ℕ → Rules) (m i : ℕ) (buf₀ : List ℕ) (at : ℕ) (whole : Judged (List (List ℕ))) (place : ℕ) (buf : List ℕ) (g : Going buf₀ at whole (tables_from r (m + 1 - i) i) place buf) where
-  pub parts-done : m < i → WroteParts whole buf₀ at (Walk.Next place) buf
+  pub parts-done : m < i → WroteParts whole buf₀ at (Ok place) buf
   unfolding tables_from parts_of
-  parts-done h = g.goes (Walk.Next place) buf (rw at-end (put-none buf place g.within))
+  parts-done h = g.goes (Ok place) buf (rw at-end (put-none buf place g.within))
     where
       at-end : tables_from r (m + 1 - i) i ≡ good []
       at-end = let k : m + 1 - i ≡ 0 = omega arith in rw k refl
@@ -86,17 +84,17 @@ module _ (r : ℕ → Rules) (m i : ℕ) (buf₀ : List ℕ) (at : ℕ) (whole :
         let q : i + 1 ≡ suc i = omega arith in
         rw (k, q, e) refl
 
-    pub parts-stopped : a ≡ Grown.Nothing → (e : Refusal) → e ≡ no_table i → WroteParts whole buf₀ at (Walk.Refused e) out
+    pub parts-stopped : a ≡ None → (e : Refusal) → e ≡ no_table i → WroteParts whole buf₀ at (Err e) out
     parts-stopped z e q = go (defined_tree (r i)) refl (rw z at w)
       where
-        go : (o : Option Tree) → defined_tree (r i) ≡ o → Wrote (map_some (λ t. with_length (table_of (r i) t)) o) buf place Grown.Nothing out → WroteParts whole buf₀ at (Walk.Refused e) out
+        go : (o : Option Tree) → defined_tree (r i) ≡ o → Wrote (map_some (λ t. with_length (table_of (r i) t)) o) buf place None out → WroteParts whole buf₀ at (Err e) out
         go (some t) d v = absurd v
-        go none d v = g.goes (Walk.Refused e) out (rw (next-box (bad (no_table i)) (table_none (r i) i d)) (q, v))
+        go none d v = g.goes (Err e) out (rw (next-box (bad (no_table i)) (table_none (r i) i d)) (q, v))
 
-    pub parts_more : (next : ℕ) → a ≡ Grown.Next next → Going buf₀ at whole (tables_from r (m + 1 - (i + 1)) (i + 1)) next out
+    pub parts_more : (next : ℕ) → a ≡ Some next → Going buf₀ at whole (tables_from r (m + 1 - (i + 1)) (i + 1)) next out
     parts_more next z = go (defined_tree (r i)) refl (rw z at w)
       where
-        go : (o : Option Tree) → defined_tree (r i) ≡ o → Wrote (map_some (λ t. with_length (table_of (r i) t)) o) buf place (Grown.Next next) out
+        go : (o : Option Tree) → defined_tree (r i) ≡ o → Wrote (map_some (λ t. with_length (table_of (r i) t)) o) buf place (Some next) out
             → Going buf₀ at whole (tables_from r (m + 1 - (i + 1)) (i + 1)) next out
         go none d v = absurd v
         go (some t) d v = record {
@@ -108,17 +106,17 @@ module _ (r : ℕ → Rules) (m i : ℕ) (buf₀ : List ℕ) (at : ℕ) (whole :
 -- ---- the whole file: the chain's bytes, then the tables
 
 module _ (chain buf : List ℕ) (j : Judged (List (List ℕ))) {past : ℕ} {mid : List ℕ} (p : Put buf 0 chain past mid) (a : Walk) (out : List ℕ) (w : WroteParts j mid past a out) where
-  pub start-refused : (e : Refusal) → a ≡ Walk.Refused e → refused_with e out ≡ left (behind_chain chain j) buf
+  pub start-refused : (e : Refusal) → a ≡ Err e → refused_with e out ≡ left (behind_chain chain j) buf
   start-refused e z = go j (rw z at w)
     where
-      go : (j : Judged (List (List ℕ))) → WroteParts j mid past (Walk.Refused e) out → refused_with e out ≡ left (behind_chain chain j) buf
+      go : (j : Judged (List (List ℕ))) → WroteParts j mid past (Err e) out → refused_with e out ≡ left (behind_chain chain j) buf
       go (good ts) v = absurd v
       go (bad f) v =
           let d : e ≡ f = v.0 in
           let l : length out ≡ length buf = v.1 ∙ put-length p in
           rw (d, l) refl
 
-  module _ (size : ℕ) (z : a ≡ Walk.Next size) where
+  module _ (size : ℕ) (z : a ≡ Ok size) where
     -- the whole was written
     record Started : Type 0 where
       ts : List (List ℕ)
@@ -128,14 +126,14 @@ module _ (chain buf : List ℕ) (j : Judged (List (List ℕ))) {past : ℕ} {mid
     started : Started
     started = go j refl (rw z at w)
       where
-        go : (k : Judged (List (List ℕ))) → j ≡ k → WroteParts k mid past (Walk.Next size) out → Started
+        go : (k : Judged (List (List ℕ))) → j ≡ k → WroteParts k mid past (Ok size) out → Started
         go (good ts) e v = record { ts = ts; is = e; put = put-append p v }
         go (bad f) e v = absurd v
 
     pub start-short : length out < size → refused_with short out ≡ left (behind_chain chain j) buf
     start-short h = let s = started in let e : j ≡ good s.ts = s.is in rw e (put-short (chain ++ parts_of s.ts) buf size out s.put h)
 
-    pub start_fits : size ≤ length out → record { answer = Written.Length size; buffer = out } ≡ left (behind_chain chain j) buf
+    pub start_fits : size ≤ length out → record { answer = Ok size; buffer = out } ≡ left (behind_chain chain j) buf
     start_fits h = let s = started in let e : j ≡ good s.ts = s.is in rw e (put-fits (chain ++ parts_of s.ts) buf size out s.put h)
 
 -- ---- the whole by what was read of the chain
@@ -151,7 +149,7 @@ module _ (f : Frame) (bands coef : List ℤ) (chain : List ℕ) (form : ℕ) (bu
   abbrev rest : List ℤ → ℕ → Judged (List ℕ)
   rest vs next = guard (known_form form) (bad wrong_form) λ _. start_bytes f.n vs (tables_from (values_rules (formed f form) bands coef vs) (above vs + 1) 0)
 
-  pub chain-bad : (e : Refusal) → r.verdict ≡ Verdict.Refused e → refused_with e buf ≡ chain_left f bands coef chain form buf
+  pub chain-bad : (e : Refusal) → r.verdict ≡ Err e → refused_with e buf ≡ chain_left f bands coef chain form buf
   chain-bad e h = ap (λ (j : Judged (List ℕ)). left j buf) (chain-refused true f chain r q e h bad rest)
 
   pub chain-unknown : Chained true f chain r → known_form form ≡ false → refused_with wrong_form buf ≡ chain_left f bands coef chain form buf

@@ -1,5 +1,6 @@
 -- Laws of a state for the proofs of module states: each test that fails alone, and all of them together; the mode at a place with none left, one, and
 -- more. Assumes nothing.
+use Rattle.std.specs.Prelude.{Some, None, Ok, Err}
 use Prim.Native.Nat.{ℕ, zero, suc, ◌-◌, ◌≤◌, ◌<◌}
 use mathlib.Core.Path.{◌≡◌, refl, sym, ap, ◌∙◌}
 use mathlib.Core.Bool.{Bool, true, false, ◌&&◌}
@@ -7,10 +8,8 @@ use mathlib.Core.List.{List}
 use native.Mathlib.Omega.{arith}
 use lib.Dec.{leb}
 use borrow.Author.Tests.{le-leb, lt-leb}
-use Rattle.meaning.specs.declared.Answer.{Answer}
-use Rattle.meaning.specs.declared.Number.{Number}
+use Rattle.meaning.specs.Answers.{Walk}
 use Rattle.meaning.specs.declared.Refusal.{Refusal}
-use Rattle.meaning.specs.declared.Walk.{Walk}
 use Rattle.meaning.specs.Control.{idle, are_read, can_run, mode_at}
 use Rattle.meaning.specs.Numbers.{number_at}
 use Rattle.meaning.specs.Refusals.{bad_state}
@@ -33,25 +32,25 @@ module _ (K N : ℕ) (s : List ℕ) (place left : ℕ) where
     by-modes : are_read (told w us) ≡ can_run K N s place left
     by-modes = ap are_read q ∙ simp (le-leb left K a, le-leb 2 place b)
 
-    pub not-read : (e : Refusal) → w ≡ Walk.Refused e → false ≡ can_run K N s place left
+    pub not-read : (e : Refusal) → w ≡ Err e → false ≡ can_run K N s place left
     not-read e h = sym (ap (λ (v : Walk). are_read (told v us)) h) ∙ by-modes
 
-    pub all_read : (next : ℕ) → w ≡ Walk.Next next → true ≡ can_run K N s place left
+    pub all_read : (next : ℕ) → w ≡ Ok next → true ≡ can_run K N s place left
     all_read next h = sym (ap (λ (v : Walk). are_read (told v us)) h) ∙ by-modes
 
 module _ (s : List ℕ) (place : ℕ) where
-  pub none_left : (left : ℕ) → left ≡ 0 → Answer.Refused bad_state ≡ mode_at s place left
+  pub none_left : (left : ℕ) → left ≡ 0 → Err bad_state ≡ mode_at s place left
   none_left left e = rw e refl
 
-  pub no_mode : number_at s place ≡ Number.Broken → (left : ℕ) → Answer.Refused bad_state ≡ mode_at s place left
+  pub no_mode : number_at s place ≡ None → (left : ℕ) → Err bad_state ≡ mode_at s place left
   no_mode e zero = refl
   no_mode e (suc m) = rw e refl
 
-  module _ (u next : ℕ) (e : number_at s place ≡ Number.Value u next) where
-    pub last-mode : (left : ℕ) → left ≡ 1 → Answer.Mode u idle ≡ mode_at s place left
+  module _ (u next : ℕ) (e : number_at s place ≡ Some (u, next)) where
+    pub last-mode : (left : ℕ) → left ≡ 1 → Ok (u, idle) ≡ mode_at s place left
     last-mode left q = rw (q, e) refl
 
-    pub more-modes : (left : ℕ) → (left ≡ 0 → ⊥) → (left ≡ 1 → ⊥) → Answer.Mode u (record { place = next; left = left - 1 }) ≡ mode_at s place left
+    pub more-modes : (left : ℕ) → (left ≡ 0 → ⊥) → (left ≡ 1 → ⊥) → Ok (u, record { place = next; left = left - 1 }) ≡ mode_at s place left
     more-modes zero h z = absurd (h refl)
     more-modes (suc zero) h z = absurd (z refl)
     more-modes (suc (suc m)) h z = let q : suc (suc m) - 1 ≡ suc m = omega arith in rw (q, e) refl

@@ -1,5 +1,6 @@
 -- A tree that lies in some bytes, taken apart as the code reads it: a tile's numbers, a split's lengths, its trees one after another. Then the three loops over
 -- these: their sizes, their lengths, and they themselves in the other layout. Assumes nothing.
+use Rattle.std.specs.Prelude.{Some, None, Ok}
 use Prim.Native.Nat.{ℕ, zero, suc, ◌+◌, ◌-◌, ◌^◌, ◌≤◌, ◌<◌}
 use mathlib.Core.Path.{◌≡◌, refl, sym, ap, ◌∙◌}
 use mathlib.Core.Bool.{Bool, true, false, not}
@@ -14,9 +15,6 @@ use borrow.Author.Tests.{lt-ltb, le-ltb, le-leb}
 use Rattle.laws.specs.Standing.{Stands, stand-front, stand-back, stand-within}
 use Rattle.laws.specs.Tests.{never}
 use Rattle.laws.specs.Writing.{Put, Under, put-append, put-length, under_none, under_more, under-done}
-use Rattle.meaning.specs.declared.Number.{Number}
-use Rattle.meaning.specs.declared.Walk.{Walk}
-use Rattle.meaning.specs.declared.Written.{Written}
 use Rattle.meaning.specs.Boxes.{Side}
 use Rattle.meaning.specs.Buffers.{refused_with, left}
 use Rattle.meaning.specs.Files.{read, good}
@@ -35,18 +33,18 @@ use Rattle.tables.specs.Lengths.{behind_at}
 use Rattle.tables.proofs.lengths.Laws.{behind_more}
 use Rattle.tables.specs.Turns.{shapes, CountsSound, most_tree, TreeLies, TreesLie, SplitLies, length_if}
 
-value_same : {k next j m : ℕ} → Number.Value k next ≡ Number.Value j m → (k ≡ j) × (next ≡ m)
+value_same : {k next j m : ℕ} → Some (k, next) ≡ Some (j, m) → (k ≡ j) × (next ≡ m)
 value_same e = (cc, cc)
 
 -- ---- a tile: the place behind its modes
 
-modes-behind : (N : ℕ) → N ≤ 2 ^ 35 → (us s : List ℕ) (at m : ℕ) → AllBelow N us → Stands s at (modes_bytes us) m → behind_at (length us) s at ≡ Walk.Next m
+modes-behind : (N : ℕ) → N ≤ 2 ^ 35 → (us s : List ℕ) (at m : ℕ) → AllBelow N us → Stands s at (modes_bytes us) m → behind_at (length us) s at ≡ Ok m
 unfolding lengths_at AllBelow modes_bytes
 modes-behind N small [] s at m h p = let q : m ≡ at = omega (arith, p.end) in rw q refl
 modes-behind N small (u ∷ us) s at m h p =
     let mid = at + length (bytes_of u) in
-    let e : number_at s at ≡ Number.Value u mid = reads u at mid s (omega (arith, h.0)) (stand-front (bytes_of u) (modes_bytes us) p) in
-    let rest : behind_at (length us) s mid ≡ Walk.Next m = modes-behind N small us s mid m h.1 (stand-back (bytes_of u) (modes_bytes us) p) in
+    let e : number_at s at ≡ Some (u, mid) = reads u at mid s (omega (arith, h.0)) (stand-front (bytes_of u) (modes_bytes us) p) in
+    let rest : behind_at (length us) s mid ≡ Ok m = modes-behind N small us s mid m h.1 (stand-back (bytes_of u) (modes_bytes us) p) in
     let one : suc (length us) - 1 ≡ length us = omega arith in
     sym (behind_more s (suc (length us)) at (omega arith) u mid e) ∙ rw one rest
 
@@ -55,11 +53,11 @@ modes-behind N small (u ∷ us) s at m h p =
 module _ (f : Counts) (told : Bool) (s : List ℕ) (d : ℕ) (b : List Side) (at : ℕ) (sound : CountsSound f) where
   -- a tile's number, and a split's
   tile-number : (us : List ℕ) (m : ℕ) → Pattern f.k f.modes us → Stands s at (bytes_of (length us) ++ modes_bytes us) m
-      → number_at s at ≡ Number.Value (length us) (at + length (bytes_of (length us)))
+      → number_at s at ≡ Some (length us, at + length (bytes_of (length us)))
   tile-number us m g p =
       reads (length us) at (at + length (bytes_of (length us))) s (omega (arith, g.few, sound.1)) (stand-front (bytes_of (length us)) (modes_bytes us) p)
 
-  pub lies-read : (t : Tree) (m : ℕ) → TreeLies f told s d b at t m → number_at s at ≡ Number.Broken → ⊥
+  pub lies-read : (t : Tree) (m : ℕ) → TreeLies f told s d b at t m → number_at s at ≡ None → ⊥
   unfolding layout Over
   lies-read (tile us) m l e = let q = sym e ∙ tile-number us m l.over l.stand in never cc
   lies-read (split g) m l e = let q = sym e ∙ split-read _ s at m l.stand in never cc
@@ -68,7 +66,7 @@ module _ (f : Counts) (told : Bool) (s : List ℕ) (d : ℕ) (b : List Side) (at
     pub record WasTile : Type 0 where
       pub modes : List ℕ
       pub is : t ≡ tile modes
-      pub behind : behind_at k s next ≡ Walk.Next m
+      pub behind : behind_at k s next ≡ Ok m
       -- a tile is laid out alike
       pub same : (other : Bool) → layout other t ≡ layout told t
 
@@ -81,7 +79,7 @@ module _ (f : Counts) (told : Bool) (s : List ℕ) (d : ℕ) (b : List Side) (at
       pub first : ℕ
       pub lie : SplitLies f told s (d - 1) (children_by f.form b) next first trees m
 
-  pub was-tile : (k next : ℕ) → number_at s at ≡ Number.Value k next → (t : Tree) (m : ℕ) (l : TreeLies f told s d b at t m) → 0 < k → WasTile k next t m l
+  pub was-tile : (k next : ℕ) → number_at s at ≡ Some (k, next) → (t : Tree) (m : ℕ) (l : TreeLies f told s d b at t m) → 0 < k → WasTile k next t m l
   unfolding layout Over
   was-tile k next e (split g) m l z = let q = value_same (sym e ∙ split-read _ s at m l.stand) in absurd (omega (arith, q.0))
   was-tile k next e (tile us) m l z =
@@ -98,7 +96,7 @@ module _ (f : Counts) (told : Bool) (s : List ℕ) (d : ℕ) (b : List Side) (at
   some-children [] z = absurd (z refl)
   some-children (c ∷ cs) z = omega arith
 
-  pub was-split : (k next : ℕ) → number_at s at ≡ Number.Value k next → (t : Tree) (m : ℕ) (l : TreeLies f told s d b at t m) → k ≤ 0 → WasSplit k next t m l
+  pub was-split : (k next : ℕ) → number_at s at ≡ Some (k, next) → (t : Tree) (m : ℕ) (l : TreeLies f told s d b at t m) → k ≤ 0 → WasSplit k next t m l
   unfolding layout Over
   was-split k next e (tile us) m l z =
       let q = value_same (sym e ∙ tile-number us m l.over l.stand) in
@@ -267,7 +265,7 @@ module _ (f : Counts) (s : List ℕ) (d : ℕ) (bs : List (List Side)) (buf₀ :
 
 -- the place behind lengths that are told
 pub told-behind : (f : Counts) (s : List ℕ) (d : ℕ) (bs : List (List Side)) (at first : ℕ) (g : Forest) (m : ℕ) → SplitLies f true s d bs at first g m
-    → behind_at (length bs - 1) s at ≡ Walk.Next first
+    → behind_at (length bs - 1) s at ≡ Ok first
 told-behind f s d bs at first g m l =
     let t = l.trees in
     let w = lengths_read true g s at first (short-small true g (omega (arith, t.short))) l.told-there in
@@ -317,7 +315,7 @@ tree-within f told s d b at t m l = (omega (arith, l.stand.end), stand-within s 
 
 -- ---- what was written straight into the lent buffer, as a writer leaves it: where it fits, and where it does not
 
-pub put-fits : (bytes buf : List ℕ) (size : ℕ) (out : List ℕ) → Put buf 0 bytes size out → size ≤ length out → record { answer = Written.Length size; buffer = out } ≡ left (good bytes) buf
+pub put-fits : (bytes buf : List ℕ) (size : ℕ) (out : List ℕ) → Put buf 0 bytes size out → size ≤ length out → record { answer = Ok size; buffer = out } ≡ left (good bytes) buf
 put-fits bytes buf size out t h =
     let l : length out ≡ length buf = put-length t in
     let n : size ≡ length bytes = omega (arith, t.place) in

@@ -1,6 +1,7 @@
 -- The walk over a table's tree at the rules of a frame, in the terms of the code: a tile by its modes and the judge of them, a node, and a loop over a
 -- split's children, each held to its length where one is told. Stated once over the flag, for checker and passing alike. Where no lengths are told, page Untold has
 -- the children. Relies on promises' page Walking.
+use Rattle.std.specs.Prelude.{Some, None, Ok, Err}
 use Prim.Native.Nat.{ℕ, suc, ◌+◌, ◌-◌, ◌≤◌, ◌<◌}
 use mathlib.Core.Path.{◌≡◌, refl, sym, ap, ◌∙◌, fun_ext}
 use mathlib.Core.Bool.{Bool, true, false}
@@ -12,10 +13,9 @@ use lib.ListN.{length, get_or, drop}
 use borrow.Author.Tests.{ltb-true, ltb-false, eqb-true, eqb-false}
 use Rattle.laws.specs.Guards.{guard}
 use Rattle.laws.specs.Tests.{never}
-use Rattle.meaning.specs.declared.Number.{Number}
+use Rattle.meaning.specs.Answers.{Walk}
 use Rattle.meaning.specs.declared.Refusal.{Refusal}
 use Rattle.meaning.specs.declared.Tried.{Tried}
-use Rattle.meaning.specs.declared.Walk.{Walk}
 use Rattle.meaning.specs.Boxes.{Side, within}
 use Rattle.meaning.specs.Files.{Read, read}
 use Rattle.meaning.specs.Images.{image}
@@ -38,10 +38,10 @@ use Rattle.tables.proofs.lengths.Laws.{OneRead, one-read, behind-read, behind-re
 -- ---- a tile: what its modes were told as, and what its judge says of them
 
 module _ (modes : Read (List ℕ)) (at : ℕ) (judge : List ℕ → Tried) (a : Walk) (us : List ℕ) (q : told a us ≡ modes) where
-  pub tile-stopped : (e : Refusal) → a ≡ Walk.Refused e → Walk.Refused e ≡ on_modes modes at judge
+  pub tile-stopped : (e : Refusal) → a ≡ Err e → Err e ≡ on_modes modes at judge
   tile-stopped e h = rw (← q, h) refl
 
-  pub tile-judged : (m : ℕ) → a ≡ Walk.Next m → (v : Tried) → v ≡ judge us → on_tried v at m ≡ on_modes modes at judge
+  pub tile-judged : (m : ℕ) → a ≡ Ok m → (v : Tried) → v ≡ judge us → on_tried v at m ≡ on_modes modes at judge
   tile-judged m h v e = rw (← q, h, e) refl
 
 -- ---- children in a loop: c of them are done, behind them is `place`, and of the lengths that the split tells, many, those to come stand at the cursor
@@ -53,7 +53,7 @@ pub record Left (one : ℕ → List Side → Walk) (kids : List (List Side)) (s 
   pub rest : each one (drop c kids) lengths place ≡ whole
 
 module _ (one : ℕ → List Side → Walk) (kids : List (List Side)) (s : List ℕ) (many c cursor place : ℕ) (whole : Walk) (left : Left one kids s many c cursor place whole) where
-  pub left-done : length kids ≤ c → Walk.Next place ≡ whole
+  pub left-done : length kids ≤ c → Ok place ≡ whole
   left-done h = sym (each-done one kids c place left.lengths h) ∙ left.rest
 
   -- the next one, and what was answered for it
@@ -61,10 +61,10 @@ module _ (one : ℕ → List Side → Walk) (kids : List (List Side)) (s : List 
     came : one place (get_or kids c []) ≡ v
     came = ap (λ (k : List Side). one place k) (sym q) ∙ sym e
 
-    pub left-stopped : (x : Refusal) → v ≡ Walk.Refused x → v ≡ whole
+    pub left-stopped : (x : Refusal) → v ≡ Err x → v ≡ whole
     left-stopped x g = g ∙ sym (each-refused one kids c place [] left.lengths x h (came ∙ g)) ∙ left.rest
 
-    module _ (m : ℕ) (g : v ≡ Walk.Next m) where
+    module _ (m : ℕ) (g : v ≡ Ok m) where
       -- of which no length is told
       last : many ≤ c → Left one kids s many (c + 1) cursor m whole
       unfolding lengths_at
@@ -94,13 +94,13 @@ module _ (one : ℕ → List Side → Walk) (kids : List (List Side)) (s : List 
         there : each one (drop c kids) (length_at cursor size ∷ others) place ≡ whole
         there = ap (λ (ls : List Length). each one (drop c kids) ls place) (sym next-read.all) ∙ left.rest
 
-        tested : held_at true s cursor place m ≡ guard (eqb m (place + size)) (Walk.Refused (bad_table cursor)) (λ _. Walk.Next next-read.next)
+        tested : held_at true s cursor place m ≡ guard (eqb m (place + size)) (Err (bad_table cursor)) (λ _. Ok next-read.next)
         tested = rw next-read.number refl
 
-        right : (then : ℕ) → held_at true s cursor place m ≡ Walk.Next then → Left one kids s many (c + 1) then m whole
+        right : (then : ℕ) → held_at true s cursor place m ≡ Ok then → Left one kids s many (c + 1) then m whole
         right then w = go (eqb m (place + size)) refl (sym tested ∙ w)
           where
-            go : (t : Bool) → eqb m (place + size) ≡ t → guard t (Walk.Refused (bad_table cursor)) (λ _. Walk.Next next-read.next) ≡ Walk.Next then → Left one kids s many (c + 1) then m whole
+            go : (t : Bool) → eqb m (place + size) ≡ t → guard t (Err (bad_table cursor)) (λ _. Ok next-read.next) ≡ Ok then → Left one kids s many (c + 1) then m whole
             go false p w = never cc
             go true p w =
                 let z : next-read.next ≡ then = cc in
@@ -111,26 +111,26 @@ module _ (one : ℕ → List Side → Walk) (kids : List (List Side)) (s : List 
                   rest = sym (each-held one kids c place [] (length_at cursor size) others m h (came ∙ g) (eqb-true m (place + size) p)) ∙ there;
                 }
 
-        wrong : (x : Refusal) → held_at true s cursor place m ≡ Walk.Refused x → Walk.Refused x ≡ whole
+        wrong : (x : Refusal) → held_at true s cursor place m ≡ Err x → Err x ≡ whole
         wrong x w = go (eqb m (place + size)) refl (sym tested ∙ w)
           where
-            go : (t : Bool) → eqb m (place + size) ≡ t → guard t (Walk.Refused (bad_table cursor)) (λ _. Walk.Next next-read.next) ≡ Walk.Refused x → Walk.Refused x ≡ whole
+            go : (t : Bool) → eqb m (place + size) ≡ t → guard t (Err (bad_table cursor)) (λ _. Ok next-read.next) ≡ Err x → Err x ≡ whole
             go true p w = never cc
             go false p w = sym w ∙ sym (each-wrong one kids c place [] (length_at cursor size) others m h (came ∙ g) (eqb-false m (place + size) p)) ∙ there
 
       -- by what was answered for its length
       module _ (w : Walk) (a : w ≡ held_at (ltb c many) s cursor place m) where
-        pub left-more : (then : ℕ) → w ≡ Walk.Next then → Left one kids s many (c + 1) then m whole
+        pub left-more : (then : ℕ) → w ≡ Ok then → Left one kids s many (c + 1) then m whole
         left-more then b = go (ltb c many) refl (sym a ∙ b)
           where
-            go : (t : Bool) → ltb c many ≡ t → held_at t s cursor place m ≡ Walk.Next then → Left one kids s many (c + 1) then m whole
+            go : (t : Bool) → ltb c many ≡ t → held_at t s cursor place m ≡ Ok then → Left one kids s many (c + 1) then m whole
             go true p k = right (ltb-true c many p) then k
             go false p k = let z : cursor ≡ then = cc in rw z at (last (ltb-false c many p))
 
-        pub left-wrong : (x : Refusal) → w ≡ Walk.Refused x → w ≡ whole
+        pub left-wrong : (x : Refusal) → w ≡ Err x → w ≡ whole
         left-wrong x b = b ∙ go (ltb c many) refl (sym a ∙ b)
           where
-            go : (t : Bool) → ltb c many ≡ t → held_at t s cursor place m ≡ Walk.Refused x → Walk.Refused x ≡ whole
+            go : (t : Bool) → ltb c many ≡ t → held_at t s cursor place m ≡ Err x → Err x ≡ whole
             go true p k = wrong (ltb-true c many p) x k
             go false p k = never cc
 
@@ -149,24 +149,24 @@ module _ (f : Frame) (bands coef : List ℤ) (judged : Bool) where
   -- ---- a node
 
   module _ (d : ℕ) (s : List ℕ) (at : ℕ) (b : List Side) where
-    pub tree-broken : number_at s at ≡ Number.Broken → Walk.Refused (broken at) ≡ tree d s at b
+    pub tree-broken : number_at s at ≡ None → Err (broken at) ≡ tree d s at b
     tree-broken e = sym (walk-broken (rules_in f bands coef) judge d s at b e)
 
-    module _ (k m : ℕ) (e : number_at s at ≡ Number.Value k m) where
-      pub tree_over : f.k < k → Walk.Refused (bad_table at) ≡ tree d s at b
+    module _ (k m : ℕ) (e : number_at s at ≡ Some (k, m)) where
+      pub tree_over : f.k < k → Err (bad_table at) ≡ tree d s at b
       tree_over h = sym (walk-over (rules_in f bands coef) judge d s at b k m e h)
 
       pub tree-tile : 0 < k → k ≤ f.k → on_modes (modes_at f.modes k s m) at (judge b) ≡ tree d s at b
       tree-tile h l = sym (walk-tile (rules_in f bands coef) judge d s at b k m e (omega arith) l)
 
       module _ (z : k ≤ 0) where
-        split : number_at s at ≡ Number.Value 0 m
+        split : number_at s at ≡ Some (0, m)
         split = let q : k ≡ 0 = omega arith in rw q at e
 
-        pub tree-deep : d ≡ 0 → Walk.Refused (bad_table at) ≡ tree d s at b
+        pub tree-deep : d ≡ 0 → Err (bad_table at) ≡ tree d s at b
         tree-deep h = sym (walk-deep (rules_in f bands coef) judge d s at b m split h)
 
-        pub tree-stuck : length (children_by f.form b) ≡ 0 → Walk.Refused (bad_table at) ≡ tree d s at b
+        pub tree-stuck : length (children_by f.form b) ≡ 0 → Err (bad_table at) ≡ tree d s at b
         tree-stuck h = sym (walk-stuck (rules_in f bands coef) judge d s at b m split (none (children_by f.form b) h))
 
         -- many lengths are told, and behind them the children begin
@@ -175,7 +175,7 @@ module _ (f : Frame) (bands coef : List ℤ) (judged : Bool) where
           kids = children_by f.form b
 
           abbrev behind : Read (List Length) → Walk
-          behind o = on_read o Walk.Refused λ ls first. each (tree (d - 1) s) kids ls first
+          behind o = on_read o Err λ ls first. each (tree (d - 1) s) kids ls first
 
           are-told : lengths_at many s m ≡ lengths_by (tells f.form) kids s m
           are-told = ap (λ (k : ℕ). lengths_at k s m) (q ∙ ap (lengths_count (tells f.form)) c) ∙ sym (lengths-by (tells f.form) kids s m)
@@ -183,10 +183,10 @@ module _ (f : Frame) (bands coef : List ℤ) (judged : Bool) where
           by_read : behind (lengths_at many s m) ≡ tree d s at b
           by_read = ap behind are-told ∙ sym (walk_split (rules_in f bands coef) judge d s at b m (d - 1) split (omega arith) (λ z. l (c ∙ ap length z)))
 
-          pub tree-unread : (x : Refusal) → behind_at many s m ≡ Walk.Refused x → Walk.Refused x ≡ tree d s at b
+          pub tree-unread : (x : Refusal) → behind_at many s m ≡ Err x → Err x ≡ tree d s at b
           tree-unread x e = sym (ap behind (behind-refused s many m x e)) ∙ by_read
 
-          pub tree-split : (first : ℕ) → behind_at many s m ≡ Walk.Next first → Left (tree (d - 1) s) kids s many 0 m first (tree d s at b)
+          pub tree-split : (first : ℕ) → behind_at many s m ≡ Ok first → Left (tree (d - 1) s) kids s many 0 m first (tree d s at b)
           tree-split first e =
               let o = behind-read s many m first e in
               let z : many - 0 ≡ many = omega arith in
@@ -205,7 +205,7 @@ judge-alike : (f : Frame) (bands coef : List ℤ) (judged : Bool) (b : List Side
 judge-alike f bands coef true b us = rule-alike f bands coef 0 b us
 judge-alike f bands coef false b us = refl
 
-pub tile-alike : (f : Frame) (bands coef : List ℤ) (judged : Bool) (d : ℕ) (s : List ℕ) (at : ℕ) (b : List Side) (k m : ℕ) → number_at s at ≡ Number.Value k m → 0 < k → k ≤ f.k
+pub tile-alike : (f : Frame) (bands coef : List ℤ) (judged : Bool) (d : ℕ) (s : List ℕ) (at : ℕ) (b : List Side) (k m : ℕ) → number_at s at ≡ Some (k, m) → 0 < k → k ≤ f.k
     → walk_by judged (rules_by f bands coef 1) d s at b ≡ walk_by judged (rules_in f bands coef) d s at b
 tile-alike f bands coef judged d s at b k m e h l =
     sym (tree-tile (formed f 1) bands coef judged d s at b k m e h l)

@@ -7,4 +7,4 @@ pub returns-in_default : goal.returns-in_default
 returns-in_default c = let whole = of-refusal c.in_default.is c.refusal-e.ensures in record { mode = whole.0; state = whole.1 }
 
 pub returns : goal.returns
-returns c = let whole = of-answer (sym c.in-Mode.is) in record { mode = whole.0; state = whole.1 }
+returns c = let whole = of-answer (sym c.in-Ok.is) in record { mode = whole.0; state = whole.1 }

@@ -10,19 +10,19 @@ use Rattle.files.proofs.beginnings.read_beginning.Goals as goal
 pub read_bounds-requires : goal.read_bounds-requires
 read_bounds-requires c =
     let z = c.args in
-    let t = subst (HeaderTold z.forms z.most z.s.now) c.in-Header.is c.read_header.ensures in
+    let t = subst (HeaderTold z.forms z.most z.s.now) c.in-Ok.is c.read_header.ensures in
     record { fact_1 = t.n-high; fact_2 = t.q-high }
 
-pub returns-in-Refused : goal.returns-in-Refused
-returns-in-Refused c =
+pub returns-in-Err : goal.returns-in-Err
+returns-in-Err c =
     let z = c.args in
-    let t = subst (HeaderTold z.forms z.most z.s.now) c.in-Refused.is c.read_header.ensures in
-    let whole = header-cut z.forms z.most z.s.now c.in-Refused.e t in
+    let t = subst (HeaderTold z.forms z.most z.s.now) c.in-Err.is c.read_header.ensures in
+    let whole = header-cut z.forms z.most z.s.now c.in-Err.e t in
     record { value = rw c.refused.ensures whole.0; told = subst (λ r. BegunAs z.forms z.most z.s.now r r.answer) (sym c.refused.ensures) whole.1 }
 
-pub returns-in-Header : goal.returns-in-Header
-returns-in-Header c =
+pub returns-in-Ok : goal.returns-in-Ok
+returns-in-Ok c =
     let z = c.args in
-    let t = subst (HeaderTold z.forms z.most z.s.now) c.in-Header.is c.read_header.ensures in
-    let u = header-told z.forms z.most z.s.now c.in-Header.h c.in-Header.at c.read_bounds.result t c.read_bounds.ensures in
+    let t = subst (HeaderTold z.forms z.most z.s.now) c.in-Ok.is c.read_header.ensures in
+    let u = header-told z.forms z.most z.s.now c.in-Ok.h c.in-Ok.at c.read_bounds.result t c.read_bounds.ensures in
     record { value = settled z.forms z.most z.s.now c.read_bounds.result u; told = u }

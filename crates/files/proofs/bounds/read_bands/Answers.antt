@@ -15,10 +15,10 @@ loop-i-init c = bands-none c.args.s.now c.args.at c.args.n
 pub read_span-requires : goal.read_span-requires
 read_span-requires c = tt
 
-pub returns-in-Refused : goal.returns-in-Refused
-returns-in-Refused c =
-    let t = subst (SpanTold (negsuc 999999999) (pos 1000000000) c.args.s.now c.loop-i.p) c.in-Refused.is c.read_span.ensures in
-    bands-fails c.loop-i.invariant c.in-Refused.e (omega arith) t
+pub returns-in-Err : goal.returns-in-Err
+returns-in-Err c =
+    let t = subst (SpanTold (negsuc 999999999) (pos 1000000000) c.args.s.now c.loop-i.p) c.in-Err.is c.read_span.ensures in
+    bands-fails c.loop-i.invariant c.in-Err.e (omega arith) t
 
 pub offset_bounds-wlo-i : goal.offset_bounds-wlo-i
 offset_bounds-wlo-i c = omega arith
@@ -40,10 +40,10 @@ loop-i-smaller c = omega arith
 
 pub loop-i-preserved : goal.loop-i-preserved
 loop-i-preserved c =
-    let f : SFits w64 c.in-Ends.a = record { sfits = c.in-Ends.known_told-in-Ends-1-own.given.0.1 } in
-    let g : SFits w64 c.in-Ends.b = record { sfits = c.in-Ends.known_told-in-Ends-1-own.given.1.0.1 } in
-    let t = subst (SpanTold (negsuc 999999999) (pos 1000000000) c.args.s.now c.loop-i.p) c.in-Ends.is c.read_span.ensures in
-    simp to_z-of_z (bands-more c.loop-i.invariant c.in-Ends.a c.in-Ends.b c.in-Ends.next (omega arith) (omega arith) t)
+    let f : SFits w64 c.in-Ok.a = record { sfits = c.in-Ok.known_told-in-Ok-1-own.given.0.1 } in
+    let g : SFits w64 c.in-Ok.b = record { sfits = c.in-Ok.known_told-in-Ok-1-own.given.1.0.1 } in
+    let t = subst (SpanTold (negsuc 999999999) (pos 1000000000) c.args.s.now c.loop-i.p) c.in-Ok.is c.read_span.ensures in
+    simp to_z-of_z (bands-more c.loop-i.invariant c.in-Ok.a c.in-Ok.b c.in-Ok.next (omega arith) (omega arith) t)
 
 pub returns : goal.returns
 returns c = bands-all c.loop-i.invariant _ refl refl (omega arith)

@@ -15,17 +15,17 @@ loop-i-init c = edges_none c.args.s.now c.args.at c.args.n
 pub read_span-requires : goal.read_span-requires
 read_span-requires c = tt
 
-pub returns-in-Refused : goal.returns-in-Refused
-returns-in-Refused c =
-    root-fails c.loop-i.invariant c.in-Refused.e (omega arith) (subst (SpanTold (negsuc 999999) (pos 1000000) c.args.s.now c.loop-i.p) c.in-Refused.is c.read_span.ensures)
+pub returns-in-Err : goal.returns-in-Err
+returns-in-Err c =
+    root-fails c.loop-i.invariant c.in-Err.e (omega arith) (subst (SpanTold (negsuc 999999) (pos 1000000) c.args.s.now c.loop-i.p) c.in-Err.is c.read_span.ensures)
 
-pub read_span-requires-in-Ends : goal.read_span-requires-in-Ends
-read_span-requires-in-Ends c = tt
+pub read_span-requires-in-Ok : goal.read_span-requires-in-Ok
+read_span-requires-in-Ok c = tt
 
-pub returns-in-Refused-read_span : goal.returns-in-Refused-read_span
-returns-in-Refused-read_span c =
-    let t = subst (SpanTold (negsuc 999999) (pos 1000000) c.args.s.now c.loop-i.p) c.in-Ends.is c.read_span.ensures in
-    safe-fails c.loop-i.invariant c.in-Ends.a c.in-Ends.b c.in-Ends.mid c.in-Refused-read_span.e (omega arith) t (subst (SpanTold (negsuc 999999) (pos 1000000) c.args.s.now c.in-Ends.mid) c.in-Refused-read_span.is c.read_span-in-Ends.ensures)
+pub returns-in-Err-read_span : goal.returns-in-Err-read_span
+returns-in-Err-read_span c =
+    let t = subst (SpanTold (negsuc 999999) (pos 1000000) c.args.s.now c.loop-i.p) c.in-Ok.is c.read_span.ensures in
+    safe-fails c.loop-i.invariant c.in-Ok.a c.in-Ok.b c.in-Ok.mid c.in-Err-read_span.e (omega arith) t (subst (SpanTold (negsuc 999999) (pos 1000000) c.args.s.now c.in-Ok.mid) c.in-Err-read_span.is c.read_span-in-Ok.ensures)
 
 pub offset_bounds-rlo-i : goal.offset_bounds-rlo-i
 offset_bounds-rlo-i c = omega arith
@@ -59,13 +59,13 @@ loop-i-smaller c = omega arith
 
 pub loop-i-preserved : goal.loop-i-preserved
 loop-i-preserved c =
-    let t = subst (SpanTold (negsuc 999999) (pos 1000000) c.args.s.now c.loop-i.p) c.in-Ends.is c.read_span.ensures in
-    let u = subst (SpanTold (negsuc 999999) (pos 1000000) c.args.s.now c.in-Ends.mid) c.in-Ends-read_span.is c.read_span-in-Ends.ensures in
-    let f : SFits w64 c.in-Ends.a = record { sfits = c.in-Ends.known_told-in-Ends-1-own.given.0.1 } in
-    let g : SFits w64 c.in-Ends.b = record { sfits = c.in-Ends.known_told-in-Ends-1-own.given.1.0.1 } in
-    let h : SFits w64 c.in-Ends-read_span.c = record { sfits = c.in-Ends-read_span.known_told-in-Ends-read_span-2-1-own.given.0.1 } in
-    let j : SFits w64 c.in-Ends-read_span.d = record { sfits = c.in-Ends-read_span.known_told-in-Ends-read_span-2-1-own.given.1.0.1 } in
-    simp to_z-of_z (edges_more c.loop-i.invariant c.in-Ends.a c.in-Ends.b c.in-Ends-read_span.c c.in-Ends-read_span.d c.in-Ends.mid c.in-Ends-read_span.next (omega arith) (omega arith) t u)
+    let t = subst (SpanTold (negsuc 999999) (pos 1000000) c.args.s.now c.loop-i.p) c.in-Ok.is c.read_span.ensures in
+    let u = subst (SpanTold (negsuc 999999) (pos 1000000) c.args.s.now c.in-Ok.mid) c.in-Ok-read_span.is c.read_span-in-Ok.ensures in
+    let f : SFits w64 c.in-Ok.a = record { sfits = c.in-Ok.known_told-in-Ok-1-own.given.0.1 } in
+    let g : SFits w64 c.in-Ok.b = record { sfits = c.in-Ok.known_told-in-Ok-1-own.given.1.0.1 } in
+    let h : SFits w64 c.in-Ok-read_span.c = record { sfits = c.in-Ok-read_span.known_told-in-Ok-read_span-2-1-own.given.0.1 } in
+    let j : SFits w64 c.in-Ok-read_span.d = record { sfits = c.in-Ok-read_span.known_told-in-Ok-read_span-2-1-own.given.1.0.1 } in
+    simp to_z-of_z (edges_more c.loop-i.invariant c.in-Ok.a c.in-Ok.b c.in-Ok-read_span.c c.in-Ok-read_span.d c.in-Ok.mid c.in-Ok-read_span.next (omega arith) (omega arith) t u)
 
 pub returns : goal.returns
 returns c = edges-all c.loop-i.invariant _ refl refl refl refl (omega arith)

@@ -12,17 +12,17 @@ returns-in_default c =
 pub returns-then-v-least : goal.returns-then-v-least
 returns-then-v-least c =
     let a = c.args in
-    low a.least a.most c.in-Value.v c.in-Value.next c.if-v-least.true
-    ∙ ap (in_range a.least a.most) (sym c.in-Value.is ∙ c.number.ensures)
+    low a.least a.most c.in-Some.v c.in-Some.next c.if-v-least.true
+    ∙ ap (in_range a.least a.most) (sym c.in-Some.is ∙ c.number.ensures)
 
 pub returns-then-most-v : goal.returns-then-most-v
 returns-then-most-v c =
     let a = c.args in
-    high a.least a.most c.in-Value.v c.in-Value.next c.if-v-least.false c.if-most-v.true
-    ∙ ap (in_range a.least a.most) (sym c.in-Value.is ∙ c.number.ensures)
+    high a.least a.most c.in-Some.v c.in-Some.next c.if-v-least.false c.if-most-v.true
+    ∙ ap (in_range a.least a.most) (sym c.in-Some.is ∙ c.number.ensures)
 
 pub returns : goal.returns
 returns c =
     let a = c.args in
-    between a.least a.most c.in-Value.v c.in-Value.next c.if-v-least.false c.if-most-v.false
-    ∙ ap (in_range a.least a.most) (sym c.in-Value.is ∙ c.number.ensures)
+    between a.least a.most c.in-Some.v c.in-Some.next c.if-v-least.false c.if-most-v.false
+    ∙ ap (in_range a.least a.most) (sym c.in-Some.is ∙ c.number.ensures)

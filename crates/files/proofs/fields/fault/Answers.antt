@@ -11,4 +11,4 @@ returns-in_default c =
 pub returns : goal.returns
 returns c =
     let a = c.args in
-    c.unfit.ensures ∙ ap (fault_of a.at) (sym c.in-Value.is ∙ c.number.ensures)
+    c.unfit.ensures ∙ ap (fault_of a.at) (sym c.in-Some.is ∙ c.number.ensures)

@@ -11,15 +11,15 @@ returns-in_default c =
 
 pub returns-then-v-least : goal.returns-then-v-least
 returns-then-v-least c =
-    low_signed c.args.least c.args.most c.in-Value.v c.in-Value.next c.ranges.least c.ranges.most (record { sfits = c.in-Value.known_told-1-own.given.0.1 }) c.if-v-least.true
-    ∙ ap (in_span c.args.least c.args.most) (sym c.in-Value.is ∙ c.signed.ensures)
+    low_signed c.args.least c.args.most c.in-Some.v c.in-Some.next c.ranges.least c.ranges.most (record { sfits = c.in-Some.known_told-1-own.given.0.1 }) c.if-v-least.true
+    ∙ ap (in_span c.args.least c.args.most) (sym c.in-Some.is ∙ c.signed.ensures)
 
 pub returns-then-most-v : goal.returns-then-most-v
 returns-then-most-v c =
-    high-signed c.args.least c.args.most c.in-Value.v c.in-Value.next c.ranges.least c.ranges.most (record { sfits = c.in-Value.known_told-1-own.given.0.1 }) c.if-v-least.false c.if-most-v.true
-    ∙ ap (in_span c.args.least c.args.most) (sym c.in-Value.is ∙ c.signed.ensures)
+    high-signed c.args.least c.args.most c.in-Some.v c.in-Some.next c.ranges.least c.ranges.most (record { sfits = c.in-Some.known_told-1-own.given.0.1 }) c.if-v-least.false c.if-most-v.true
+    ∙ ap (in_span c.args.least c.args.most) (sym c.in-Some.is ∙ c.signed.ensures)
 
 pub returns : goal.returns
 returns c =
-    between-signed c.args.least c.args.most c.in-Value.v c.in-Value.next c.ranges.least c.ranges.most (record { sfits = c.in-Value.known_told-1-own.given.0.1 }) c.if-v-least.false c.if-most-v.false
-    ∙ ap (in_span c.args.least c.args.most) (sym c.in-Value.is ∙ c.signed.ensures)
+    between-signed c.args.least c.args.most c.in-Some.v c.in-Some.next c.ranges.least c.ranges.most (record { sfits = c.in-Some.known_told-1-own.given.0.1 }) c.if-v-least.false c.if-most-v.false
+    ∙ ap (in_span c.args.least c.args.most) (sym c.in-Some.is ∙ c.signed.ensures)

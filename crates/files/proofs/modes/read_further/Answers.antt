@@ -40,7 +40,7 @@ loop-u-preserved c =
     let w = c.loop-u in
     let r = c.read_mode-mode in
     rw c.after-told.ensures
-    (further-more z.s.now z.b z.at w.invariant r.result.thin c.in-Next.next (omega arith) (subst (ModeAs z.s.now w.p z.b.n z.b.q w.u _ _ _ _ r.result.thin) c.in-Next.is r.ensures))
+    (further-more z.s.now z.b z.at w.invariant r.result.thin c.in-Ok.next (omega arith) (subst (ModeAs z.s.now w.p z.b.n z.b.q w.u _ _ _ _ r.result.thin) c.in-Ok.is r.ensures))
 
 pub shape_of-bands : goal.shape_of-bands
 shape_of-bands c = bands-kept c.loop-u.invariant.stored

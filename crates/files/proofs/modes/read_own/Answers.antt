@@ -21,4 +21,4 @@ returns c =
     let r = c.read_rows-first in
     let f = c.read_further in
     own-told a.s.now a.b a.at c.requires.1 a.bands.now a.coef.now l.new.bands r.new.coef f.new.bands f.new.coef f.result.related
-    c.requires.0.m-low c.requires.2 l.ensures (subst (RowsTold a.s.now a.at a.b.n a.b.n 0 _ _) c.in-Next.is r.ensures) f.result.answer f.ensures
+    c.requires.0.m-low c.requires.2 l.ensures (subst (RowsTold a.s.now a.at a.b.n a.b.n 0 _ _) c.in-Ok.is r.ensures) f.result.answer f.ensures

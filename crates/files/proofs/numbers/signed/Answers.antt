@@ -9,12 +9,12 @@ pub returns-in_default : goal.returns-in_default
 returns-in_default c = ap as_signed (sym c.in_default.is ∙ c.number.ensures)
 
 pub overflow_sub-result : goal.overflow_sub-result
-overflow_sub-result c = odd-fits c.in-Value.v (omega arith)
+overflow_sub-result c = odd-fits c.in-Some.v (omega arith)
 
 pub returns-then-v-eq0 : goal.returns-then-v-eq0
 returns-then-v-eq0 c =
-    even-half c.in-Value.v c.in-Value.next (omega arith) c.if-v-eq0.true ∙ ap as_signed (sym c.in-Value.is ∙ c.number.ensures)
+    even-half c.in-Some.v c.in-Some.next (omega arith) c.if-v-eq0.true ∙ ap as_signed (sym c.in-Some.is ∙ c.number.ensures)
 
 pub returns-else-v-eq0 : goal.returns-else-v-eq0
 returns-else-v-eq0 c =
-    odd-half c.in-Value.v c.in-Value.next (omega arith) c.if-v-eq0.false ∙ ap as_signed (sym c.in-Value.is ∙ c.number.ensures)
+    odd-half c.in-Some.v c.in-Some.next (omega arith) c.if-v-eq0.false ∙ ap as_signed (sym c.in-Some.is ∙ c.number.ensures)

@@ -9,21 +9,21 @@ pub read_body-requires : goal.read_body-requires
 read_body-requires c =
     let z = c.args in
     let r = c.read_beginning-read in
-    let whole = subst (BegunAs plant_forms most_modes z.s.now r.result) c.in-Next.is r.ensures.told in
+    let whole = subst (BegunAs plant_forms most_modes z.s.now r.result) c.in-Ok.is r.ensures.told in
     record { fact_1 = whole.0; fact_2 = whole.1 }
 
-pub returns-in-Refused : goal.returns-in-Refused
-returns-in-Refused c =
+pub returns-in-Err : goal.returns-in-Err
+returns-in-Err c =
     let s = c.args.s.now in
     let r = c.read_beginning-read in
-    let t = subst (BegunAs plant_forms most_modes s r.result) c.in-Refused.is r.ensures.told in
-    let whole = answered s (beginning-refused s c.in-Refused.e t.1) c.refused.ensures in
+    let t = subst (BegunAs plant_forms most_modes s r.result) c.in-Err.is r.ensures.told in
+    let whole = answered s (beginning-refused s c.in-Err.e t.1) c.refused.ensures in
     record { answer = whole.0; bands = whole.1.0; coef = whole.1.1 }
 
-pub returns-in-Next : goal.returns-in-Next
-returns-in-Next c =
+pub returns-in-Ok : goal.returns-in-Ok
+returns-in-Ok c =
     let s = c.args.s.now in
     let r = c.read_beginning-read in
-    let t = subst (BegunAs plant_forms most_modes s r.result) c.in-Next.is r.ensures.told in
-    let whole = answered s (beginning-read s r.result.beginning c.in-Next.at t.0) c.read_body.ensures in
+    let t = subst (BegunAs plant_forms most_modes s r.result) c.in-Ok.is r.ensures.told in
+    let whole = answered s (beginning-read s r.result.beginning c.in-Ok.at t.0) c.read_body.ensures in
     record { answer = whole.0; bands = whole.1.0; coef = whole.1.1 }

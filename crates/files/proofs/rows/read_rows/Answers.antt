@@ -49,9 +49,9 @@ loop-c-smaller c = omega arith
 
 pub loop-c-preserved : goal.loop-c-preserved
 loop-c-preserved c =
-    let f : SFits w64 c.in-Value.v = record { sfits = c.in-Value.known_told-1-own.given.0.1 } in
+    let f : SFits w64 c.in-Some.v = record { sfits = c.in-Some.known_told-1-own.given.0.1 } in
     rw (c.next_column-column.ensures, c.store.ensures, to_z-of_z f)
-    (entries-more c.loop-c.invariant c.in-Value.v c.in-Value.next (omega arith) (sym c.entry.ensures ∙ c.in-Value.is))
+    (entries-more c.loop-c.invariant c.in-Some.v c.in-Some.next (omega arith) (sym c.entry.ensures ∙ c.in-Some.is))
 
 pub shape_of-coef : goal.shape_of-coef
 shape_of-coef c = ap length c.loop-c.invariant.stored ∙ length-sets c.args.coef.now c.args.from c.loop-c.invariant.values

@@ -15,19 +15,19 @@ returns-in_default c =
 
 pub returns-in_default-ranged : goal.returns-in_default-ranged
 returns-in_default-ranged c =
-    let l : SFits w64 c.in-Value.lo = record { sfits = c.in-Value.known_told-1-own.given.0.1 } in
+    let l : SFits w64 c.in-Some.lo = record { sfits = c.in-Some.known_told-1-own.given.0.1 } in
     let f = c.ranges.least in
     let g = c.ranges.most in
-    let e = simp to_z-of_z at (sym c.ranged.ensures ∙ c.in-Value.is) in
+    let e = simp to_z-of_z at (sym c.ranged.ensures ∙ c.in-Some.is) in
     let h = simp to_z-of_z at (sym c.ranged-2.ensures ∙ c.in_default-ranged.is) in
-    rw c.fault-in_default-ranged.ensures (hi-fails c.args.least c.args.most c.args.s.now c.args.at c.in-Value.lo c.in-Value.mid e h)
+    rw c.fault-in_default-ranged.ensures (hi-fails c.args.least c.args.most c.args.s.now c.args.at c.in-Some.lo c.in-Some.mid e h)
 
 pub returns : goal.returns
 returns c =
-    let l : SFits w64 c.in-Value.lo = record { sfits = c.in-Value.known_told-1-own.given.0.1 } in
+    let l : SFits w64 c.in-Some.lo = record { sfits = c.in-Some.known_told-1-own.given.0.1 } in
     let f = c.ranges.least in
     let g = c.ranges.most in
-    let e = simp to_z-of_z at (sym c.ranged.ensures ∙ c.in-Value.is) in
-    let m : SFits w64 c.in-Value-ranged.hi = record { sfits = c.in-Value-ranged.known_told-in-Value-ranged-2-1-own.given.0.1 } in
-    let h = simp to_z-of_z at (sym c.ranged-2.ensures ∙ c.in-Value-ranged.is) in
-    simp to_z-of_z (spanned c.args.least c.args.most c.args.s.now c.args.at c.in-Value.lo c.in-Value.mid e c.in-Value-ranged.hi c.in-Value-ranged.next h)
+    let e = simp to_z-of_z at (sym c.ranged.ensures ∙ c.in-Some.is) in
+    let m : SFits w64 c.in-Some-ranged.hi = record { sfits = c.in-Some-ranged.known_told-in-Some-ranged-2-1-own.given.0.1 } in
+    let h = simp to_z-of_z at (sym c.ranged-2.ensures ∙ c.in-Some-ranged.is) in
+    simp to_z-of_z (spanned c.args.least c.args.most c.args.s.now c.args.at c.in-Some.lo c.in-Some.mid e c.in-Some-ranged.hi c.in-Some-ranged.next h)

@@ -1,9 +1,9 @@
 -- `bands::end` goes by its two tests. Assumes nothing.
+use Rattle.std.specs.Prelude.{Some}
 use mathlib.Core.Path.{ap, ◌∙◌}
 use lib.IntN.{pos, negsuc}
 use mir.Facts.{to_z-of_z}
 use Rattle.laws.specs.Expressions.{any, lit, lt_yes, lt_no}
-use Rattle.meaning.specs.declared.Whole.{Whole}
 use Rattle.sheets.proofs.bands.Laws.{low-out, high-out, end-in}
 use Rattle.sheets.proofs.bands.end.Goals as goal
 
@@ -16,4 +16,4 @@ returns-then-v-gt1000000000 c = high-out c.args.v (lt_yes (lit (pos 1000000000))
 pub returns : goal.returns
 returns c =
     let v = any c.args.v c.ranges.v in
-    ap Whole.Near (to_z-of_z c.ranges.v) ∙ end-in c.args.v (lt_no v (lit (negsuc 999999999)) tt c.if-v-ltminus1000000000.false) (lt_no (lit (pos 1000000000)) v tt c.if-v-gt1000000000.false)
+    ap Some (to_z-of_z c.ranges.v) ∙ end-in c.args.v (lt_no v (lit (negsuc 999999999)) tt c.if-v-ltminus1000000000.false) (lt_no (lit (pos 1000000000)) v tt c.if-v-gt1000000000.false)

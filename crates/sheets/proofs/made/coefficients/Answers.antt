@@ -3,7 +3,7 @@ use mathlib.Core.Path.{ap, ◌∙◌}
 use native.Mathlib.Omega.{arith}
 use mir.Facts.{to_z-of_z}
 use Rattle.laws.specs.Integers.{ok64}
-use Rattle.meaning.specs.declared.Whole.{Whole}
+use Rattle.meaning.specs.Answers.{Whole}
 use Rattle.meaning.specs.Sheets.{near_value}
 use Rattle.sheets.specs.Wholes.{joined, near}
 use Rattle.sheets.proofs.made.Laws.{entries_none, entries-more, entries-all}

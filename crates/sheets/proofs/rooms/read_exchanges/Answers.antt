@@ -13,10 +13,10 @@ loop-j-init c = rw zero_is (exchanges-none c.args.s.now c.args.at c.args.m)
 pub read_float-requires : goal.read_float-requires
 read_float-requires c = tt
 
-pub returns-in-Refused : goal.returns-in-Refused
-returns-in-Refused c =
-    let t = subst (FloatTold not_below c.args.s.now c.loop-j.p) c.in-Refused.is c.read_float.ensures in
-    exchanges-fails c.loop-j.invariant c.in-Refused.e (omega arith) t
+pub returns-in-Err : goal.returns-in-Err
+returns-in-Err c =
+    let t = subst (FloatTold not_below c.args.s.now c.loop-j.p) c.in-Err.is c.read_float.ensures in
+    exchanges-fails c.loop-j.invariant c.in-Err.e (omega arith) t
 
 pub offset_bounds-exchange-j : goal.offset_bounds-exchange-j
 offset_bounds-exchange-j c = omega arith
@@ -32,8 +32,8 @@ loop-j-smaller c = omega arith
 
 pub loop-j-preserved : goal.loop-j-preserved
 loop-j-preserved c =
-    let t = subst (FloatTold not_below c.args.s.now c.loop-j.p) c.in-Float.is c.read_float.ensures in
-    exchanges-more c.loop-j.invariant c.in-Float.g c.in-Float.next (omega arith) (omega arith) t
+    let t = subst (FloatTold not_below c.args.s.now c.loop-j.p) c.in-Ok.is c.read_float.ensures in
+    exchanges-more c.loop-j.invariant c.in-Ok.g c.in-Ok.next (omega arith) (omega arith) t
 
 pub returns : goal.returns
 returns c = exchanges-all c.loop-j.invariant (omega arith)

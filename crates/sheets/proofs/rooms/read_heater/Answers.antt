@@ -5,12 +5,12 @@ use Rattle.sheets.specs.Floats.{TwoTold}
 use Rattle.sheets.proofs.rooms.Laws.{heater-read}
 use Rattle.sheets.proofs.rooms.read_heater.Goals as goal
 
-pub returns-in-Refused : goal.returns-in-Refused
-returns-in-Refused c =
+pub returns-in-Err : goal.returns-in-Err
+returns-in-Err c =
     let z = c.args in
-    subst (TwoTold not_below z.s.now z.at) c.in-Refused.is c.read_two.ensures
+    subst (TwoTold not_below z.s.now z.at) c.in-Err.is c.read_two.ensures
 
-pub returns-in-Floats : goal.returns-in-Floats
-returns-in-Floats c =
+pub returns-in-Ok : goal.returns-in-Ok
+returns-in-Ok c =
     let z = c.args in
-    heater-read z.s.now z.at c.in-Floats.coefficient c.in-Floats.water c.in-Floats.next (subst (TwoTold not_below z.s.now z.at) c.in-Floats.is c.read_two.ensures)
+    heater-read z.s.now z.at c.in-Ok.coefficient c.in-Ok.water c.in-Ok.next (subst (TwoTold not_below z.s.now z.at) c.in-Ok.is c.read_two.ensures)

@@ -5,24 +5,24 @@ use Rattle.sheets.specs.Rooms.{ExchangesAs, EmitterTold, RestAs}
 use Rattle.sheets.proofs.rooms.Laws.{exchanges-cut, emitter-cut, rest_read}
 use Rattle.sheets.proofs.rooms.read_rest.Goals as goal
 
-pub returns-in-Refused : goal.returns-in-Refused
-returns-in-Refused c =
+pub returns-in-Err : goal.returns-in-Err
+returns-in-Err c =
     let z = c.args in
     let x = c.read_exchanges-exchanges in
     subst (RestAs z.s.now z.at z.n z.loss c.refused.result.room) (sym c.refused.ensures)
-    (exchanges-cut z.s.now z.at z.n c.in-Refused.e (subst (ExchangesAs z.s.now z.at (z.n - 1) x.result.exchange) c.in-Refused.is x.ensures))
+    (exchanges-cut z.s.now z.at z.n c.in-Err.e (subst (ExchangesAs z.s.now z.at (z.n - 1) x.result.exchange) c.in-Err.is x.ensures))
 
-pub returns-in-Refused-read_emitter : goal.returns-in-Refused-read_emitter
-returns-in-Refused-read_emitter c =
+pub returns-in-Err-read_emitter : goal.returns-in-Err-read_emitter
+returns-in-Err-read_emitter c =
     let z = c.args in
     let x = c.read_exchanges-exchanges in
-    let t = subst (ExchangesAs z.s.now z.at (z.n - 1) x.result.exchange) c.in-Next.is x.ensures in
-    subst (RestAs z.s.now z.at z.n z.loss c.refused-in-Refused-read_emitter.result.room) (sym c.refused-in-Refused-read_emitter.ensures)
-    (emitter-cut z.s.now z.at z.n x.result.exchange c.in-Next.mid t c.in-Refused-read_emitter.e (subst (EmitterTold z.s.now c.in-Next.mid) c.in-Refused-read_emitter.is c.read_emitter.ensures))
+    let t = subst (ExchangesAs z.s.now z.at (z.n - 1) x.result.exchange) c.in-Ok.is x.ensures in
+    subst (RestAs z.s.now z.at z.n z.loss c.refused-in-Err-read_emitter.result.room) (sym c.refused-in-Err-read_emitter.ensures)
+    (emitter-cut z.s.now z.at z.n x.result.exchange c.in-Ok.mid t c.in-Err-read_emitter.e (subst (EmitterTold z.s.now c.in-Ok.mid) c.in-Err-read_emitter.is c.read_emitter.ensures))
 
-pub returns-in-Emitter : goal.returns-in-Emitter
-returns-in-Emitter c =
+pub returns-in-Ok : goal.returns-in-Ok
+returns-in-Ok c =
     let z = c.args in
     let x = c.read_exchanges-exchanges in
-    let t = subst (ExchangesAs z.s.now z.at (z.n - 1) x.result.exchange) c.in-Next.is x.ensures in
-    rest_read z.s.now z.at z.n x.result.exchange c.in-Next.mid t z.loss c.in-Emitter.emitter c.in-Emitter.next (subst (EmitterTold z.s.now c.in-Next.mid) c.in-Emitter.is c.read_emitter.ensures)
+    let t = subst (ExchangesAs z.s.now z.at (z.n - 1) x.result.exchange) c.in-Ok.is x.ensures in
+    rest_read z.s.now z.at z.n x.result.exchange c.in-Ok.mid t z.loss c.in-Ok.emitter c.in-Ok.next (subst (EmitterTold z.s.now c.in-Ok.mid) c.in-Ok.is c.read_emitter.ensures)

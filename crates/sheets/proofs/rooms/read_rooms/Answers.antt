@@ -11,11 +11,11 @@ no_room-none-requires c = tt
 pub loop-i-init : goal.loop-i-init
 loop-i-init c = rw c.no_room-none.ensures (rooms-none c.args.s.now c.args.at c.args.n)
 
-pub returns-in-Refused : goal.returns-in-Refused
-returns-in-Refused c =
+pub returns-in-Err : goal.returns-in-Err
+returns-in-Err c =
     let z = c.args in
     let r = c.read_room-r in
-    rooms-fails c.loop-i.invariant c.in-Refused.e (omega arith) (subst (RoomAs z.s.now c.loop-i.p z.n r.result.room) c.in-Refused.is r.ensures)
+    rooms-fails c.loop-i.invariant c.in-Err.e (omega arith) (subst (RoomAs z.s.now c.loop-i.p z.n r.result.room) c.in-Err.is r.ensures)
 
 pub offset_bounds-rooms-i : goal.offset_bounds-rooms-i
 offset_bounds-rooms-i c = omega arith
@@ -33,7 +33,7 @@ pub loop-i-preserved : goal.loop-i-preserved
 loop-i-preserved c =
     let z = c.args in
     let r = c.read_room-r in
-    rooms-more c.loop-i.invariant r.result.room c.in-Next.next (omega arith) (omega arith) (subst (RoomAs z.s.now c.loop-i.p z.n r.result.room) c.in-Next.is r.ensures)
+    rooms-more c.loop-i.invariant r.result.room c.in-Ok.next (omega arith) (omega arith) (subst (RoomAs z.s.now c.loop-i.p z.n r.result.room) c.in-Ok.is r.ensures)
 
 pub returns : goal.returns
 returns c = rooms-all c.loop-i.invariant (omega arith)

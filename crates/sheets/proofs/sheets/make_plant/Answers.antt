@@ -10,7 +10,7 @@ use Rattle.sheets.proofs.sheets.make_plant.Goals as goal
 pub make-made-requires : goal.make-made-requires
 make-made-requires c =
     let r = c.read_values-read in
-    subst (SizedAs r.result.sheet) c.in-Accepted.is r.ensures.sized
+    subst (SizedAs r.result.sheet) c.in-Ok.is r.ensures.sized
 
 pub returns-then-made : goal.returns-then-made
 returns-then-made c =
@@ -18,14 +18,14 @@ returns-then-made c =
     let r = c.read_values-read in
     let m = c.make-made in
     let w = c.write_plant in
-    let e = fit-left z.sheet.now r.result r.ensures.value c.in-Accepted.is m.result m.ensures z.buf.now c.if-made.true in
+    let e = fit-left z.sheet.now r.result r.ensures.value c.in-Ok.is m.result m.ensures z.buf.now c.if-made.true in
     record { answer = w.ensures.answer ∙ ap (λ (x : Left). x.answer) (sym e); bytes = w.ensures.bytes ∙ ap (λ (x : Left). x.buffer) (sym e) }
 
-pub returns-in-Refused : goal.returns-in-Refused
-returns-in-Refused c =
+pub returns-in-Err : goal.returns-in-Err
+returns-in-Err c =
     let z = c.args in
     let r = c.read_values-read in
-    let e = made-refused z.sheet.now c.in-Refused.e (values-refused z.sheet.now r.result r.ensures.value c.in-Refused.e c.in-Refused.is) z.buf.now in
+    let e = made-refused z.sheet.now c.in-Err.e (values-refused z.sheet.now r.result r.ensures.value c.in-Err.e c.in-Err.is) z.buf.now in
     let w = c.refuse in
     record { answer = w.ensures.answer ∙ ap (λ (x : Left). x.answer) (sym e); bytes = w.ensures.bytes ∙ ap (λ (x : Left). x.buffer) (sym e) }
 
@@ -36,6 +36,6 @@ returns-else-made c =
     let m = c.make-made in
     let e =
     ap (λ (x : Refusal). refused_with x z.buf.now) c.bad_result.ensures
-    ∙ sym (unfit-left z.sheet.now r.result r.ensures.value c.in-Accepted.is m.result m.ensures z.buf.now c.if-made.false) in
-    let w = c.refuse-in-Accepted in
+    ∙ sym (unfit-left z.sheet.now r.result r.ensures.value c.in-Ok.is m.result m.ensures z.buf.now c.if-made.false) in
+    let w = c.refuse-in-Ok in
     record { answer = w.ensures.answer ∙ ap (λ (x : Left). x.answer) e; bytes = w.ensures.bytes ∙ ap (λ (x : Left). x.buffer) e }

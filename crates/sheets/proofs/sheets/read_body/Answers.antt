@@ -13,50 +13,50 @@ returns-then-next-s c =
     let z = c.args in
     let s = c.args.s.now in
     let f = c.read_two in
-    let u = subst (TwoTold above s z.at) c.in-Floats.is f.ensures in
+    let u = subst (TwoTold above s z.at) c.in-Ok.is f.ensures in
     let m = c.read_rooms-read in
-    let v = subst (RoomsAs s c.in-Floats.mid z.b.n m.result.rooms) c.in-Next.is m.ensures in record {
+    let v = subst (RoomsAs s c.in-Ok.mid z.b.n m.result.rooms) c.in-Ok.is m.ensures in record {
       value = c.refused-then-next-s.ensures ∙ ap (λ (k : Refusal). sheet_read_of (bad k)) c.unfit.ensures
-          ∙ sym (left_over s z.b z.at c.in-Floats.time c.in-Floats.outside c.in-Floats.mid u m.result.rooms c.in-Next.next v c.if-next-s.true);
+          ∙ sym (left_over s z.b z.at c.in-Ok.time c.in-Ok.outside c.in-Ok.mid u m.result.rooms c.in-Ok.next v c.if-next-s.true);
       sized = refused-sized c.refused-then-next-s.result _ c.refused-then-next-s.ensures;
     }
 
-pub returns-in-Refused : goal.returns-in-Refused
-returns-in-Refused c =
+pub returns-in-Err : goal.returns-in-Err
+returns-in-Err c =
     let z = c.args in
     let s = c.args.s.now in
     let f = c.read_two in
-    record { value = c.refused.ensures ∙ sym (time-refused s z.b z.at c.in-Refused.e (subst (TwoTold above s z.at) c.in-Refused.is f.ensures)); sized = refused-sized c.refused.result _ c.refused.ensures }
+    record { value = c.refused.ensures ∙ sym (time-refused s z.b z.at c.in-Err.e (subst (TwoTold above s z.at) c.in-Err.is f.ensures)); sized = refused-sized c.refused.result _ c.refused.ensures }
 
-pub returns-in-Refused-past : goal.returns-in-Refused-past
-returns-in-Refused-past c =
+pub returns-in-Err-past : goal.returns-in-Err-past
+returns-in-Err-past c =
     let z = c.args in
     let s = c.args.s.now in
     let f = c.read_two in
-    let u = subst (TwoTold above s z.at) c.in-Floats.is f.ensures in
+    let u = subst (TwoTold above s z.at) c.in-Ok.is f.ensures in
     let m = c.read_rooms-read in
     record {
-      value = c.refused-in-Refused-past.ensures
-          ∙ sym (rooms-refused s z.b z.at c.in-Floats.time c.in-Floats.outside c.in-Floats.mid u c.in-Refused-past.e (subst (RoomsAs s c.in-Floats.mid z.b.n m.result.rooms) c.in-Refused-past.is m.ensures));
-      sized = refused-sized c.refused-in-Refused-past.result _ c.refused-in-Refused-past.ensures;
+      value = c.refused-in-Err-past.ensures
+          ∙ sym (rooms-refused s z.b z.at c.in-Ok.time c.in-Ok.outside c.in-Ok.mid u c.in-Err-past.e (subst (RoomsAs s c.in-Ok.mid z.b.n m.result.rooms) c.in-Err-past.is m.ensures));
+      sized = refused-sized c.refused-in-Err-past.result _ c.refused-in-Err-past.ensures;
     }
 
-pub returns-in-Refused-related : goal.returns-in-Refused-related
-returns-in-Refused-related c =
+pub returns-in-Err-related : goal.returns-in-Err-related
+returns-in-Err-related c =
     let z = c.args in
     let s = c.args.s.now in
     let f = c.read_two in
-    let u = subst (TwoTold above s z.at) c.in-Floats.is f.ensures in
+    let u = subst (TwoTold above s z.at) c.in-Ok.is f.ensures in
     let m = c.read_rooms-read in
-    let v = subst (RoomsAs s c.in-Floats.mid z.b.n m.result.rooms) c.in-Next.is m.ensures in
-    record { value = c.refused-in-Refused-related.ensures ∙ sym (by-verdict s z.b z.at c.in-Floats.time c.in-Floats.outside c.in-Floats.mid u m.result.rooms c.in-Next.next v c.requires.fact_1 c.if-next-s.false z.related _ c.requires.fact_2 c.in-Refused-related.is); sized = refused-sized c.refused-in-Refused-related.result _ c.refused-in-Refused-related.ensures }
+    let v = subst (RoomsAs s c.in-Ok.mid z.b.n m.result.rooms) c.in-Ok.is m.ensures in
+    record { value = c.refused-in-Err-related.ensures ∙ sym (by-verdict s z.b z.at c.in-Ok.time c.in-Ok.outside c.in-Ok.mid u m.result.rooms c.in-Ok.next v c.requires.fact_1 c.if-next-s.false z.related _ c.requires.fact_2 c.in-Err-related.is); sized = refused-sized c.refused-in-Err-related.result _ c.refused-in-Err-related.ensures }
 
-pub returns-in-Accepted : goal.returns-in-Accepted
-returns-in-Accepted c =
+pub returns-in-Ok : goal.returns-in-Ok
+returns-in-Ok c =
     let z = c.args in
     let s = c.args.s.now in
     let f = c.read_two in
-    let u = subst (TwoTold above s z.at) c.in-Floats.is f.ensures in
+    let u = subst (TwoTold above s z.at) c.in-Ok.is f.ensures in
     let m = c.read_rooms-read in
-    let v = subst (RoomsAs s c.in-Floats.mid z.b.n m.result.rooms) c.in-Next.is m.ensures in
-    record { value = c.accepted.ensures ∙ sym (by-verdict s z.b z.at c.in-Floats.time c.in-Floats.outside c.in-Floats.mid u m.result.rooms c.in-Next.next v c.requires.fact_1 c.if-next-s.false z.related _ c.requires.fact_2 c.in-Accepted.is); sized = taken-sized c.accepted.result s z.b z.at c.in-Floats.time c.in-Floats.outside m.result.rooms c.accepted.ensures c.requires.fact_1 }
+    let v = subst (RoomsAs s c.in-Ok.mid z.b.n m.result.rooms) c.in-Ok.is m.ensures in
+    record { value = c.accepted.ensures ∙ sym (by-verdict s z.b z.at c.in-Ok.time c.in-Ok.outside c.in-Ok.mid u m.result.rooms c.in-Ok.next v c.requires.fact_1 c.if-next-s.false z.related _ c.requires.fact_2 c.in-Ok.is); sized = taken-sized c.accepted.result s z.b z.at c.in-Ok.time c.in-Ok.outside m.result.rooms c.accepted.ensures c.requires.fact_1 }

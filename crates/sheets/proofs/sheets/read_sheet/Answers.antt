@@ -8,16 +8,16 @@ use Rattle.sheets.proofs.sheets.read_sheet.Goals as goal
 pub fitted-requires : goal.fitted-requires
 fitted-requires c =
     let r = c.read_values-read in
-    subst (SizedAs r.result.sheet) c.in-Accepted.is r.ensures.sized
+    subst (SizedAs r.result.sheet) c.in-Ok.is r.ensures.sized
 
-pub returns-in-Refused : goal.returns-in-Refused
-returns-in-Refused c =
+pub returns-in-Err : goal.returns-in-Err
+returns-in-Err c =
     let z = c.args in
     let r = c.read_values-read in
-    c.refused.ensures ∙ ap sheet_read_of (sym (values-refused z.s.now r.result r.ensures.value c.in-Refused.e c.in-Refused.is))
+    c.refused.ensures ∙ ap sheet_read_of (sym (values-refused z.s.now r.result r.ensures.value c.in-Err.e c.in-Err.is))
 
-pub returns-in-Accepted : goal.returns-in-Accepted
-returns-in-Accepted c =
+pub returns-in-Ok : goal.returns-in-Ok
+returns-in-Ok c =
     let z = c.args in
     let r = c.read_values-read in
-    c.fitted.ensures ∙ ap sheet_read_of (sym (values-taken z.s.now r.result r.ensures.value c.in-Accepted.is))
+    c.fitted.ensures ∙ ap sheet_read_of (sym (values-taken z.s.now r.result r.ensures.value c.in-Ok.is))

@@ -1,4 +1,5 @@
 -- `wholes::limited`: the size is tested first, and then given its sign. Assumes nothing.
+use Rattle.std.specs.Prelude.{Some}
 use Prim.Native.Nat.{ℕ, ◌≤◌}
 use mathlib.Core.Path.{◌≡◌, sym, ap, ◌∙◌}
 use mathlib.Core.Bool.{Bool}
@@ -8,7 +9,6 @@ use mir.Syntax.{w64}
 use mir.Val.{to_z, of_z}
 use mir.ValLaws.{to_z_pos}
 use Rattle.laws.specs.Expressions.{Ex, lit, held, ◌⊝◌, need, exact}
-use Rattle.meaning.specs.declared.Whole.{Whole}
 use Rattle.meaning.specs.Sheets.{signed_by}
 use Rattle.sheets.proofs.wholes.Laws.{limited-in, limited-out}
 use Rattle.sheets.proofs.wholes.limited.Goals as goal
@@ -33,11 +33,11 @@ overflow_sub-result c = let v = c.args.size in need (turned v (omega arith)) tt
 pub returns-then-negative : goal.returns-then-negative
 returns-then-negative c =
     let a = c.args in
-    ap Whole.Near (turned-is a.size (omega arith) ∙ ap (λ (s : Bool). signed_by s a.size) (sym c.if-negative.true))
+    ap Some (turned-is a.size (omega arith) ∙ ap (λ (s : Bool). signed_by s a.size) (sym c.if-negative.true))
     ∙ sym (limited-in a.limit a.negative a.size (omega arith))
 
 pub returns : goal.returns
 returns c =
     let a = c.args in
-    ap Whole.Near (plain a.size (omega arith) ∙ ap (λ (s : Bool). signed_by s a.size) (sym c.if-negative.false))
+    ap Some (plain a.size (omega arith) ∙ ap (λ (s : Bool). signed_by s a.size) (sym c.if-negative.false))
     ∙ sym (limited-in a.limit a.negative a.size (omega arith))

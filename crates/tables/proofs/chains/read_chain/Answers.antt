@@ -1,13 +1,14 @@
 -- `chains::read_chain`: head, edges, bytes left over, 15. Each return cites the law of the part that it stops at. Assumes nothing.
+use Rattle.std.specs.Prelude.{Ok, Err}
 use Prim.Native.Nat.{ℕ, ◌*◌}
 use mathlib.Core.Path.{◌≡◌, refl, sym, ap, ◌∙◌, subst}
 use mathlib.Core.List.{List}
 use native.Mathlib.Omega.{arith}
 use lib.IntN.{ℤ}
-use Rattle.meaning.specs.declared.Walk.{Walk}
 use Rattle.tables.specs.Chains.{no_chain, Headed, HeadTold, EdgesRead, EdgesTold}
 use Rattle.tables.proofs.chains.Reading.{few-sides, head-stopped, edges-stopped, over-told, not-kept, taken}
 use Rattle.tables.proofs.chains.read_chain.Goals as goal
+use Rattle.meaning.specs.Answers.{Walk}
 
 pub overflow_mul-m : goal.overflow_mul-m
 overflow_mul-m c =
@@ -33,8 +34,8 @@ returns-then-left_over c =
     let headed : Headed file m at = subst (HeadTold file) c.in-Boxes.is c.read_head.ensures in
     let edges : List ℤ = c.read_edges-past.new.edges in
     let told : (w : Walk) → c.read_edges-past.result ≡ w → EdgesTold file at (m * c.args.f.n) edges w = λ w. λ e. subst (EdgesTold file at (m * c.args.f.n) edges) e c.read_edges-past.ensures in
-    let next : ℕ = c.in-Next.next in
-    let whole : EdgesRead file at (m * c.args.f.n) edges next = told (Walk.Next next) c.in-Next.is in
+    let next : ℕ = c.in-Ok.next in
+    let whole : EdgesRead file at (m * c.args.f.n) edges next = told (Ok next) c.in-Ok.is in
     let a = c.args in
     c.refused-then-left_over.ensures ∙ ap no_chain c.unfit.ensures
     ∙ over-told a.whole a.f file m at headed c.requires edges next whole
@@ -56,21 +57,21 @@ returns-then-fault-m c =
     let headed : Headed file m at = subst (HeadTold file) c.in-Boxes.is c.read_head.ensures in
     let edges : List ℤ = c.read_edges-past.new.edges in
     let told : (w : Walk) → c.read_edges-past.result ≡ w → EdgesTold file at (m * c.args.f.n) edges w = λ w. λ e. subst (EdgesTold file at (m * c.args.f.n) edges) e c.read_edges-past.ensures in
-    let next : ℕ = c.in-Next.next in
-    let whole : EdgesRead file at (m * c.args.f.n) edges next = told (Walk.Next next) c.in-Next.is in
+    let next : ℕ = c.in-Ok.next in
+    let whole : EdgesRead file at (m * c.args.f.n) edges next = told (Ok next) c.in-Ok.is in
     let a = c.args in
     c.refused-then-fault-m.ensures ∙ ap no_chain c.not_held.ensures
     ∙ not-kept a.whole a.f file m at headed c.requires edges next whole
     (sym c.left_over.ensures ∙ c.if-left_over.false) c.first_unheld-fault.result c.first_unheld-fault.ensures c.if-fault-m.true
 
-pub returns-in-Refused : goal.returns-in-Refused
-returns-in-Refused c =
+pub returns-in-Err : goal.returns-in-Err
+returns-in-Err c =
     c.refused.ensures
-    ∙ head-stopped c.args.whole c.args.f c.args.s.now c.in-Refused.e
-    (subst (HeadTold c.args.s.now) c.in-Refused.is c.read_head.ensures c.args.f.n)
+    ∙ head-stopped c.args.whole c.args.f c.args.s.now c.in-Err.e
+    (subst (HeadTold c.args.s.now) c.in-Err.is c.read_head.ensures c.args.f.n)
 
-pub returns-in-Refused-past : goal.returns-in-Refused-past
-returns-in-Refused-past c =
+pub returns-in-Err-past : goal.returns-in-Err-past
+returns-in-Err-past c =
     let file : List ℕ = c.args.s.now in
     let m : ℕ = c.in-Boxes.m in
     let at : ℕ = c.in-Boxes.at in
@@ -78,7 +79,7 @@ returns-in-Refused-past c =
     let edges : List ℤ = c.read_edges-past.new.edges in
     let told : (w : Walk) → c.read_edges-past.result ≡ w → EdgesTold file at (m * c.args.f.n) edges w = λ w. λ e. subst (EdgesTold file at (m * c.args.f.n) edges) e c.read_edges-past.ensures in
     let a = c.args in
-    c.refused-in-Refused-past.ensures ∙ edges-stopped a.whole a.f file m at headed c.in-Refused-past.e (told (Walk.Refused c.in-Refused-past.e) c.in-Refused-past.is)
+    c.refused-in-Err-past.ensures ∙ edges-stopped a.whole a.f file m at headed c.in-Err-past.e (told (Err c.in-Err-past.e) c.in-Err-past.is)
 
 pub returns-else-fault-m : goal.returns-else-fault-m
 returns-else-fault-m c =
@@ -88,8 +89,8 @@ returns-else-fault-m c =
     let headed : Headed file m at = subst (HeadTold file) c.in-Boxes.is c.read_head.ensures in
     let edges : List ℤ = c.read_edges-past.new.edges in
     let told : (w : Walk) → c.read_edges-past.result ≡ w → EdgesTold file at (m * c.args.f.n) edges w = λ w. λ e. subst (EdgesTold file at (m * c.args.f.n) edges) e c.read_edges-past.ensures in
-    let next : ℕ = c.in-Next.next in
-    let whole : EdgesRead file at (m * c.args.f.n) edges next = told (Walk.Next next) c.in-Next.is in
+    let next : ℕ = c.in-Ok.next in
+    let whole : EdgesRead file at (m * c.args.f.n) edges next = told (Ok next) c.in-Ok.is in
     let a = c.args in
     taken a.whole a.f file m at headed c.requires edges next whole
     (sym c.left_over.ensures ∙ c.if-left_over.false) c.first_unheld-fault.result c.first_unheld-fault.ensures c.if-fault-m.false

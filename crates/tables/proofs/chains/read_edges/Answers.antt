@@ -15,9 +15,9 @@ loop-i-init c = let t = c.args in rw c.requires.1 (edges_none t.s.now t.at t.cou
 pub read_span-requires : goal.read_span-requires
 read_span-requires c = tt
 
-pub returns-in-Refused : goal.returns-in-Refused
-returns-in-Refused c =
-    let t = subst (SpanTold (negsuc 999999) (pos 1000000) c.args.s.now c.loop-i.p) c.in-Refused.is c.read_span.ensures in
+pub returns-in-Err : goal.returns-in-Err
+returns-in-Err c =
+    let t = subst (SpanTold (negsuc 999999) (pos 1000000) c.args.s.now c.loop-i.p) c.in-Err.is c.read_span.ensures in
     edges-fails c.loop-i.invariant (omega arith) t
 
 pub overflow_mul-lo : goal.overflow_mul-lo
@@ -35,11 +35,11 @@ overflow_mul-hi c = omega arith
 pub overflow_add-hi : goal.overflow_add-hi
 overflow_add-hi c = omega arith
 
-pub offset_bounds-edges-i-in-Ends : goal.offset_bounds-edges-i-in-Ends
-offset_bounds-edges-i-in-Ends c = omega arith
+pub offset_bounds-edges-i-in-Ok : goal.offset_bounds-edges-i-in-Ok
+offset_bounds-edges-i-in-Ok c = omega arith
 
-pub bounds-edges-i-in-Ends : goal.bounds-edges-i-in-Ends
-bounds-edges-i-in-Ends c = omega arith
+pub bounds-edges-i-in-Ok : goal.bounds-edges-i-in-Ok
+bounds-edges-i-in-Ok c = omega arith
 
 pub overflow_add-i : goal.overflow_add-i
 overflow_add-i c = omega arith
@@ -49,10 +49,10 @@ loop-i-smaller c = omega arith
 
 pub loop-i-preserved : goal.loop-i-preserved
 loop-i-preserved c =
-    let f : SFits w64 c.in-Ends.lo = record { sfits = c.in-Ends.known_told-in-Ends-1-own.given.0.1 } in
-    let g : SFits w64 c.in-Ends.hi = record { sfits = c.in-Ends.known_told-in-Ends-1-own.given.1.0.1 } in
-    let t = subst (SpanTold (negsuc 999999) (pos 1000000) c.args.s.now c.loop-i.p) c.in-Ends.is c.read_span.ensures in
-    simp to_z-of_z (edges_more c.loop-i.invariant c.in-Ends.lo c.in-Ends.hi c.in-Ends.next (omega arith) (omega arith) t)
+    let f : SFits w64 c.in-Ok.lo = record { sfits = c.in-Ok.known_told-in-Ok-1-own.given.0.1 } in
+    let g : SFits w64 c.in-Ok.hi = record { sfits = c.in-Ok.known_told-in-Ok-1-own.given.1.0.1 } in
+    let t = subst (SpanTold (negsuc 999999) (pos 1000000) c.args.s.now c.loop-i.p) c.in-Ok.is c.read_span.ensures in
+    simp to_z-of_z (edges_more c.loop-i.invariant c.in-Ok.lo c.in-Ok.hi c.in-Ok.next (omega arith) (omega arith) t)
 
 pub returns : goal.returns
 returns c = edges-all c.loop-i.invariant (omega arith)

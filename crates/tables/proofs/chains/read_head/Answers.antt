@@ -12,27 +12,27 @@ returns-in_default c =
 pub returns-then-form-ne1 : goal.returns-then-form-ne1
 returns-then-form-ne1 c =
     let a = c.args in
-    let e = sym c.number.ensures ∙ c.in-Value.is in
-    λ n. form-wrong a.s.now c.in-Value.form c.in-Value.at e c.if-form-ne1.true n ∙ ap refused (sym c.wrong_form.ensures)
+    let e = sym c.number.ensures ∙ c.in-Some.is in
+    λ n. form-wrong a.s.now c.in-Some.form c.in-Some.at e c.if-form-ne1.true n ∙ ap refused (sym c.wrong_form.ensures)
 
 pub returns-in_default-number : goal.returns-in_default-number
 returns-in_default-number c =
     let a = c.args in
-    let e = sym c.number.ensures ∙ c.in-Value.is in
+    let e = sym c.number.ensures ∙ c.in-Some.is in
     let f = sym c.number-2.ensures ∙ c.in_default-number.is in
-    λ n. m-broken a.s.now c.in-Value.form c.in-Value.at e c.if-form-ne1.false f n ∙ ap refused (sym c.broken-in_default-number.ensures)
+    λ n. m-broken a.s.now c.in-Some.form c.in-Some.at e c.if-form-ne1.false f n ∙ ap refused (sym c.broken-in_default-number.ensures)
 
 pub returns-then-m-gt-ABOVE : goal.returns-then-m-gt-ABOVE
 returns-then-m-gt-ABOVE c =
     let a = c.args in
-    let e = sym c.number.ensures ∙ c.in-Value.is in
-    let f = sym c.number-2.ensures ∙ c.in-Value-number.is in
-    λ n. m-over a.s.now c.in-Value.form c.in-Value.at e c.if-form-ne1.false c.in-Value-number.m c.in-Value-number.next f c.if-m-gt-ABOVE.true n
+    let e = sym c.number.ensures ∙ c.in-Some.is in
+    let f = sym c.number-2.ensures ∙ c.in-Some-number.is in
+    λ n. m-over a.s.now c.in-Some.form c.in-Some.at e c.if-form-ne1.false c.in-Some-number.m c.in-Some-number.next f c.if-m-gt-ABOVE.true n
     ∙ ap refused (sym c.unfit.ensures)
 
 pub returns : goal.returns
 returns c =
     let a = c.args in
-    let e = sym c.number.ensures ∙ c.in-Value.is in
-    let f = sym c.number-2.ensures ∙ c.in-Value-number.is in
-    headed a.s.now c.in-Value.form c.in-Value.at e c.if-form-ne1.false c.in-Value-number.m c.in-Value-number.next f c.if-m-gt-ABOVE.false
+    let e = sym c.number.ensures ∙ c.in-Some.is in
+    let f = sym c.number-2.ensures ∙ c.in-Some-number.is in
+    headed a.s.now c.in-Some.form c.in-Some.at e c.if-form-ne1.false c.in-Some-number.m c.in-Some-number.next f c.if-m-gt-ABOVE.false

@@ -16,20 +16,20 @@ pub judge-requires : goal.judge-requires
 judge-requires c =
     let bands : List ℤ = c.read_plant-read.new.bands in
     let coef : List ℤ = c.read_plant-read.new.coef in
-    let taken : ReadInto c.args.plant.now c.framed.result bands coef = let r = c.read_plant-read in read-into c.args.plant.now c.args.bands.now c.args.coef.now c.requires r.result bands coef (r.ensures.answer, (r.ensures.bands, r.ensures.coef)) c.in-Accepted.is c.framed.result c.framed.ensures in
+    let taken : ReadInto c.args.plant.now c.framed.result bands coef = let r = c.read_plant-read in read-into c.args.plant.now c.args.bands.now c.args.coef.now c.requires r.result bands coef (r.ensures.answer, (r.ensures.bands, r.ensures.coef)) c.in-Ok.is c.framed.result c.framed.ensures in
     taken.sound
 
-pub returns-in-Refused : goal.returns-in-Refused
-returns-in-Refused c =
+pub returns-in-Err : goal.returns-in-Err
+returns-in-Err c =
     let a = c.args in
     let r = c.read_plant-read in
-    sym (checked-bad a.plant.now c.in-Refused.e (read-bad (plant_judged a.plant.now) r.result r.ensures.answer c.in-Refused.e c.in-Refused.is) a.table.now)
+    sym (checked-bad a.plant.now c.in-Err.e (read-bad (plant_judged a.plant.now) r.result r.ensures.answer c.in-Err.e c.in-Err.is) a.table.now)
 
-pub returns-in-Accepted : goal.returns-in-Accepted
-returns-in-Accepted c =
+pub returns-in-Ok : goal.returns-in-Ok
+returns-in-Ok c =
     let bands : List ℤ = c.read_plant-read.new.bands in
     let coef : List ℤ = c.read_plant-read.new.coef in
-    let taken : ReadInto c.args.plant.now c.framed.result bands coef = let r = c.read_plant-read in read-into c.args.plant.now c.args.bands.now c.args.coef.now c.requires r.result bands coef (r.ensures.answer, (r.ensures.bands, r.ensures.coef)) c.in-Accepted.is c.framed.result c.framed.ensures in
+    let taken : ReadInto c.args.plant.now c.framed.result bands coef = let r = c.read_plant-read in read-into c.args.plant.now c.args.bands.now c.args.coef.now c.requires r.result bands coef (r.ensures.answer, (r.ensures.bands, r.ensures.coef)) c.in-Ok.is c.framed.result c.framed.ensures in
     let t = taken in
     let p = t.plant in
     let table = c.args.table.now in

@@ -4,7 +4,7 @@ use mathlib.Core.Path.{◌≡◌, ap, ◌∙◌}
 use mathlib.Core.Bool.{true, false}
 use mathlib.Core.List.{List}
 use borrow.Author.Tests.{ne_eqb}
-use Rattle.meaning.specs.declared.Walk.{Walk}
+use Rattle.meaning.specs.Answers.{Walk}
 use Rattle.meaning.specs.Plants.{edge_limit}
 use Rattle.meaning.specs.Rules.{Rules}
 use Rattle.meaning.specs.Trees.{tells}
@@ -33,19 +33,19 @@ walk-requires c =
     let untold : (c.args.f.form ≡ 2 → ⊥) → tells c.counts_of-counts.result.form ≡ false = λ h. let x = c.counts_of-counts in let e = c.edges_of-edges in lent_same c.args.f x.result e.result x.ensures e.ensures (λ x e. tells x.form) ∙ ne_eqb c.args.f.form 2 h in
     let g = sound in (g.0, g.1, g.2, untold c.if-f-eq2.false)
 
-pub returns-in-Refused : goal.returns-in-Refused
-returns-in-Refused c =
+pub returns-in-Err : goal.returns-in-Err
+returns-in-Err c =
     let rules : Rules = rules_in c.args.f c.args.bands.now c.args.coef.now in
     let table : List ℕ = c.args.table.now in
     let h = c.header in
-    header-stopped rules table h.result h.ensures c.in-Refused.e c.in-Refused.is
+    header-stopped rules table h.result h.ensures c.in-Err.e c.in-Err.is
 
 pub returns-then-f-eq2 : goal.returns-then-f-eq2
 returns-then-f-eq2 c =
     let rules : Rules = rules_in c.args.f c.args.bands.now c.args.coef.now in
     let table : List ℕ = c.args.table.now in
     let lent : Frame = frame_from c.counts_of-counts.result c.edges_of-edges.result in
-    let walked : (v : Walk) → v ≡ walk_by true (rules_in lent c.args.bands.now c.args.coef.now) c.depth-depth.result table c.in-Next.at (box_of c.counts_of-counts.result.n c.args.f.root) → v ≡ table_end rules table = λ v. λ q. let h = c.header in let x = c.counts_of-counts in let e = c.edges_of-edges in let d = c.depth-depth in q ∙ lent_same c.args.f x.result e.result x.ensures e.ensures (λ x e. walk_by true (rules_in (frame_from x e) c.args.bands.now c.args.coef.now) d.result table c.in-Next.at (box_of x.n c.args.f.root)) ∙ ap (λ (d : ℕ). walk_by true rules d table c.in-Next.at (box_of c.args.f.n c.args.f.root)) d.ensures ∙ tree-walked rules table h.result h.ensures c.in-Next.at c.in-Next.is in
+    let walked : (v : Walk) → v ≡ walk_by true (rules_in lent c.args.bands.now c.args.coef.now) c.depth-depth.result table c.in-Ok.at (box_of c.counts_of-counts.result.n c.args.f.root) → v ≡ table_end rules table = λ v. λ q. let h = c.header in let x = c.counts_of-counts in let e = c.edges_of-edges in let d = c.depth-depth in q ∙ lent_same c.args.f x.result e.result x.ensures e.ensures (λ x e. walk_by true (rules_in (frame_from x e) c.args.bands.now c.args.coef.now) d.result table c.in-Ok.at (box_of x.n c.args.f.root)) ∙ ap (λ (d : ℕ). walk_by true rules d table c.in-Ok.at (box_of c.args.f.n c.args.f.root)) d.ensures ∙ tree-walked rules table h.result h.ensures c.in-Ok.at c.in-Ok.is in
     walked c.walk_told.result c.walk_told.ensures
 
 pub returns-else-f-eq2 : goal.returns-else-f-eq2
@@ -53,5 +53,5 @@ returns-else-f-eq2 c =
     let rules : Rules = rules_in c.args.f c.args.bands.now c.args.coef.now in
     let table : List ℕ = c.args.table.now in
     let lent : Frame = frame_from c.counts_of-counts.result c.edges_of-edges.result in
-    let walked : (v : Walk) → v ≡ walk_by true (rules_in lent c.args.bands.now c.args.coef.now) c.depth-depth.result table c.in-Next.at (box_of c.counts_of-counts.result.n c.args.f.root) → v ≡ table_end rules table = λ v. λ q. let h = c.header in let x = c.counts_of-counts in let e = c.edges_of-edges in let d = c.depth-depth in q ∙ lent_same c.args.f x.result e.result x.ensures e.ensures (λ x e. walk_by true (rules_in (frame_from x e) c.args.bands.now c.args.coef.now) d.result table c.in-Next.at (box_of x.n c.args.f.root)) ∙ ap (λ (d : ℕ). walk_by true rules d table c.in-Next.at (box_of c.args.f.n c.args.f.root)) d.ensures ∙ tree-walked rules table h.result h.ensures c.in-Next.at c.in-Next.is in
+    let walked : (v : Walk) → v ≡ walk_by true (rules_in lent c.args.bands.now c.args.coef.now) c.depth-depth.result table c.in-Ok.at (box_of c.counts_of-counts.result.n c.args.f.root) → v ≡ table_end rules table = λ v. λ q. let h = c.header in let x = c.counts_of-counts in let e = c.edges_of-edges in let d = c.depth-depth in q ∙ lent_same c.args.f x.result e.result x.ensures e.ensures (λ x e. walk_by true (rules_in (frame_from x e) c.args.bands.now c.args.coef.now) d.result table c.in-Ok.at (box_of x.n c.args.f.root)) ∙ ap (λ (d : ℕ). walk_by true rules d table c.in-Ok.at (box_of c.args.f.n c.args.f.root)) d.ensures ∙ tree-walked rules table h.result h.ensures c.in-Ok.at c.in-Ok.is in
     walked c.walk.result c.walk.ensures

@@ -19,12 +19,12 @@ idle_call-requires c =
     let framed : c.formed.result ≡ formed c.args.f (form_of bytes) = c.formed.ensures ∙ ap (formed c.args.f) c.form_of-form.ensures in
     subst FrameSound (sym framed) (formed-sound c.args.f (form_of bytes) (form-known bytes) c.requires)
 
-pub returns-in-Refused : goal.returns-in-Refused
-returns-in-Refused c =
+pub returns-in-Err : goal.returns-in-Err
+returns-in-Err c =
     let bytes : List ℕ = c.args.table.now in
     let rules : Rules = rules_by c.args.f [] [] (form_of bytes) in
     let headed : c.header.result ≡ header (form_of bytes) c.args.f.n bytes = c.header.ensures ∙ ap (λ (form : ℕ). header form c.args.f.n bytes) c.form_of-form.ensures in
-    call-refused rules bytes c.args.x c.args.st c.header.result headed c.in-Refused.e c.in-Refused.is
+    call-refused rules bytes c.args.x c.args.st c.header.result headed c.in-Err.e c.in-Err.is
 
 pub returns-then-st-eq0 : goal.returns-then-st-eq0
 returns-then-st-eq0 c =
@@ -33,8 +33,8 @@ returns-then-st-eq0 c =
     let headed : c.header.result ≡ header (form_of bytes) c.args.f.n bytes = c.header.ensures ∙ ap (λ (form : ℕ). header form c.args.f.n bytes) c.form_of-form.ensures in
     let framed : c.formed.result ≡ formed c.args.f (form_of bytes) = c.formed.ensures ∙ ap (formed c.args.f) c.form_of-form.ensures in
     c.idle_call.ensures
-    ∙ ap (λ (f : Frame). idle_call (rules_in f [] []) bytes c.in-Next.at c.args.st.place c.args.x) framed
-    ∙ call-idle rules bytes c.args.x c.args.st c.header.result headed c.in-Next.at c.in-Next.is c.if-st-eq0.true
+    ∙ ap (λ (f : Frame). idle_call (rules_in f [] []) bytes c.in-Ok.at c.args.st.place c.args.x) framed
+    ∙ call-idle rules bytes c.args.x c.args.st c.header.result headed c.in-Ok.at c.in-Ok.is c.if-st-eq0.true
 
 pub returns-else-st-eq0 : goal.returns-else-st-eq0
 returns-else-st-eq0 c =
@@ -42,4 +42,4 @@ returns-else-st-eq0 c =
     let rules : Rules = rules_by c.args.f [] [] (form_of bytes) in
     let headed : c.header.result ≡ header (form_of bytes) c.args.f.n bytes = c.header.ensures ∙ ap (λ (form : ℕ). header form c.args.f.n bytes) c.form_of-form.ensures in
     c.running_call.ensures
-    ∙ call-running rules bytes c.args.x c.args.st c.header.result headed c.in-Next.at c.in-Next.is c.if-st-eq0.false
+    ∙ call-running rules bytes c.args.x c.args.st c.header.result headed c.in-Ok.at c.in-Ok.is c.if-st-eq0.false

@@ -15,20 +15,20 @@ use Rattle.tables.proofs.control.control.Goals as goal
 
 pub call-requires : goal.call-requires
 call-requires c =
-    let taken : Taken (plant_judged c.args.plant.now) c.judge_plant-read.result.outline = let r = c.judge_plant-read in read-good (plant_judged c.args.plant.now) r.result r.ensures c.in-Accepted.is in
+    let taken : Taken (plant_judged c.args.plant.now) c.judge_plant-read.result.outline = let r = c.judge_plant-read in read-good (plant_judged c.args.plant.now) r.result r.ensures c.in-Ok.is in
     let sound : Sound taken.plant = judged-sound c.args.plant.now taken.plant taken.was in
     let own : c.framed.result ≡ own_frame taken.plant = c.framed.ensures ∙ ap frame_of taken.outline in
     framed-sound taken.plant sound c.framed.result own
 
-pub returns-in-Refused : goal.returns-in-Refused
-returns-in-Refused c =
+pub returns-in-Err : goal.returns-in-Err
+returns-in-Err c =
     let a = c.args in
     let r = c.judge_plant-read in
-    sym (controlled-bad a.plant.now c.in-Refused.e (read-bad (plant_judged a.plant.now) r.result r.ensures c.in-Refused.e c.in-Refused.is) a.table.now a.st a.x)
+    sym (controlled-bad a.plant.now c.in-Err.e (read-bad (plant_judged a.plant.now) r.result r.ensures c.in-Err.e c.in-Err.is) a.table.now a.st a.x)
 
-pub returns-in-Accepted : goal.returns-in-Accepted
-returns-in-Accepted c =
-    let taken : Taken (plant_judged c.args.plant.now) c.judge_plant-read.result.outline = let r = c.judge_plant-read in read-good (plant_judged c.args.plant.now) r.result r.ensures c.in-Accepted.is in
+pub returns-in-Ok : goal.returns-in-Ok
+returns-in-Ok c =
+    let taken : Taken (plant_judged c.args.plant.now) c.judge_plant-read.result.outline = let r = c.judge_plant-read in read-good (plant_judged c.args.plant.now) r.result r.ensures c.in-Ok.is in
     let own : c.framed.result ≡ own_frame taken.plant = c.framed.ensures ∙ ap frame_of taken.outline in
     let a = c.args in
     let p = taken.plant in

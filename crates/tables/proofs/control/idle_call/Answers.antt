@@ -3,7 +3,7 @@ use Prim.Native.Nat.{ℕ}
 use mathlib.Core.Path.{◌≡◌, sym, ap, ◌∙◌}
 use mathlib.Core.List.{List, []}
 use lib.Dec.{eqb}
-use Rattle.meaning.specs.declared.Found.{Found}
+use Rattle.meaning.specs.Answers.{Found}
 use Rattle.meaning.specs.Control.{on_found, find, idle_call}
 use Rattle.meaning.specs.Boxes.{fits}
 use Rattle.meaning.specs.Rules.{Rules}
@@ -28,27 +28,27 @@ find-requires c =
     let v = c.admit in
     let l = lent-sound c.args.f k.result e.result k.ensures e.ensures c.requires in
     let n : k.result.n ≡ c.args.f.n = ap (λ (i : Counts). i.n) k.ensures in
-    (l.0, l.1, rw n (admitted (eqb c.args.place 0) (fits (box_of c.args.f.n c.args.f.root) (reading_of c.args.f.n c.args.x)) (sym v.ensures ∙ c.in-Accepted.is)))
+    (l.0, l.1, rw n (admitted (eqb c.args.place 0) (fits (box_of c.args.f.n c.args.f.root) (reading_of c.args.f.n c.args.x)) (sym v.ensures ∙ c.in-Ok.is)))
 
-pub returns-in-Refused : goal.returns-in-Refused
-returns-in-Refused c =
+pub returns-in-Err : goal.returns-in-Err
+returns-in-Err c =
     let rules : Rules = rules_in c.args.f [] [] in
     let bytes : List ℕ = c.args.table.now in
     let v = c.admit in
-    idle-refused rules bytes c.args.x c.args.at c.args.place v.result v.ensures c.in-Refused.e c.in-Refused.is
+    idle-refused rules bytes c.args.x c.args.at c.args.place v.result v.ensures c.in-Err.e c.in-Err.is
 
-pub returns-in-Refused-find : goal.returns-in-Refused-find
-returns-in-Refused-find c =
+pub returns-in-Err-find : goal.returns-in-Err-find
+returns-in-Err-find c =
     let rules : Rules = rules_in c.args.f [] [] in
     let bytes : List ℕ = c.args.table.now in
     let sought : c.find.result ≡ find rules rules.D bytes c.args.at (box_of c.args.f.n c.args.f.root) c.args.x = let k = c.counts_of in let e = c.edges_of-edges in let d = c.depth-depth in c.find.ensures ∙ lent_same c.args.f k.result e.result k.ensures e.ensures (λ k e. find (rules_in (frame_from k e) [] []) d.result bytes c.args.at (box_of k.n c.args.f.root) c.args.x) ∙ ap (λ (d : ℕ). find rules d bytes c.args.at (box_of c.args.f.n c.args.f.root) c.args.x) d.ensures in
-    let found : (o : Found) → c.find.result ≡ o → on_found bytes o ≡ idle_call rules bytes c.args.at c.args.place c.args.x = λ o. λ e. let v = c.admit in ap (on_found bytes) (sym e ∙ sought) ∙ idle-finds rules bytes c.args.x c.args.at c.args.place v.result v.ensures c.in-Accepted.is in
-    found _ c.in-Refused-find.is
+    let found : (o : Found) → c.find.result ≡ o → on_found bytes o ≡ idle_call rules bytes c.args.at c.args.place c.args.x = λ o. λ e. let v = c.admit in ap (on_found bytes) (sym e ∙ sought) ∙ idle-finds rules bytes c.args.x c.args.at c.args.place v.result v.ensures c.in-Ok.is in
+    found _ c.in-Err-find.is
 
-pub returns-in-Tile : goal.returns-in-Tile
-returns-in-Tile c =
+pub returns-in-Ok : goal.returns-in-Ok
+returns-in-Ok c =
     let rules : Rules = rules_in c.args.f [] [] in
     let bytes : List ℕ = c.args.table.now in
     let sought : c.find.result ≡ find rules rules.D bytes c.args.at (box_of c.args.f.n c.args.f.root) c.args.x = let k = c.counts_of in let e = c.edges_of-edges in let d = c.depth-depth in c.find.ensures ∙ lent_same c.args.f k.result e.result k.ensures e.ensures (λ k e. find (rules_in (frame_from k e) [] []) d.result bytes c.args.at (box_of k.n c.args.f.root) c.args.x) ∙ ap (λ (d : ℕ). find rules d bytes c.args.at (box_of c.args.f.n c.args.f.root) c.args.x) d.ensures in
-    let found : (o : Found) → c.find.result ≡ o → on_found bytes o ≡ idle_call rules bytes c.args.at c.args.place c.args.x = λ o. λ e. let v = c.admit in ap (on_found bytes) (sym e ∙ sought) ∙ idle-finds rules bytes c.args.x c.args.at c.args.place v.result v.ensures c.in-Accepted.is in
-    c.answer.ensures ∙ found _ c.in-Tile.is
+    let found : (o : Found) → c.find.result ≡ o → on_found bytes o ≡ idle_call rules bytes c.args.at c.args.place c.args.x = λ o. λ e. let v = c.admit in ap (on_found bytes) (sym e ∙ sought) ∙ idle-finds rules bytes c.args.x c.args.at c.args.place v.result v.ensures c.in-Ok.is in
+    c.answer.ensures ∙ found _ c.in-Ok.is

@@ -13,19 +13,19 @@ can_run-can-requires c = c.requires.longest
 pub admit-requires : goal.admit-requires
 admit-requires c = c.requires.rooms
 
-pub returns-in-Refused : goal.returns-in-Refused
-returns-in-Refused c =
+pub returns-in-Err : goal.returns-in-Err
+returns-in-Err c =
     let rules : Rules = rules_in c.args.f [] [] in
     let bytes : List ℕ = c.args.table.now in
     let r = c.can_run-can in
     let v = c.admit in
-    running-refused rules bytes c.args.x c.args.place c.args.left r.result r.ensures v.result v.ensures c.in-Refused.e c.in-Refused.is
+    running-refused rules bytes c.args.x c.args.place c.args.left r.result r.ensures v.result v.ensures c.in-Err.e c.in-Err.is
 
-pub returns-in-Accepted : goal.returns-in-Accepted
-returns-in-Accepted c =
+pub returns-in-Ok : goal.returns-in-Ok
+returns-in-Ok c =
     let rules : Rules = rules_in c.args.f [] [] in
     let bytes : List ℕ = c.args.table.now in
     let r = c.can_run-can in
     let v = c.admit in
     c.answer.ensures
-    ∙ running-answers rules bytes c.args.x c.args.place c.args.left r.result r.ensures v.result v.ensures c.in-Accepted.is
+    ∙ running-answers rules bytes c.args.x c.args.place c.args.left r.result r.ensures v.result v.ensures c.in-Ok.is

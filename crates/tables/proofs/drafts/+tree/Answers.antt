@@ -1,5 +1,6 @@
 -- `drafts::tree`, which calls itself with less depth: each return cites the law of the node that it stops at; in the loop over the children,
 -- whoever writes those that are left has written them all. Assumes nothing.
+use Rattle.std.specs.Prelude.{Some, None}
 use Prim.Native.Nat.{ℕ, ◌+◌, ◌-◌, ◌<◌}
 use mathlib.Core.Path.{◌≡◌, sym, ◌∙◌}
 use mathlib.Core.List.{List, []}
@@ -14,7 +15,6 @@ use Rattle.meaning.specs.Rules.{Rules}
 use Rattle.meaning.specs.Defined.{first_pattern}
 use Rattle.meaning.specs.Tables.{children_by}
 use Rattle.tables.specs.declared.frames.Frame.{Frame}
-use Rattle.tables.specs.declared.drafts.Grown.{Grown}
 use Rattle.tables.specs.Boxes.{box_of}
 use Rattle.tables.specs.Frames.{frame_from, rules_in}
 use Rattle.tables.specs.Search.{pattern_by}
@@ -132,8 +132,8 @@ returns-in_default t c =
     let left : List ℕ = c.tree-grown.new.buf in
     let in_count : done < length (children_by c.args.f.form box) = in-box _ c.loop-c-test.true in
     let kid : List Side = box_of c.args.f.n c.child-child.result in
-    let stopped : c.tree-grown.result ≡ Grown.Nothing → Wrote whole c.put_number-place.new.buf c.put_number-place.result Grown.Nothing left = λ e. let l = c.loop-c in grow-stopped rules (c.args.d - 1) (children_by c.args.f.form box) done c.put_number-place.new.buf c.put_number-place.result whole l.place l.buf l.invariant.1 [] in_count kid c.child-child.ensures c.tree-grown.result left c.tree-grown.ensures e in
-    goes Grown.Nothing left (stopped c.in_default.is)
+    let stopped : c.tree-grown.result ≡ None → Wrote whole c.put_number-place.new.buf c.put_number-place.result None left = λ e. let l = c.loop-c in grow-stopped rules (c.args.d - 1) (children_by c.args.f.form box) done c.put_number-place.new.buf c.put_number-place.result whole l.place l.buf l.invariant.1 [] in_count kid c.child-child.ensures c.tree-grown.result left c.tree-grown.ensures e in
+    goes None left (stopped c.in_default.is)
 
 pub overflow_add-c : goal.overflow_add-c
 overflow_add-c t c = let h = c.loop-c-test.true in omega arith
@@ -154,9 +154,9 @@ loop-c-preserved t c =
     let left : List ℕ = c.tree-grown.new.buf in
     let in_count : done < length (children_by c.args.f.form box) = in-box _ c.loop-c-test.true in
     let kid : List Side = box_of c.args.f.n c.child-child.result in
-    let goes_on : (m : ℕ) → c.tree-grown.result ≡ Grown.Next m → Growing c.put_number-place.new.buf c.put_number-place.result whole (trees_bytes rules (c.args.d - 1) (drop (done + 1) (children_by c.args.f.form box))) m left = λ m. λ e. let l = c.loop-c in grow-more rules (c.args.d - 1) (children_by c.args.f.form box) done c.put_number-place.new.buf c.put_number-place.result whole l.place l.buf l.invariant.1 [] in_count kid c.child-child.ensures c.tree-grown.result left c.tree-grown.ensures m e in
+    let goes_on : (m : ℕ) → c.tree-grown.result ≡ Some m → Growing c.put_number-place.new.buf c.put_number-place.result whole (trees_bytes rules (c.args.d - 1) (drop (done + 1) (children_by c.args.f.form box))) m left = λ m. λ e. let l = c.loop-c in grow-more rules (c.args.d - 1) (children_by c.args.f.form box) done c.put_number-place.new.buf c.put_number-place.result whole l.place l.buf l.invariant.1 [] in_count kid c.child-child.ensures c.tree-grown.result left c.tree-grown.ensures m e in
     let h = c.loop-c-test.true in
-    (omega arith, goes_on c.in-Next.next c.in-Next.is)
+    (omega arith, goes_on c.in-Ok.next c.in-Ok.is)
 
 pub shape_of-buf : goal.shape_of-buf
 shape_of-buf t c =
@@ -177,4 +177,4 @@ returns t c =
     let l = c.loop-c in
     let n = c.count-count.ensures in
     let h = c.loop-c-test.false in
-    goes-on (Grown.Next l.place) l.buf (grow-done rules (c.args.d - 1) (children_by c.args.f.form box) l.c c.put_number-place.new.buf c.put_number-place.result whole l.place l.buf l.invariant.1 (rw (← n) h))
+    goes-on (Some l.place) l.buf (grow-done rules (c.args.d - 1) (children_by c.args.f.form box) l.c c.put_number-place.new.buf c.put_number-place.result whole l.place l.buf l.invariant.1 (rw (← n) h))

@@ -1,4 +1,5 @@
 -- `finds::find_walking`, which calls itself with less depth: a node, and a loop over the children of a split up to the one that holds the reading. Assumes nothing.
+use Rattle.std.specs.Prelude.{Some, Err}
 use Prim.Native.Nat.{ℕ, ◌-◌, ◌≤◌, ◌<◌}
 use mathlib.Core.Path.{◌≡◌, sym, ap, ◌∙◌}
 use mathlib.Core.Bool.{true, false}
@@ -8,8 +9,6 @@ use lib.IntN.{ℤ, pos}
 use lib.ListN.{length, replicate}
 use Rattle.laws.specs.Lists.{all}
 use Rattle.laws.specs.Tests.{never}
-use Rattle.meaning.specs.declared.Found.{Found}
-use Rattle.meaning.specs.declared.Number.{Number}
 use Rattle.meaning.specs.Boxes.{Side, fits}
 use Rattle.meaning.specs.Numbers.{number_at}
 use Rattle.meaning.specs.Plants.{edge_limit}
@@ -32,17 +31,17 @@ returns-in_default t c =
     let frame : Frame = frame_from c.args.f c.args.edges.now in
     let bytes : List ℕ = c.args.table.now in
     let box : Bx → List Side = λ b. box_of c.args.f.n b in
-    ap Found.Refused c.broken.ensures ∙ node-broken frame c.args.x c.args.d bytes c.args.at (box c.args.b) (sym c.number.ensures ∙ c.in_default.is)
+    ap Err c.broken.ensures ∙ node-broken frame c.args.x c.args.d bytes c.args.at (box c.args.b) (sym c.number.ensures ∙ c.in_default.is)
 
 pub returns-then-f-k : goal.returns-then-f-k
 returns-then-f-k t c =
     let frame : Frame = frame_from c.args.f c.args.edges.now in
     let bytes : List ℕ = c.args.table.now in
     let box : Bx → List Side = λ b. box_of c.args.f.n b in
-    let size : ℕ = c.in-Value.k in
-    let behind : ℕ = c.in-Value.next in
-    let number : number_at bytes c.args.at ≡ Number.Value size behind = sym c.number.ensures ∙ c.in-Value.is in
-    ap Found.Refused c.bad_table.ensures ∙ node_over frame c.args.x c.args.d bytes c.args.at (box c.args.b) size behind number c.if-f-k.true
+    let size : ℕ = c.in-Some.k in
+    let behind : ℕ = c.in-Some.next in
+    let number : number_at bytes c.args.at ≡ Some (size, behind) = sym c.number.ensures ∙ c.in-Some.is in
+    ap Err c.bad_table.ensures ∙ node_over frame c.args.x c.args.d bytes c.args.at (box c.args.b) size behind number c.if-f-k.true
 
 pub tile-requires : goal.tile-requires
 tile-requires t c =
@@ -53,9 +52,9 @@ returns-then-k-gt0 t c =
     let frame : Frame = frame_from c.args.f c.args.edges.now in
     let bytes : List ℕ = c.args.table.now in
     let box : Bx → List Side = λ b. box_of c.args.f.n b in
-    let size : ℕ = c.in-Value.k in
-    let behind : ℕ = c.in-Value.next in
-    let number : number_at bytes c.args.at ≡ Number.Value size behind = sym c.number.ensures ∙ c.in-Value.is in
+    let size : ℕ = c.in-Some.k in
+    let behind : ℕ = c.in-Some.next in
+    let number : number_at bytes c.args.at ≡ Some (size, behind) = sym c.number.ensures ∙ c.in-Some.is in
     c.tile.ensures ∙ node-tile frame c.args.x c.args.d bytes c.args.at (box c.args.b) size behind number c.if-k-gt0.true c.if-f-k.false
 
 pub returns-then-d-eq0 : goal.returns-then-d-eq0
@@ -63,10 +62,10 @@ returns-then-d-eq0 t c =
     let frame : Frame = frame_from c.args.f c.args.edges.now in
     let bytes : List ℕ = c.args.table.now in
     let box : Bx → List Side = λ b. box_of c.args.f.n b in
-    let size : ℕ = c.in-Value.k in
-    let behind : ℕ = c.in-Value.next in
-    let number : number_at bytes c.args.at ≡ Number.Value size behind = sym c.number.ensures ∙ c.in-Value.is in
-    ap Found.Refused c.bad_table-then-d-eq0.ensures ∙ node-deep frame c.args.x c.args.d bytes c.args.at (box c.args.b) size behind number c.if-k-gt0.false c.if-d-eq0.true
+    let size : ℕ = c.in-Some.k in
+    let behind : ℕ = c.in-Some.next in
+    let number : number_at bytes c.args.at ≡ Some (size, behind) = sym c.number.ensures ∙ c.in-Some.is in
+    ap Err c.bad_table-then-d-eq0.ensures ∙ node-deep frame c.args.x c.args.d bytes c.args.at (box c.args.b) size behind number c.if-k-gt0.false c.if-d-eq0.true
 
 pub count-count-requires : goal.count-count-requires
 count-count-requires t c = c.requires.0.rooms
@@ -76,9 +75,9 @@ loop-c-init t c =
     let frame : Frame = frame_from c.args.f c.args.edges.now in
     let bytes : List ℕ = c.args.table.now in
     let box : Bx → List Side = λ b. box_of c.args.f.n b in
-    let size : ℕ = c.in-Value.k in
-    let behind : ℕ = c.in-Value.next in
-    let number : number_at bytes c.args.at ≡ Number.Value size behind = sym c.number.ensures ∙ c.in-Value.is in
+    let size : ℕ = c.in-Some.k in
+    let behind : ℕ = c.in-Some.next in
+    let number : number_at bytes c.args.at ≡ Some (size, behind) = sym c.number.ensures ∙ c.in-Some.is in
     (omega arith, look-split frame c.args.x c.requires.2 c.args.d bytes c.args.at (box c.args.b) size behind number c.if-k-gt0.false c.if-d-eq0.false)
 
 pub child-child-requires : goal.child-child-requires
@@ -124,8 +123,8 @@ walk-requires t c =
     let small : Small edge_limit (box kid) = rw c.child-child.ensures (small-children c.args.f.form edge_limit (box c.args.b) turn below c.requires.1) in
     (c.requires.0, small, (λ e. never e), c.requires.2)
 
-pub returns-in-Refused : goal.returns-in-Refused
-returns-in-Refused t c =
+pub returns-in-Err : goal.returns-in-Err
+returns-in-Err t c =
     let frame : Frame = frame_from c.args.f c.args.edges.now in
     let bytes : List ℕ = c.args.table.now in
     let box : Bx → List Side = λ b. box_of c.args.f.n b in
@@ -135,7 +134,7 @@ returns-in-Refused t c =
     let misses-it : c.missed.result < c.args.f.n → all (fits (box kid) (reading_of c.args.f.n c.args.x)) ≡ false = λ h. not-held c.args.f.n kid.lo kid.hi c.args.x (omega (arith, h, c.missed.ensures)) in
     let l = c.loop-c in
     let r = c.walk in
-    look-refused frame c.args.x c.requires.2 (c.args.d - 1) bytes c.args.at (box c.args.b) l.c l.place below (box kid) c.child-child.ensures (misses-it c.if-n-missed.false) zero zero r.result r.ensures c.in-Refused.e c.in-Refused.is ∙ l.invariant.1
+    look-refused frame c.args.x c.requires.2 (c.args.d - 1) bytes c.args.at (box c.args.b) l.c l.place below (box kid) c.child-child.ensures (misses-it c.if-n-missed.false) zero zero r.result r.ensures c.in-Err.e c.in-Err.is ∙ l.invariant.1
 
 pub overflow_add-c : goal.overflow_add-c
 overflow_add-c t c = omega arith
@@ -154,7 +153,7 @@ loop-c-preserved t c =
     let misses-it : c.missed.result < c.args.f.n → all (fits (box kid) (reading_of c.args.f.n c.args.x)) ≡ false = λ h. not-held c.args.f.n kid.lo kid.hi c.args.x (omega (arith, h, c.missed.ensures)) in
     let l = c.loop-c in
     let r = c.walk in
-    (omega (arith, c.loop-c-test.true), look-more frame c.args.x c.requires.2 (c.args.d - 1) bytes c.args.at (box c.args.b) l.c l.place below (box kid) c.child-child.ensures (misses-it c.if-n-missed.false) zero zero r.result r.ensures c.in-Next.m c.in-Next.is ∙ l.invariant.1)
+    (omega (arith, c.loop-c-test.true), look-more frame c.args.x c.requires.2 (c.args.d - 1) bytes c.args.at (box c.args.b) l.c l.place below (box kid) c.child-child.ensures (misses-it c.if-n-missed.false) zero zero r.result r.ensures c.in-Ok.m c.in-Ok.is ∙ l.invariant.1)
 
 pub returns : goal.returns
 returns t c =
@@ -162,4 +161,4 @@ returns t c =
     let bytes : List ℕ = c.args.table.now in
     let box : Bx → List Side = λ b. box_of c.args.f.n b in
     let l = c.loop-c in
-    ap Found.Refused c.bad_table-2.ensures ∙ look_none frame c.args.x c.requires.2 (c.args.d - 1) bytes c.args.at (box c.args.b) l.c l.place (omega (arith, c.loop-c-test.false, c.count-count.ensures)) ∙ l.invariant.1
+    ap Err c.bad_table-2.ensures ∙ look_none frame c.args.x c.requires.2 (c.args.d - 1) bytes c.args.at (box c.args.b) l.c l.place (omega (arith, c.loop-c-test.false, c.count-count.ensures)) ∙ l.invariant.1

@@ -1,13 +1,11 @@
 -- `finds::find`: where lengths are told, in the loop, what is left to find is the whole. Assumes nothing.
+use Rattle.std.specs.Prelude.{Some, Ok, Err}
 use Prim.Native.Nat.{ℕ, ◌-◌}
 use mathlib.Core.Path.{◌≡◌, refl, sym, ap, ◌∙◌}
 use mathlib.Core.List.{List, []}
 use native.Mathlib.Omega.{arith}
 use borrow.Author.Tests.{ne_eqb}
-use Rattle.meaning.specs.declared.Found.{Found}
-use Rattle.meaning.specs.declared.Number.{Number}
 use Rattle.meaning.specs.declared.Refusal.{Refusal}
-use Rattle.meaning.specs.declared.Walk.{Walk}
 use Rattle.meaning.specs.Boxes.{Side}
 use Rattle.meaning.specs.Control.{find}
 use Rattle.meaning.specs.Numbers.{number_at}
@@ -41,7 +39,7 @@ returns-in_default c =
     let frame : Frame = frame_from c.args.f c.args.edges.now in
     let bytes : List ℕ = c.args.table.now in
     let here : List Side = box_of c.args.f.n c.loop-k.here in
-    ap Found.Refused c.broken.ensures ∙ node-broken frame c.args.x c.loop-k.left bytes c.loop-k.place here (sym c.number.ensures ∙ c.in_default.is) ∙ c.loop-k.invariant.2
+    ap Err c.broken.ensures ∙ node-broken frame c.args.x c.loop-k.left bytes c.loop-k.place here (sym c.number.ensures ∙ c.in_default.is) ∙ c.loop-k.invariant.2
 
 pub bad_table-requires : goal.bad_table-requires
 bad_table-requires c = tt
@@ -51,10 +49,10 @@ returns-then-f-k c =
     let frame : Frame = frame_from c.args.f c.args.edges.now in
     let bytes : List ℕ = c.args.table.now in
     let here : List Side = box_of c.args.f.n c.loop-k.here in
-    let size : ℕ = c.in-Value.k in
-    let behind : ℕ = c.in-Value.next in
-    let number : number_at bytes c.loop-k.place ≡ Number.Value size behind = sym c.number.ensures ∙ c.in-Value.is in
-    ap Found.Refused c.bad_table.ensures ∙ node_over frame c.args.x c.loop-k.left bytes c.loop-k.place here size behind number c.if-f-k.true ∙ c.loop-k.invariant.2
+    let size : ℕ = c.in-Some.k in
+    let behind : ℕ = c.in-Some.next in
+    let number : number_at bytes c.loop-k.place ≡ Some (size, behind) = sym c.number.ensures ∙ c.in-Some.is in
+    ap Err c.bad_table.ensures ∙ node_over frame c.args.x c.loop-k.left bytes c.loop-k.place here size behind number c.if-f-k.true ∙ c.loop-k.invariant.2
 
 pub tile-requires : goal.tile-requires
 tile-requires c =
@@ -65,9 +63,9 @@ returns-then-k-gt0 c =
     let frame : Frame = frame_from c.args.f c.args.edges.now in
     let bytes : List ℕ = c.args.table.now in
     let here : List Side = box_of c.args.f.n c.loop-k.here in
-    let size : ℕ = c.in-Value.k in
-    let behind : ℕ = c.in-Value.next in
-    let number : number_at bytes c.loop-k.place ≡ Number.Value size behind = sym c.number.ensures ∙ c.in-Value.is in
+    let size : ℕ = c.in-Some.k in
+    let behind : ℕ = c.in-Some.next in
+    let number : number_at bytes c.loop-k.place ≡ Some (size, behind) = sym c.number.ensures ∙ c.in-Some.is in
     c.tile.ensures ∙ node-tile frame c.args.x c.loop-k.left bytes c.loop-k.place here size behind number c.if-k-gt0.true c.if-f-k.false ∙ c.loop-k.invariant.2
 
 pub bad_table-requires-then-left-eq0 : goal.bad_table-requires-then-left-eq0
@@ -78,10 +76,10 @@ returns-then-left-eq0 c =
     let frame : Frame = frame_from c.args.f c.args.edges.now in
     let bytes : List ℕ = c.args.table.now in
     let here : List Side = box_of c.args.f.n c.loop-k.here in
-    let size : ℕ = c.in-Value.k in
-    let behind : ℕ = c.in-Value.next in
-    let number : number_at bytes c.loop-k.place ≡ Number.Value size behind = sym c.number.ensures ∙ c.in-Value.is in
-    ap Found.Refused c.bad_table-then-left-eq0.ensures ∙ node-deep frame c.args.x c.loop-k.left bytes c.loop-k.place here size behind number c.if-k-gt0.false c.if-left-eq0.true ∙ c.loop-k.invariant.2
+    let size : ℕ = c.in-Some.k in
+    let behind : ℕ = c.in-Some.next in
+    let number : number_at bytes c.loop-k.place ≡ Some (size, behind) = sym c.number.ensures ∙ c.in-Some.is in
+    ap Err c.bad_table-then-left-eq0.ensures ∙ node-deep frame c.args.x c.loop-k.left bytes c.loop-k.place here size behind number c.if-k-gt0.false c.if-left-eq0.true ∙ c.loop-k.invariant.2
 
 pub half_of-half-requires : goal.half_of-half-requires
 half_of-half-requires c =
@@ -96,30 +94,30 @@ returns-then-half-eq1 c =
     let bytes : List ℕ = c.args.table.now in
     let here : List Side = box_of c.args.f.n c.loop-k.here in
     let told : c.args.f.form ≡ 2 = c.if-f-ne2.false in
-    let size : ℕ = c.in-Value.k in
-    let behind : ℕ = c.in-Value.next in
-    let number : number_at bytes c.loop-k.place ≡ Number.Value size behind = sym c.number.ensures ∙ c.in-Value.is in
-    ap Found.Refused c.bad_table-then-half-eq1.ensures ∙ told-stuck frame told c.args.x c.loop-k.left bytes c.loop-k.place behind size number c.if-k-gt0.false here c.half_of-half.result c.half_of-half.ensures c.if-half-eq1.true ∙ c.loop-k.invariant.2
+    let size : ℕ = c.in-Some.k in
+    let behind : ℕ = c.in-Some.next in
+    let number : number_at bytes c.loop-k.place ≡ Some (size, behind) = sym c.number.ensures ∙ c.in-Some.is in
+    ap Err c.bad_table-then-half-eq1.ensures ∙ told-stuck frame told c.args.x c.loop-k.left bytes c.loop-k.place behind size number c.if-k-gt0.false here c.half_of-half.result c.half_of-half.ensures c.if-half-eq1.true ∙ c.loop-k.invariant.2
 
 pub place_of-requires : goal.place_of-requires
 place_of-requires c =
     let bytes : List ℕ = c.args.table.now in
-    let size : ℕ = c.in-Value.k in
-    let behind : ℕ = c.in-Value.next in
-    let number : number_at bytes c.loop-k.place ≡ Number.Value size behind = sym c.number.ensures ∙ c.in-Value.is in
+    let size : ℕ = c.in-Some.k in
+    let behind : ℕ = c.in-Some.next in
+    let number : number_at bytes c.loop-k.place ≡ Some (size, behind) = sym c.number.ensures ∙ c.in-Some.is in
     (number-within bytes c.loop-k.place size behind number, c.half_of-half.ensures.inside, c.half_of-half.ensures.few)
 
-pub returns-in-Refused : goal.returns-in-Refused
-returns-in-Refused c =
+pub returns-in-Err : goal.returns-in-Err
+returns-in-Err c =
     let frame : Frame = frame_from c.args.f c.args.edges.now in
     let bytes : List ℕ = c.args.table.now in
     let here : List Side = box_of c.args.f.n c.loop-k.here in
     let of-form-2 : c.args.f.form ≡ 2 = c.if-f-ne2.false in
-    let size : ℕ = c.in-Value.k in
-    let behind : ℕ = c.in-Value.next in
-    let number : number_at bytes c.loop-k.place ≡ Number.Value size behind = sym c.number.ensures ∙ c.in-Value.is in
-    let refuses : (r : Refusal) → c.place_of.result ≡ Walk.Refused r → Found.Refused r ≡ find (rules_in frame [] []) c.args.d bytes c.args.at (box_of c.args.f.n c.args.b) c.args.x = λ r. λ g. told-refused frame of-form-2 c.args.x c.loop-k.left bytes c.loop-k.place behind size number c.if-k-gt0.false here c.half_of-half.result c.half_of-half.ensures c.if-half-eq1.false c.if-left-eq0.false c.place_of.result c.place_of.ensures r g ∙ c.loop-k.invariant.2 in
-    refuses c.in-Refused.e c.in-Refused.is
+    let size : ℕ = c.in-Some.k in
+    let behind : ℕ = c.in-Some.next in
+    let number : number_at bytes c.loop-k.place ≡ Some (size, behind) = sym c.number.ensures ∙ c.in-Some.is in
+    let refuses : (r : Refusal) → c.place_of.result ≡ Err r → Err r ≡ find (rules_in frame [] []) c.args.d bytes c.args.at (box_of c.args.f.n c.args.b) c.args.x = λ r. λ g. told-refused frame of-form-2 c.args.x c.loop-k.left bytes c.loop-k.place behind size number c.if-k-gt0.false here c.half_of-half.result c.half_of-half.ensures c.if-half-eq1.false c.if-left-eq0.false c.place_of.result c.place_of.ensures r g ∙ c.loop-k.invariant.2 in
+    refuses c.in-Err.e c.in-Err.is
 
 pub overflow_sub-left : goal.overflow_sub-left
 overflow_sub-left c = let h = c.if-left-eq0.false in omega arith
@@ -133,11 +131,11 @@ loop-k-preserved c =
     let bytes : List ℕ = c.args.table.now in
     let here : List Side = box_of c.args.f.n c.loop-k.here in
     let lengths-told : c.args.f.form ≡ 2 = c.if-f-ne2.false in
-    let size : ℕ = c.in-Value.k in
-    let behind : ℕ = c.in-Value.next in
-    let number : number_at bytes c.loop-k.place ≡ Number.Value size behind = sym c.number.ensures ∙ c.in-Value.is in
+    let size : ℕ = c.in-Some.k in
+    let behind : ℕ = c.in-Some.next in
+    let number : number_at bytes c.loop-k.place ≡ Some (size, behind) = sym c.number.ensures ∙ c.in-Some.is in
     let small : (c.half_of-half.result.count ≡ 1 → ⊥) → Small edge_limit (box_of c.args.f.n c.half_of-half.result.kid) = λ some. let h = c.half_of-half.ensures in rw (h.kid_is some) (small-children 1 edge_limit here c.half_of-half.result.number (omega (arith, h.inside, h.many some)) c.loop-k.invariant.0) in
-    let goes : (p : ℕ) → c.place_of.result ≡ Walk.Next p → find (rules_in frame [] []) (c.loop-k.left - 1) bytes p (box_of c.args.f.n c.half_of-half.result.kid) c.args.x ≡ find (rules_in frame [] []) c.args.d bytes c.args.at (box_of c.args.f.n c.args.b) c.args.x = λ p. λ g. told_child frame lengths-told c.args.x c.loop-k.left bytes c.loop-k.place behind size number c.if-k-gt0.false here c.half_of-half.result c.half_of-half.ensures c.if-half-eq1.false c.if-left-eq0.false c.place_of.result c.place_of.ensures p g ∙ c.loop-k.invariant.2 in
+    let goes : (p : ℕ) → c.place_of.result ≡ Ok p → find (rules_in frame [] []) (c.loop-k.left - 1) bytes p (box_of c.args.f.n c.half_of-half.result.kid) c.args.x ≡ find (rules_in frame [] []) c.args.d bytes c.args.at (box_of c.args.f.n c.args.b) c.args.x = λ p. λ g. told_child frame lengths-told c.args.x c.loop-k.left bytes c.loop-k.place behind size number c.if-k-gt0.false here c.half_of-half.result c.half_of-half.ensures c.if-half-eq1.false c.if-left-eq0.false c.place_of.result c.place_of.ensures p g ∙ c.loop-k.invariant.2 in
     let h = c.half_of-half.ensures in
     let some = c.if-half-eq1.false in
-    (small some, h.held, goes c.in-Next.m c.in-Next.is)
+    (small some, h.held, goes c.in-Ok.m c.in-Ok.is)

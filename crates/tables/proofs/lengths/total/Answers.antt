@@ -1,8 +1,8 @@
 -- `lengths::total`: what is added so far and what is left come to the whole; k lengths below 2^35 are below k·2^35. Assumes nothing.
+use Rattle.std.specs.Prelude.{Some}
 use Prim.Native.Nat.{ℕ, ◌^◌, ◌<◌}
 use mathlib.Core.Path.{◌≡◌, refl, sym, ap, ◌∙◌}
 use native.Mathlib.Omega.{arith}
-use Rattle.meaning.specs.declared.Number.{Number}
 use Rattle.meaning.specs.Numbers.{number_at}
 use Rattle.meaning.specs.Verdicts.{lengths_at}
 use Rattle.promises.specs.Files.Numbers.{was}
@@ -20,8 +20,8 @@ returns-in_default c =
 
 pub overflow_add-sum : goal.overflow_add-sum
 overflow_add-sum c =
-    let number_is : number_at c.args.table.now c.loop-left.place ≡ Number.Value c.in-Value.size c.in-Value.next = sym c.number.ensures ∙ c.in-Value.is in
-    let small : c.in-Value.size < 2 ^ 35 = (was c.in-Value.size c.loop-left.place c.in-Value.next c.args.table.now number_is).0 in
+    let number_is : number_at c.args.table.now c.loop-left.place ≡ Some (c.in-Some.size, c.in-Some.next) = sym c.number.ensures ∙ c.in-Some.is in
+    let small : c.in-Some.size < 2 ^ 35 = (was c.in-Some.size c.loop-left.place c.in-Some.next c.args.table.now number_is).0 in
     let p = c.loop-left.invariant in
     let k = c.requires in
     omega (arith, p.0, p.1, k, small)
@@ -34,13 +34,13 @@ loop-left-smaller c = omega arith
 
 pub loop-left-preserved : goal.loop-left-preserved
 loop-left-preserved c =
-    let number_is : number_at c.args.table.now c.loop-left.place ≡ Number.Value c.in-Value.size c.in-Value.next = sym c.number.ensures ∙ c.in-Value.is in
-    let small : c.in-Value.size < 2 ^ 35 = (was c.in-Value.size c.loop-left.place c.in-Value.next c.args.table.now number_is).0 in
+    let number_is : number_at c.args.table.now c.loop-left.place ≡ Some (c.in-Some.size, c.in-Some.next) = sym c.number.ensures ∙ c.in-Some.is in
+    let small : c.in-Some.size < 2 ^ 35 = (was c.in-Some.size c.loop-left.place c.in-Some.next c.args.table.now number_is).0 in
     let h = c.loop-left-test.true in
     let p = c.loop-left.invariant in (
       omega (arith, p.0),
       omega (arith, p.0, p.1, h, small),
-      total-more c.args.table.now c.loop-left.left c.loop-left.sum c.loop-left.place h c.in-Value.size c.in-Value.next number_is ∙ p.2,
+      total-more c.args.table.now c.loop-left.left c.loop-left.sum c.loop-left.place h c.in-Some.size c.in-Some.next number_is ∙ p.2,
     )
 
 pub returns : goal.returns

@@ -1,5 +1,6 @@
 -- `makes::write_table`: the draft has room for the table, so that its front is the table, or where the form tells lengths what is turned into it; where there is none, 9.
 -- Assumes nothing.
+use Rattle.std.specs.Prelude.{Some}
 use Prim.Native.Nat.{ℕ}
 use mathlib.Core.Path.{◌≡◌, sym, ap, ◌∙◌}
 use mathlib.Core.Bool.{true}
@@ -10,7 +11,6 @@ use borrow.Author.Tests.{eq-eqb, ne_eqb}
 use Rattle.meaning.specs.declared.Refusal.{Refusal}
 use Rattle.meaning.specs.Buffers.{Left, refused_with}
 use Rattle.meaning.specs.Rules.{Rules}
-use Rattle.tables.specs.declared.drafts.Grown.{Grown}
 use Rattle.tables.specs.Frames.{rules_in}
 use Rattle.tables.specs.Turns.{table_by}
 use Rattle.tables.proofs.drafts.Laws.{Drafted, draft-none, table-by, untold-is, drafted}
@@ -32,31 +32,31 @@ pub slice_bounds-leave-end : goal.slice_bounds-leave-end
 slice_bounds-leave-end c =
     let rules : Rules = rules_in c.args.f c.args.bands.now c.args.coef.now in
     let draft : List ℕ = c.table.new.buf in
-    let held : (size : ℕ) → c.table.result ≡ Grown.Next size → Drafted rules size draft = λ size. λ z. drafted c.args.f c.args.bands.now c.args.coef.now c.requires.frame.0 c.args.draft.now c.requires.room c.table.result draft c.table.ensures size z in
-    (held c.in-Next.length c.in-Next.is).held.fits
+    let held : (size : ℕ) → c.table.result ≡ Some size → Drafted rules size draft = λ size. λ z. drafted c.args.f c.args.bands.now c.args.coef.now c.requires.frame.0 c.args.draft.now c.requires.room c.table.result draft c.table.ensures size z in
+    (held c.in-Ok.length c.in-Ok.is).held.fits
 
 pub slice_bounds-leave-end-then-f-eq2 : goal.slice_bounds-leave-end-then-f-eq2
 slice_bounds-leave-end-then-f-eq2 c =
     let rules : Rules = rules_in c.args.f c.args.bands.now c.args.coef.now in
     let draft : List ℕ = c.table.new.buf in
-    let held : (size : ℕ) → c.table.result ≡ Grown.Next size → Drafted rules size draft = λ size. λ z. drafted c.args.f c.args.bands.now c.args.coef.now c.requires.frame.0 c.args.draft.now c.requires.room c.table.result draft c.table.ensures size z in
-    sym (length-take-le c.in-Next.length draft (held c.in-Next.length c.in-Next.is).held.fits)
+    let held : (size : ℕ) → c.table.result ≡ Some size → Drafted rules size draft = λ size. λ z. drafted c.args.f c.args.bands.now c.args.coef.now c.requires.frame.0 c.args.draft.now c.requires.room c.table.result draft c.table.ensures size z in
+    sym (length-take-le c.in-Ok.length draft (held c.in-Ok.length c.in-Ok.is).held.fits)
 
 -- form 2 tells lengths
 pub leave-requires : goal.leave-requires
 leave-requires c =
     let rules : Rules = rules_in c.args.f c.args.bands.now c.args.coef.now in
     let draft : List ℕ = c.table.new.buf in
-    let held : (size : ℕ) → c.table.result ≡ Grown.Next size → Drafted rules size draft = λ size. λ z. drafted c.args.f c.args.bands.now c.args.coef.now c.requires.frame.0 c.args.draft.now c.requires.room c.table.result draft c.table.ensures size z in
-    (c.requires.frame.0, some-lies c.args.f c.args.bands.now c.args.coef.now c.requires.frame.0 (eq-eqb c.args.f.form 2 c.if-f-eq2.true) (held c.in-Next.length c.in-Next.is))
+    let held : (size : ℕ) → c.table.result ≡ Some size → Drafted rules size draft = λ size. λ z. drafted c.args.f c.args.bands.now c.args.coef.now c.requires.frame.0 c.args.draft.now c.requires.room c.table.result draft c.table.ensures size z in
+    (c.requires.frame.0, some-lies c.args.f c.args.bands.now c.args.coef.now c.requires.frame.0 (eq-eqb c.args.f.form 2 c.if-f-eq2.true) (held c.in-Ok.length c.in-Ok.is))
 
 pub returns-then-f-eq2 : goal.returns-then-f-eq2
 returns-then-f-eq2 c =
     let rules : Rules = rules_in c.args.f c.args.bands.now c.args.coef.now in
     let buffer : List ℕ = c.args.buf.now in
     let draft : List ℕ = c.table.new.buf in
-    let held : (size : ℕ) → c.table.result ≡ Grown.Next size → Drafted rules size draft = λ size. λ z. drafted c.args.f c.args.bands.now c.args.coef.now c.requires.frame.0 c.args.draft.now c.requires.room c.table.result draft c.table.ensures size z in
-    let d = held c.in-Next.length c.in-Next.is in
+    let held : (size : ℕ) → c.table.result ≡ Some size → Drafted rules size draft = λ size. λ z. drafted c.args.f c.args.bands.now c.args.coef.now c.requires.frame.0 c.args.draft.now c.requires.room c.table.result draft c.table.ensures size z in
+    let d = held c.in-Ok.length c.in-Ok.is in
     let told = eq-eqb c.args.f.form 2 c.if-f-eq2.true in
     let w = c.leave.ensures d.tree _ (lies c.args.f c.args.bands.now c.args.coef.now c.requires.frame.0 told d) in
     let e = left-drafted rules buffer d.tree d.is (table_by c.args.f.form c.args.f.n true d.tree) (table-by rules true told d.tree) in
@@ -66,23 +66,23 @@ pub slice_bounds-leave-end-2 : goal.slice_bounds-leave-end-2
 slice_bounds-leave-end-2 c =
     let rules : Rules = rules_in c.args.f c.args.bands.now c.args.coef.now in
     let draft : List ℕ = c.table.new.buf in
-    let held : (size : ℕ) → c.table.result ≡ Grown.Next size → Drafted rules size draft = λ size. λ z. drafted c.args.f c.args.bands.now c.args.coef.now c.requires.frame.0 c.args.draft.now c.requires.room c.table.result draft c.table.ensures size z in
-    (held c.in-Next.length c.in-Next.is).held.fits
+    let held : (size : ℕ) → c.table.result ≡ Some size → Drafted rules size draft = λ size. λ z. drafted c.args.f c.args.bands.now c.args.coef.now c.requires.frame.0 c.args.draft.now c.requires.room c.table.result draft c.table.ensures size z in
+    (held c.in-Ok.length c.in-Ok.is).held.fits
 
 pub slice_bounds-leave-end-3 : goal.slice_bounds-leave-end-3
 slice_bounds-leave-end-3 c =
     let rules : Rules = rules_in c.args.f c.args.bands.now c.args.coef.now in
     let draft : List ℕ = c.table.new.buf in
-    let held : (size : ℕ) → c.table.result ≡ Grown.Next size → Drafted rules size draft = λ size. λ z. drafted c.args.f c.args.bands.now c.args.coef.now c.requires.frame.0 c.args.draft.now c.requires.room c.table.result draft c.table.ensures size z in
-    sym (length-take-le c.in-Next.length draft (held c.in-Next.length c.in-Next.is).held.fits)
+    let held : (size : ℕ) → c.table.result ≡ Some size → Drafted rules size draft = λ size. λ z. drafted c.args.f c.args.bands.now c.args.coef.now c.requires.frame.0 c.args.draft.now c.requires.room c.table.result draft c.table.ensures size z in
+    sym (length-take-le c.in-Ok.length draft (held c.in-Ok.length c.in-Ok.is).held.fits)
 
 pub returns : goal.returns
 returns c =
     let rules : Rules = rules_in c.args.f c.args.bands.now c.args.coef.now in
     let buffer : List ℕ = c.args.buf.now in
     let draft : List ℕ = c.table.new.buf in
-    let held : (size : ℕ) → c.table.result ≡ Grown.Next size → Drafted rules size draft = λ size. λ z. drafted c.args.f c.args.bands.now c.args.coef.now c.requires.frame.0 c.args.draft.now c.requires.room c.table.result draft c.table.ensures size z in
-    let d = held c.in-Next.length c.in-Next.is in
+    let held : (size : ℕ) → c.table.result ≡ Some size → Drafted rules size draft = λ size. λ z. drafted c.args.f c.args.bands.now c.args.coef.now c.requires.frame.0 c.args.draft.now c.requires.room c.table.result draft c.table.ensures size z in
+    let d = held c.in-Ok.length c.in-Ok.is in
     let w = c.leave-2 in
-    let e = left-drafted rules buffer d.tree d.is (take c.in-Next.length draft) (untold-is rules (ne_eqb c.args.f.form 2 c.if-f-eq2.false) d) in
+    let e = left-drafted rules buffer d.tree d.is (take c.in-Ok.length draft) (untold-is rules (ne_eqb c.args.f.form 2 c.if-f-eq2.false) d) in
     record { answer = w.ensures.answer ∙ ap (λ (l : Left). l.answer) e; bytes = w.ensures.bytes ∙ ap (λ (l : Left). l.buffer) e }

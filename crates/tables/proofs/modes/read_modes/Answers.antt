@@ -23,8 +23,8 @@ returns-then-modes-u c =
     let a = c.args in
     let l = c.loop-i in
     let h = c.loop-i-test.true in
-    let v = sym c.number.ensures ∙ c.in-Value.is in
-    ap refused c.bad_table.ensures ∙ modes-past a.modes a.k a.table.now a.at l.i l.w l.us l.invariant h c.in-Value.u c.in-Value.next v c.if-modes-u.true
+    let v = sym c.number.ensures ∙ c.in-Some.is in
+    ap refused c.bad_table.ensures ∙ modes-past a.modes a.k a.table.now a.at l.i l.w l.us l.invariant h c.in-Some.u c.in-Some.next v c.if-modes-u.true
 
 pub offset_bounds-us-i : goal.offset_bounds-us-i
 offset_bounds-us-i c = omega (arith, c.requires)
@@ -43,8 +43,8 @@ loop-i-preserved c =
     let a = c.args in
     let l = c.loop-i in
     let h = c.loop-i-test.true in
-    let v = sym c.number.ensures ∙ c.in-Value.is in
-    modes-next a.modes a.k a.table.now a.at l.i l.w l.us l.invariant h c.in-Value.u c.in-Value.next v c.if-modes-u.false c.requires
+    let v = sym c.number.ensures ∙ c.in-Some.is in
+    modes-next a.modes a.k a.table.now a.at l.i l.w l.us l.invariant h c.in-Some.u c.in-Some.next v c.if-modes-u.false c.requires
 
 pub returns : goal.returns
 returns c =

@@ -20,7 +20,7 @@ returns-in_default c =
 
 pub overflow_add-place : goal.overflow_add-place
 overflow_add-place c =
-    omega (arith, part-within c.args.s.now c.loop-left.place c.in-At.first c.in-At.size (sym c.part_at-part.ensures ∙ c.in-At.is))
+    omega (arith, part-within c.args.s.now c.loop-left.place c.in-Ok.first c.in-Ok.size (sym c.part_at-part.ensures ∙ c.in-Ok.is))
 
 pub overflow_sub-left : goal.overflow_sub-left
 overflow_sub-left c = omega arith
@@ -30,7 +30,7 @@ loop-left-smaller c = omega arith
 
 pub loop-left-preserved : goal.loop-left-preserved
 loop-left-preserved c =
-    behind_more c.args.s.now c.loop-left.left c.loop-left.place (omega arith) c.in-At.first c.in-At.size (sym c.part_at-part.ensures ∙ c.in-At.is)
+    behind_more c.args.s.now c.loop-left.left c.loop-left.place (omega arith) c.in-Ok.first c.in-Ok.size (sym c.part_at-part.ensures ∙ c.in-Ok.is)
     ∙ c.loop-left.invariant
 
 pub part_at-requires : goal.part_at-requires

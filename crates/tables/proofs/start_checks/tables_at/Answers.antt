@@ -1,8 +1,8 @@
 -- `start_checks::tables_at`: what is left from table i on is the whole. Assumes nothing.
+use Rattle.std.specs.Prelude.{Err}
 use Prim.Native.Nat.{ℕ, ◌+◌, ◌-◌}
 use mathlib.Core.Path.{◌≡◌, sym, ap, ◌∙◌, subst}
 use native.Mathlib.Omega.{arith}
-use Rattle.meaning.specs.declared.Verdict.{Verdict}
 use Rattle.meaning.specs.Starts.{tables_at}
 use Rattle.tables.specs.declared.frames.Frame.{Frame}
 use Rattle.tables.specs.Frames.{rules_by, PlantSound}
@@ -23,11 +23,11 @@ pub table_at-requires : goal.table_at-requires
 table_at-requires c =
     subst (λ (g : Frame). PlantSound g c.args.bands.now c.args.coef.now) (sym c.frame_at.ensures) (c.requires.0.each c.loop-i.i (omega arith), c.requires.1)
 
-pub returns-in-Refused : goal.returns-in-Refused
-returns-in-Refused c =
+pub returns-in-Err : goal.returns-in-Err
+returns-in-Err c =
     let told : (let a = c.args in c.table_at.result ≡ table_at (rules_at a.f a.edges.now a.bands.now a.coef.now c.loop-i.i) a.start.now c.loop-i.place) = let a = c.args in c.table_at.ensures ∙ ap (λ (g : Frame). table_at (rules_by g a.bands.now a.coef.now) a.start.now c.loop-i.place) c.frame_at.ensures in
     let a = c.args in
-    tables-stopped (rules_at a.f a.edges.now a.bands.now a.coef.now) a.start.now a.m c.loop-i.i c.loop-i.place (omega arith) c.table_at.result told c.in-Refused.e c.in-Refused.is
+    tables-stopped (rules_at a.f a.edges.now a.bands.now a.coef.now) a.start.now a.m c.loop-i.i c.loop-i.place (omega arith) c.table_at.result told c.in-Err.e c.in-Err.is
     ∙ c.loop-i.invariant.1
 
 pub overflow_add-i : goal.overflow_add-i
@@ -41,7 +41,7 @@ loop-i-preserved c =
     let told : (let a = c.args in c.table_at.result ≡ table_at (rules_at a.f a.edges.now a.bands.now a.coef.now c.loop-i.i) a.start.now c.loop-i.place) = let a = c.args in c.table_at.ensures ∙ ap (λ (g : Frame). table_at (rules_by g a.bands.now a.coef.now) a.start.now c.loop-i.place) c.frame_at.ensures in
     let a = c.args in (
       omega arith,
-      tables_more (rules_at a.f a.edges.now a.bands.now a.coef.now) a.start.now a.m c.loop-i.i c.loop-i.place (omega arith) c.table_at.result told c.in-Next.next c.in-Next.is ∙ c.loop-i.invariant.1,
+      tables_more (rules_at a.f a.edges.now a.bands.now a.coef.now) a.start.now a.m c.loop-i.i c.loop-i.place (omega arith) c.table_at.result told c.in-Ok.next c.in-Ok.is ∙ c.loop-i.invariant.1,
     )
 
 pub unfit-requires : goal.unfit-requires
@@ -55,5 +55,5 @@ returns-then-place-start c =
 pub returns-else-place-start : goal.returns-else-place-start
 returns-else-place-start c =
     let a = c.args in
-    ap Verdict.Refused c.unfit.ensures
+    ap Err c.unfit.ensures
     ∙ tables-over (rules_at a.f a.edges.now a.bands.now a.coef.now) a.start.now a.m c.loop-i.i c.loop-i.place (omega arith) c.if-place-start.false ∙ c.loop-i.invariant.1

@@ -1,12 +1,11 @@
 -- `start_control::start_control`: the plant, the chain, whose frames are sound where it was accepted, then the call. Assumes nothing.
+use Rattle.std.specs.Prelude.{Ok, Err}
 use Prim.Native.Nat.{ℕ, ◌≤◌}
 use mathlib.Core.Path.{◌≡◌, sym, ap, ◌∙◌, subst}
 use mathlib.Core.Bool.{false}
 use mathlib.Core.List.{List}
 use lib.IntN.{ℤ}
-use Rattle.meaning.specs.declared.StartAnswer.{StartAnswer}
 use Rattle.meaning.specs.declared.StartState.{StartState}
-use Rattle.meaning.specs.declared.Verdict.{Verdict}
 use Rattle.meaning.specs.Files.{good}
 use Rattle.meaning.specs.Plants.{Plant, plant_judged}
 use Rattle.meaning.specs.Starts.{start_call}
@@ -24,7 +23,7 @@ use Rattle.tables.proofs.start_control.start_control.Goals as goal
 pub read_chain-chain-requires : goal.read_chain-chain-requires
 read_chain-chain-requires c =
     let plant : List ℕ = c.args.plant.now in
-    let was-taken : Taken (plant_judged plant) c.judge_plant-read.result.outline = let r = c.judge_plant-read in read-good (plant_judged plant) r.result r.ensures c.in-Accepted.is in
+    let was-taken : Taken (plant_judged plant) c.judge_plant-read.result.outline = let r = c.judge_plant-read in read-good (plant_judged plant) r.result r.ensures c.in-Ok.is in
     let p : Plant = was-taken.plant in
     let taken : plant_judged plant ≡ good p = was-taken.was in
     let sound : Sound p = judged-sound plant p taken in
@@ -35,7 +34,7 @@ pub start_call-requires : goal.start_call-requires
 start_call-requires c =
     let plant : List ℕ = c.args.plant.now in
     let start : List ℕ = c.args.start.now in
-    let was-taken : Taken (plant_judged plant) c.judge_plant-read.result.outline = let r = c.judge_plant-read in read-good (plant_judged plant) r.result r.ensures c.in-Accepted.is in
+    let was-taken : Taken (plant_judged plant) c.judge_plant-read.result.outline = let r = c.judge_plant-read in read-good (plant_judged plant) r.result r.ensures c.in-Ok.is in
     let p : Plant = was-taken.plant in
     let taken : plant_judged plant ≡ good p = was-taken.was in
     let sound : Sound p = judged-sound plant p taken in
@@ -43,22 +42,22 @@ start_call-requires c =
     let framed : f ≡ own_frame p = c.framed-f.ensures ∙ ap frame_of was-taken.outline in
     let chain : ChainRead = c.read_chain-chain.result in
     let was_read : chain ≡ chain_read false f start = c.read_chain-chain.ensures in
-    let kept : (h : chain.verdict ≡ Verdict.Accepted) → Chained false (own_frame p) start chain = λ h. plant-chain false p sound f framed start chain was_read h in
-    plant-frames false p sound f framed start chain was_read (kept c.in-Accepted-kept.is)
+    let kept : (h : chain.verdict ≡ Ok tt) → Chained false (own_frame p) start chain = λ h. plant-chain false p sound f framed start chain was_read h in
+    plant-frames false p sound f framed start chain was_read (kept c.in-Ok-kept.is)
 
-pub returns-in-Refused : goal.returns-in-Refused
-returns-in-Refused c =
+pub returns-in-Err : goal.returns-in-Err
+returns-in-Err c =
     let a = c.args in
     let r = c.judge_plant-read in
-    plant-bad a.plant.now a.start.now a.st a.x c.in-Refused.e (read-bad (plant_judged a.plant.now) r.result r.ensures c.in-Refused.e c.in-Refused.is)
+    plant-bad a.plant.now a.start.now a.st a.x c.in-Err.e (read-bad (plant_judged a.plant.now) r.result r.ensures c.in-Err.e c.in-Err.is)
 
-pub returns-in-Refused-kept : goal.returns-in-Refused-kept
-returns-in-Refused-kept c =
+pub returns-in-Err-kept : goal.returns-in-Err-kept
+returns-in-Err-kept c =
     let plant : List ℕ = c.args.plant.now in
     let start : List ℕ = c.args.start.now in
     let state : StartState = c.args.st in
     let reading : List ℤ = c.args.x in
-    let was-taken : Taken (plant_judged plant) c.judge_plant-read.result.outline = let r = c.judge_plant-read in read-good (plant_judged plant) r.result r.ensures c.in-Accepted.is in
+    let was-taken : Taken (plant_judged plant) c.judge_plant-read.result.outline = let r = c.judge_plant-read in read-good (plant_judged plant) r.result r.ensures c.in-Ok.is in
     let p : Plant = was-taken.plant in
     let taken : plant_judged plant ≡ good p = was-taken.was in
     let sound : Sound p = judged-sound plant p taken in
@@ -66,16 +65,16 @@ returns-in-Refused-kept c =
     let framed : f ≡ own_frame p = c.framed-f.ensures ∙ ap frame_of was-taken.outline in
     let chain : ChainRead = c.read_chain-chain.result in
     let was_read : chain ≡ chain_read false f start = c.read_chain-chain.ensures in
-    plant-refused false p sound f framed start chain was_read c.in-Refused-kept.e c.in-Refused-kept.is StartAnswer.Refused (λ vs next. start_call p vs start next state reading)
+    plant-refused false p sound f framed start chain was_read c.in-Err-kept.e c.in-Err-kept.is Err (λ vs next. start_call p vs start next state reading)
     ∙ plant-good plant start state reading p taken
 
-pub returns-in-Accepted-kept : goal.returns-in-Accepted-kept
-returns-in-Accepted-kept c =
+pub returns-in-Ok-kept : goal.returns-in-Ok-kept
+returns-in-Ok-kept c =
     let plant : List ℕ = c.args.plant.now in
     let start : List ℕ = c.args.start.now in
     let state : StartState = c.args.st in
     let reading : List ℤ = c.args.x in
-    let was-taken : Taken (plant_judged plant) c.judge_plant-read.result.outline = let r = c.judge_plant-read in read-good (plant_judged plant) r.result r.ensures c.in-Accepted.is in
+    let was-taken : Taken (plant_judged plant) c.judge_plant-read.result.outline = let r = c.judge_plant-read in read-good (plant_judged plant) r.result r.ensures c.in-Ok.is in
     let p : Plant = was-taken.plant in
     let taken : plant_judged plant ≡ good p = was-taken.was in
     let sound : Sound p = judged-sound plant p taken in
@@ -83,9 +82,9 @@ returns-in-Accepted-kept c =
     let framed : f ≡ own_frame p = c.framed-f.ensures ∙ ap frame_of was-taken.outline in
     let chain : ChainRead = c.read_chain-chain.result in
     let was_read : chain ≡ chain_read false f start = c.read_chain-chain.ensures in
-    let kept : (h : chain.verdict ≡ Verdict.Accepted) → Chained false (own_frame p) start chain = λ h. plant-chain false p sound f framed start chain was_read h in
-    let t = kept c.in-Accepted-kept.is in
+    let kept : (h : chain.verdict ≡ Ok tt) → Chained false (own_frame p) start chain = λ h. plant-chain false p sound f framed start chain was_read h in
+    let t = kept c.in-Ok-kept.is in
     c.start_call.ensures
     ∙ answer-as p sound.ranges.n-high chain.edges t.vs (plant-edged false p sound f framed start chain was_read t) chain.m t.count f framed start chain.next state reading
-    ∙ plant-goes false p sound f framed start chain was_read t StartAnswer.Refused (λ vs next. start_call p vs start next state reading)
+    ∙ plant-goes false p sound f framed start chain was_read t Err (λ vs next. start_call p vs start next state reading)
     ∙ plant-good plant start state reading p taken

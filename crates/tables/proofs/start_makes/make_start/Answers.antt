@@ -1,11 +1,11 @@
 -- `start_makes::make_start`: the chain, then the form, then the tables of the boxes. Assumes nothing.
+use Rattle.std.specs.Prelude.{Ok}
 use Prim.Native.Nat.{ℕ, ◌≤◌}
 use mathlib.Core.Path.{◌≡◌, sym, ap, ◌∙◌, subst}
 use mathlib.Core.Bool.{true}
 use mathlib.Core.List.{List}
 use lib.IntN.{ℤ}
 use Rattle.meaning.specs.declared.Refusal.{Refusal}
-use Rattle.meaning.specs.declared.Verdict.{Verdict}
 use Rattle.meaning.specs.Buffers.{Left, refused_with, left}
 use Rattle.meaning.specs.Tables.{known_form}
 use Rattle.tables.specs.declared.chains.ChainRead.{ChainRead}
@@ -26,9 +26,9 @@ write_start_own-requires c =
     let chain : List ℕ = c.args.chain.now in
     let form : ℕ = c.args.form in
     let boxes : ChainRead = c.read_chain-read.result in
-    let taken : (h : boxes.verdict ≡ Verdict.Accepted) → Chained true frame chain boxes = λ h. chain-taken true frame chain boxes c.read_chain-read.ensures h in
-    let sound : (h : boxes.verdict ≡ Verdict.Accepted) → (k : known_form form ≡ true) → (boxes.m ≤ most_above) × FramesSound (formed frame form) bands coef boxes.edges boxes.m = λ h. λ k. (chain-few true frame chain boxes c.read_chain-read.ensures (taken h), λ i l. (formed-sound (frame_at frame boxes.edges i) form k (frame-sound true frame chain boxes c.read_chain-read.ensures (taken h) c.requires.frame.0 c.requires.root i l), c.requires.frame.1)) in
-    let accepted : (boxes).verdict ≡ Verdict.Accepted = c.in-Accepted.is in
+    let taken : (h : boxes.verdict ≡ Ok tt) → Chained true frame chain boxes = λ h. chain-taken true frame chain boxes c.read_chain-read.ensures h in
+    let sound : (h : boxes.verdict ≡ Ok tt) → (k : known_form form ≡ true) → (boxes.m ≤ most_above) × FramesSound (formed frame form) bands coef boxes.edges boxes.m = λ h. λ k. (chain-few true frame chain boxes c.read_chain-read.ensures (taken h), λ i l. (formed-sound (frame_at frame boxes.edges i) form k (frame-sound true frame chain boxes c.read_chain-read.ensures (taken h) c.requires.frame.0 c.requires.root i l), c.requires.frame.1)) in
+    let accepted : (boxes).verdict ≡ Ok tt = c.in-Ok.is in
     let known : known_form form ≡ true = sym c.known.ensures ∙ c.if-known.true in
     subst (λ (f : Frame). (boxes.m ≤ most_above) × FramesSound f bands coef boxes.edges boxes.m) (sym c.formed-own.ensures) (sound accepted known)
 
@@ -41,16 +41,16 @@ returns-then-known c =
     let form : ℕ = c.args.form in
     let buffer : List ℕ = c.args.buf.now in
     let boxes : ChainRead = c.read_chain-read.result in
-    let taken : (h : boxes.verdict ≡ Verdict.Accepted) → Chained true frame chain boxes = λ h. chain-taken true frame chain boxes c.read_chain-read.ensures h in
-    let made : (h : boxes.verdict ≡ Verdict.Accepted) → (k : known_form form ≡ true) → left (behind_chain chain (frames_tables (formed frame form) bands coef boxes.edges boxes.m)) buffer ≡ chain_left frame bands coef chain form buffer = λ h. λ k. chain-good frame bands coef chain form buffer boxes c.read_chain-read.ensures (taken h) c.requires.frame.0.rooms k in
-    let accepted : (boxes).verdict ≡ Verdict.Accepted = c.in-Accepted.is in
+    let taken : (h : boxes.verdict ≡ Ok tt) → Chained true frame chain boxes = λ h. chain-taken true frame chain boxes c.read_chain-read.ensures h in
+    let made : (h : boxes.verdict ≡ Ok tt) → (k : known_form form ≡ true) → left (behind_chain chain (frames_tables (formed frame form) bands coef boxes.edges boxes.m)) buffer ≡ chain_left frame bands coef chain form buffer = λ h. λ k. chain-good frame bands coef chain form buffer boxes c.read_chain-read.ensures (taken h) c.requires.frame.0.rooms k in
+    let accepted : (boxes).verdict ≡ Ok tt = c.in-Ok.is in
     let known : known_form form ≡ true = sym c.known.ensures ∙ c.if-known.true in
     let w = c.write_start_own in
     let e = ap (λ (f : Frame). left (behind_chain chain (frames_tables f bands coef boxes.edges boxes.m)) buffer) c.formed-own.ensures ∙ made accepted known in
     record { answer = w.ensures.answer ∙ ap (λ (l : Left). l.answer) e; bytes = w.ensures.bytes ∙ ap (λ (l : Left). l.buffer) e }
 
-pub returns-in-Refused : goal.returns-in-Refused
-returns-in-Refused c =
+pub returns-in-Err : goal.returns-in-Err
+returns-in-Err c =
     let frame : Frame = c.args.f in
     let bands : List ℤ = c.args.bands.now in
     let coef : List ℤ = c.args.coef.now in
@@ -59,7 +59,7 @@ returns-in-Refused c =
     let buffer : List ℕ = c.args.buf.now in
     let boxes : ChainRead = c.read_chain-read.result in
     let w = c.refuse in
-    let e = chain-bad frame bands coef chain form buffer boxes c.read_chain-read.ensures c.in-Refused.e c.in-Refused.is in
+    let e = chain-bad frame bands coef chain form buffer boxes c.read_chain-read.ensures c.in-Err.e c.in-Err.is in
     record { answer = w.ensures.answer ∙ ap (λ (l : Left). l.answer) e; bytes = w.ensures.bytes ∙ ap (λ (l : Left). l.buffer) e }
 
 pub returns-else-known : goal.returns-else-known
@@ -71,8 +71,8 @@ returns-else-known c =
     let form : ℕ = c.args.form in
     let buffer : List ℕ = c.args.buf.now in
     let boxes : ChainRead = c.read_chain-read.result in
-    let taken : (h : boxes.verdict ≡ Verdict.Accepted) → Chained true frame chain boxes = λ h. chain-taken true frame chain boxes c.read_chain-read.ensures h in
-    let w = c.refuse-in-Accepted in
+    let taken : (h : boxes.verdict ≡ Ok tt) → Chained true frame chain boxes = λ h. chain-taken true frame chain boxes c.read_chain-read.ensures h in
+    let w = c.refuse-in-Ok in
     let k = c.known in
-    let e = ap (λ (r : Refusal). refused_with r buffer) c.wrong_form.ensures ∙ chain-unknown frame bands coef chain form buffer boxes c.read_chain-read.ensures (taken c.in-Accepted.is) (sym k.ensures ∙ c.if-known.false) in
+    let e = ap (λ (r : Refusal). refused_with r buffer) c.wrong_form.ensures ∙ chain-unknown frame bands coef chain form buffer boxes c.read_chain-read.ensures (taken c.in-Ok.is) (sym k.ensures ∙ c.if-known.false) in
     record { answer = w.ensures.answer ∙ ap (λ (l : Left). l.answer) e; bytes = w.ensures.bytes ∙ ap (λ (l : Left). l.buffer) e }

@@ -1,4 +1,5 @@
 -- `start_makes::put_part`: the draft has room for the table, so that its front is the table, or where the form tells lengths what is turned into it. Assumes nothing.
+use Rattle.std.specs.Prelude.{Some}
 use Prim.Native.Nat.{ℕ}
 use mathlib.Core.Path.{◌≡◌, sym}
 use mathlib.Core.Bool.{true}
@@ -7,7 +8,6 @@ use lib.ListN.{take}
 use lib.Seq.{length-take-le}
 use borrow.Author.Tests.{eq-eqb, ne_eqb}
 use Rattle.meaning.specs.Rules.{Rules}
-use Rattle.tables.specs.declared.drafts.Grown.{Grown}
 use Rattle.tables.specs.Frames.{rules_in}
 use Rattle.tables.specs.Turns.{table_by}
 use Rattle.tables.proofs.drafts.Laws.{Drafted, draft-none, table-by, untold-is, drafted}
@@ -25,51 +25,51 @@ pub slice_bounds-table_size-end : goal.slice_bounds-table_size-end
 slice_bounds-table_size-end c =
     let rules : Rules = rules_in c.args.f c.args.bands.now c.args.coef.now in
     let draft : List ℕ = c.table.new.buf in
-    let held : (size : ℕ) → c.table.result ≡ Grown.Next size → Drafted rules size draft = λ size. λ z. drafted c.args.f c.args.bands.now c.args.coef.now c.requires.frame.0 c.args.draft.now c.requires.room c.table.result draft c.table.ensures size z in
-    (held c.in-Next.size c.in-Next.is).held.fits
+    let held : (size : ℕ) → c.table.result ≡ Some size → Drafted rules size draft = λ size. λ z. drafted c.args.f c.args.bands.now c.args.coef.now c.requires.frame.0 c.args.draft.now c.requires.room c.table.result draft c.table.ensures size z in
+    (held c.in-Ok.size c.in-Ok.is).held.fits
 
 pub slice_bounds-table_size-end-then-f-eq2 : goal.slice_bounds-table_size-end-then-f-eq2
 slice_bounds-table_size-end-then-f-eq2 c =
     let rules : Rules = rules_in c.args.f c.args.bands.now c.args.coef.now in
     let draft : List ℕ = c.table.new.buf in
-    let held : (size : ℕ) → c.table.result ≡ Grown.Next size → Drafted rules size draft = λ size. λ z. drafted c.args.f c.args.bands.now c.args.coef.now c.requires.frame.0 c.args.draft.now c.requires.room c.table.result draft c.table.ensures size z in
-    sym (length-take-le c.in-Next.size draft (held c.in-Next.size c.in-Next.is).held.fits)
+    let held : (size : ℕ) → c.table.result ≡ Some size → Drafted rules size draft = λ size. λ z. drafted c.args.f c.args.bands.now c.args.coef.now c.requires.frame.0 c.args.draft.now c.requires.room c.table.result draft c.table.ensures size z in
+    sym (length-take-le c.in-Ok.size draft (held c.in-Ok.size c.in-Ok.is).held.fits)
 
 -- form 2 tells lengths
 pub table_size-long-requires : goal.table_size-long-requires
 table_size-long-requires c =
     let rules : Rules = rules_in c.args.f c.args.bands.now c.args.coef.now in
     let draft : List ℕ = c.table.new.buf in
-    let held : (size : ℕ) → c.table.result ≡ Grown.Next size → Drafted rules size draft = λ size. λ z. drafted c.args.f c.args.bands.now c.args.coef.now c.requires.frame.0 c.args.draft.now c.requires.room c.table.result draft c.table.ensures size z in
-    (c.requires.frame.0, some-lies c.args.f c.args.bands.now c.args.coef.now c.requires.frame.0 (eq-eqb c.args.f.form 2 c.if-f-eq2.true) (held c.in-Next.size c.in-Next.is))
+    let held : (size : ℕ) → c.table.result ≡ Some size → Drafted rules size draft = λ size. λ z. drafted c.args.f c.args.bands.now c.args.coef.now c.requires.frame.0 c.args.draft.now c.requires.room c.table.result draft c.table.ensures size z in
+    (c.requires.frame.0, some-lies c.args.f c.args.bands.now c.args.coef.now c.requires.frame.0 (eq-eqb c.args.f.form 2 c.if-f-eq2.true) (held c.in-Ok.size c.in-Ok.is))
 
 pub slice_bounds-put_table-end : goal.slice_bounds-put_table-end
 slice_bounds-put_table-end c =
     let rules : Rules = rules_in c.args.f c.args.bands.now c.args.coef.now in
     let draft : List ℕ = c.table.new.buf in
-    let held : (size : ℕ) → c.table.result ≡ Grown.Next size → Drafted rules size draft = λ size. λ z. drafted c.args.f c.args.bands.now c.args.coef.now c.requires.frame.0 c.args.draft.now c.requires.room c.table.result draft c.table.ensures size z in
-    (held c.in-Next.size c.in-Next.is).held.fits
+    let held : (size : ℕ) → c.table.result ≡ Some size → Drafted rules size draft = λ size. λ z. drafted c.args.f c.args.bands.now c.args.coef.now c.requires.frame.0 c.args.draft.now c.requires.room c.table.result draft c.table.ensures size z in
+    (held c.in-Ok.size c.in-Ok.is).held.fits
 
 pub slice_bounds-put_table-end-then-f-eq2 : goal.slice_bounds-put_table-end-then-f-eq2
 slice_bounds-put_table-end-then-f-eq2 c =
     let rules : Rules = rules_in c.args.f c.args.bands.now c.args.coef.now in
     let draft : List ℕ = c.table.new.buf in
-    let held : (size : ℕ) → c.table.result ≡ Grown.Next size → Drafted rules size draft = λ size. λ z. drafted c.args.f c.args.bands.now c.args.coef.now c.requires.frame.0 c.args.draft.now c.requires.room c.table.result draft c.table.ensures size z in
-    sym (length-take-le c.in-Next.size draft (held c.in-Next.size c.in-Next.is).held.fits)
+    let held : (size : ℕ) → c.table.result ≡ Some size → Drafted rules size draft = λ size. λ z. drafted c.args.f c.args.bands.now c.args.coef.now c.requires.frame.0 c.args.draft.now c.requires.room c.table.result draft c.table.ensures size z in
+    sym (length-take-le c.in-Ok.size draft (held c.in-Ok.size c.in-Ok.is).held.fits)
 
 pub put_table-next-requires : goal.put_table-next-requires
 put_table-next-requires c =
     let rules : Rules = rules_in c.args.f c.args.bands.now c.args.coef.now in
     let draft : List ℕ = c.table.new.buf in
-    let held : (size : ℕ) → c.table.result ≡ Grown.Next size → Drafted rules size draft = λ size. λ z. drafted c.args.f c.args.bands.now c.args.coef.now c.requires.frame.0 c.args.draft.now c.requires.room c.table.result draft c.table.ensures size z in
-    (c.requires.frame.0, some-lies c.args.f c.args.bands.now c.args.coef.now c.requires.frame.0 (eq-eqb c.args.f.form 2 c.if-f-eq2.true) (held c.in-Next.size c.in-Next.is))
+    let held : (size : ℕ) → c.table.result ≡ Some size → Drafted rules size draft = λ size. λ z. drafted c.args.f c.args.bands.now c.args.coef.now c.requires.frame.0 c.args.draft.now c.requires.room c.table.result draft c.table.ensures size z in
+    (c.requires.frame.0, some-lies c.args.f c.args.bands.now c.args.coef.now c.requires.frame.0 (eq-eqb c.args.f.form 2 c.if-f-eq2.true) (held c.in-Ok.size c.in-Ok.is))
 
 pub returns-then-f-eq2 : goal.returns-then-f-eq2
 returns-then-f-eq2 c =
     let rules : Rules = rules_in c.args.f c.args.bands.now c.args.coef.now in
     let draft : List ℕ = c.table.new.buf in
-    let held : (size : ℕ) → c.table.result ≡ Grown.Next size → Drafted rules size draft = λ size. λ z. drafted c.args.f c.args.bands.now c.args.coef.now c.requires.frame.0 c.args.draft.now c.requires.room c.table.result draft c.table.ensures size z in
-    let d = held c.in-Next.size c.in-Next.is in
+    let held : (size : ℕ) → c.table.result ≡ Some size → Drafted rules size draft = λ size. λ z. drafted c.args.f c.args.bands.now c.args.coef.now c.requires.frame.0 c.args.draft.now c.requires.room c.table.result draft c.table.ensures size z in
+    let d = held c.in-Ok.size c.in-Ok.is in
     let told = eq-eqb c.args.f.form 2 c.if-f-eq2.true in
     let lie = lies c.args.f c.args.bands.now c.args.coef.now c.requires.frame.0 told d in
     part-wrote rules c.args.buf.now c.args.at d.tree d.is (table_by c.args.f.form c.args.f.n true d.tree) (table-by rules true told d.tree)
@@ -79,21 +79,21 @@ pub slice_bounds-put_bytes-end : goal.slice_bounds-put_bytes-end
 slice_bounds-put_bytes-end c =
     let rules : Rules = rules_in c.args.f c.args.bands.now c.args.coef.now in
     let draft : List ℕ = c.table.new.buf in
-    let held : (size : ℕ) → c.table.result ≡ Grown.Next size → Drafted rules size draft = λ size. λ z. drafted c.args.f c.args.bands.now c.args.coef.now c.requires.frame.0 c.args.draft.now c.requires.room c.table.result draft c.table.ensures size z in
-    (held c.in-Next.size c.in-Next.is).held.fits
+    let held : (size : ℕ) → c.table.result ≡ Some size → Drafted rules size draft = λ size. λ z. drafted c.args.f c.args.bands.now c.args.coef.now c.requires.frame.0 c.args.draft.now c.requires.room c.table.result draft c.table.ensures size z in
+    (held c.in-Ok.size c.in-Ok.is).held.fits
 
 pub slice_bounds-put_bytes-end-2 : goal.slice_bounds-put_bytes-end-2
 slice_bounds-put_bytes-end-2 c =
     let rules : Rules = rules_in c.args.f c.args.bands.now c.args.coef.now in
     let draft : List ℕ = c.table.new.buf in
-    let held : (size : ℕ) → c.table.result ≡ Grown.Next size → Drafted rules size draft = λ size. λ z. drafted c.args.f c.args.bands.now c.args.coef.now c.requires.frame.0 c.args.draft.now c.requires.room c.table.result draft c.table.ensures size z in
-    sym (length-take-le c.in-Next.size draft (held c.in-Next.size c.in-Next.is).held.fits)
+    let held : (size : ℕ) → c.table.result ≡ Some size → Drafted rules size draft = λ size. λ z. drafted c.args.f c.args.bands.now c.args.coef.now c.requires.frame.0 c.args.draft.now c.requires.room c.table.result draft c.table.ensures size z in
+    sym (length-take-le c.in-Ok.size draft (held c.in-Ok.size c.in-Ok.is).held.fits)
 
 pub returns : goal.returns
 returns c =
     let rules : Rules = rules_in c.args.f c.args.bands.now c.args.coef.now in
     let draft : List ℕ = c.table.new.buf in
-    let held : (size : ℕ) → c.table.result ≡ Grown.Next size → Drafted rules size draft = λ size. λ z. drafted c.args.f c.args.bands.now c.args.coef.now c.requires.frame.0 c.args.draft.now c.requires.room c.table.result draft c.table.ensures size z in
-    let d = held c.in-Next.size c.in-Next.is in
-    part-wrote rules c.args.buf.now c.args.at d.tree d.is (take c.in-Next.size draft) (untold-is rules (ne_eqb c.args.f.form 2 c.if-f-eq2.false) d)
-    (sym (length-take-le c.in-Next.size draft d.held.fits)) c.put_number-past_length.ensures c.put_bytes.ensures
+    let held : (size : ℕ) → c.table.result ≡ Some size → Drafted rules size draft = λ size. λ z. drafted c.args.f c.args.bands.now c.args.coef.now c.requires.frame.0 c.args.draft.now c.requires.room c.table.result draft c.table.ensures size z in
+    let d = held c.in-Ok.size c.in-Ok.is in
+    part-wrote rules c.args.buf.now c.args.at d.tree d.is (take c.in-Ok.size draft) (untold-is rules (ne_eqb c.args.f.form 2 c.if-f-eq2.false) d)
+    (sym (length-take-le c.in-Ok.size draft d.held.fits)) c.put_number-past_length.ensures c.put_bytes.ensures

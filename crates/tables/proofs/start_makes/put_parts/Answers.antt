@@ -1,14 +1,13 @@
 -- `start_makes::put_parts`: whoever writes the tables that are left has written them all. Assumes nothing.
+use Rattle.std.specs.Prelude.{Some, None, Err}
 use Prim.Native.Nat.{ℕ, ◌+◌, ◌-◌, ◌≤◌}
 use mathlib.Core.Path.{◌≡◌, refl, sym, ◌∙◌, subst}
 use mathlib.Core.List.{List}
 use native.Mathlib.Omega.{arith}
 use lib.ListN.{length}
 use Rattle.meaning.specs.declared.Refusal.{Refusal}
-use Rattle.meaning.specs.declared.Walk.{Walk}
 use Rattle.meaning.specs.Refusals.{no_table}
 use Rattle.meaning.specs.Starts.{tables_from}
-use Rattle.tables.specs.declared.drafts.Grown.{Grown}
 use Rattle.tables.specs.declared.frames.Frame.{Frame}
 use Rattle.tables.specs.Drafts.{Wrote, bytes_most}
 use Rattle.tables.specs.Frames.{rules_in, PlantSound}
@@ -40,16 +39,16 @@ pub returns-in_default : goal.returns-in_default
 returns-in_default c =
     let left : List ℕ = c.put_part-grown.new.buf in
     let wrote : let l = c.loop-i in Wrote (part_bytes (frames_rules c.args.f c.args.bands.now c.args.coef.now c.args.edges.now l.i)) l.buf l.place c.put_part-grown.result left = let l = c.loop-i in subst (λ (f : Frame). Wrote (part_bytes (rules_in f c.args.bands.now c.args.coef.now)) l.buf l.place c.put_part-grown.result left) c.frame_at-own.ensures c.put_part-grown.ensures in
-    let stopped : c.put_part-grown.result ≡ Grown.Nothing → (e : Refusal) → e ≡ no_table c.loop-i.i → WroteParts (frames_tables c.args.f c.args.bands.now c.args.coef.now c.args.edges.now c.args.m) c.args.buf.now c.args.at (Walk.Refused e) left = λ z. λ e. λ q. let l = c.loop-i in let a = c.args in parts-stopped (frames_rules a.f a.bands.now a.coef.now a.edges.now) a.m l.i a.buf.now a.at (frames_tables a.f a.bands.now a.coef.now a.edges.now a.m) l.place l.buf l.invariant.2 c.loop-i-test.true c.put_part-grown.result left wrote z e q in
+    let stopped : c.put_part-grown.result ≡ None → (e : Refusal) → e ≡ no_table c.loop-i.i → WroteParts (frames_tables c.args.f c.args.bands.now c.args.coef.now c.args.edges.now c.args.m) c.args.buf.now c.args.at (Err e) left = λ z. λ e. λ q. let l = c.loop-i in let a = c.args in parts-stopped (frames_rules a.f a.bands.now a.coef.now a.edges.now) a.m l.i a.buf.now a.at (frames_tables a.f a.bands.now a.coef.now a.edges.now a.m) l.place l.buf l.invariant.2 c.loop-i-test.true c.put_part-grown.result left wrote z e q in
     stopped c.in_default.is c.no_table.result c.no_table.ensures
 
 pub loop-i-preserved : goal.loop-i-preserved
 loop-i-preserved c =
     let left : List ℕ = c.put_part-grown.new.buf in
     let wrote : let l = c.loop-i in Wrote (part_bytes (frames_rules c.args.f c.args.bands.now c.args.coef.now c.args.edges.now l.i)) l.buf l.place c.put_part-grown.result left = let l = c.loop-i in subst (λ (f : Frame). Wrote (part_bytes (rules_in f c.args.bands.now c.args.coef.now)) l.buf l.place c.put_part-grown.result left) c.frame_at-own.ensures c.put_part-grown.ensures in
-    let goes_on : (next : ℕ) → c.put_part-grown.result ≡ Grown.Next next → let i = c.loop-i.i in Going c.args.buf.now c.args.at (frames_tables c.args.f c.args.bands.now c.args.coef.now c.args.edges.now c.args.m) (tables_from (frames_rules c.args.f c.args.bands.now c.args.coef.now c.args.edges.now) (c.args.m + 1 - (i + 1)) (i + 1)) next left = λ next. λ z. let l = c.loop-i in let a = c.args in parts_more (frames_rules a.f a.bands.now a.coef.now a.edges.now) a.m l.i a.buf.now a.at (frames_tables a.f a.bands.now a.coef.now a.edges.now a.m) l.place l.buf l.invariant.2 c.loop-i-test.true c.put_part-grown.result left wrote next z in
+    let goes_on : (next : ℕ) → c.put_part-grown.result ≡ Some next → let i = c.loop-i.i in Going c.args.buf.now c.args.at (frames_tables c.args.f c.args.bands.now c.args.coef.now c.args.edges.now c.args.m) (tables_from (frames_rules c.args.f c.args.bands.now c.args.coef.now c.args.edges.now) (c.args.m + 1 - (i + 1)) (i + 1)) next left = λ next. λ z. let l = c.loop-i in let a = c.args in parts_more (frames_rules a.f a.bands.now a.coef.now a.edges.now) a.m l.i a.buf.now a.at (frames_tables a.f a.bands.now a.coef.now a.edges.now a.m) l.place l.buf l.invariant.2 c.loop-i-test.true c.put_part-grown.result left wrote next z in
     let h = c.loop-i-test.true in
-    (omega arith, c.put_part-grown.auto.draft ∙ c.loop-i.invariant.1, goes_on c.in-Next.next c.in-Next.is)
+    (omega arith, c.put_part-grown.auto.draft ∙ c.loop-i.invariant.1, goes_on c.in-Ok.next c.in-Ok.is)
 
 pub shape_of-draft : goal.shape_of-draft
 shape_of-draft c = c.loop-i.invariant.1

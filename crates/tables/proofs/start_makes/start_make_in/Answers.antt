@@ -24,30 +24,30 @@ make_start-requires c =
     let bands : List ℤ = c.read_plant-read.new.bands in
     let coef : List ℤ = c.read_plant-read.new.coef in
     let frame : Frame = c.framed.result in
-    let taken : Taken (plant_judged file) c.read_plant-read.result.outline = let r = c.read_plant-read in read-good (plant_judged file) r.result r.ensures.answer c.in-Accepted.is in
+    let taken : Taken (plant_judged file) c.read_plant-read.result.outline = let r = c.read_plant-read in read-good (plant_judged file) r.result r.ensures.answer c.in-Ok.is in
     let plant : Plant = taken.plant in
     let framed : frame ≡ own_frame plant = c.framed.ensures ∙ ap frame_of taken.outline in
     let sound : PlantSound frame bands coef = let r = c.read_plant-read in lent-plant file c.args.bands.now c.args.coef.now c.requires plant taken.was bands coef r.ensures.bands r.ensures.coef frame framed in
     let in-safe : within (box_of frame.n frame.root) (box_of frame.n frame.safe) ≡ true = subst (λ (f : Frame). within (box_of f.n f.root) (box_of f.n f.safe) ≡ true) (sym framed) (subst (λ (f : Frame). within (box_of f.n f.goal) (box_of f.n f.safe) ≡ true) framed sound.0.in-safe) in
     record { frame = sound; root = in-safe }
 
-pub returns-in-Refused : goal.returns-in-Refused
-returns-in-Refused c =
+pub returns-in-Err : goal.returns-in-Err
+returns-in-Err c =
     let a = c.args in
     let x = c.read_plant-read in
     let w = c.refuse in
-    let e = start-bad a.plant.now a.chain.now a.form a.buf.now c.in-Refused.e (read-bad (plant_judged a.plant.now) x.result x.ensures.answer c.in-Refused.e c.in-Refused.is) in
+    let e = start-bad a.plant.now a.chain.now a.form a.buf.now c.in-Err.e (read-bad (plant_judged a.plant.now) x.result x.ensures.answer c.in-Err.e c.in-Err.is) in
     record { answer = w.ensures.answer ∙ ap (λ (l : Left). l.answer) e; bytes = w.ensures.bytes ∙ ap (λ (l : Left). l.buffer) e }
 
-pub returns-in-Accepted : goal.returns-in-Accepted
-returns-in-Accepted c =
+pub returns-in-Ok : goal.returns-in-Ok
+returns-in-Ok c =
     let file : List ℕ = c.args.plant.now in
     let chain : List ℕ = c.args.chain.now in
     let buffer : List ℕ = c.args.buf.now in
     let bands : List ℤ = c.read_plant-read.new.bands in
     let coef : List ℤ = c.read_plant-read.new.coef in
     let frame : Frame = c.framed.result in
-    let taken : Taken (plant_judged file) c.read_plant-read.result.outline = let r = c.read_plant-read in read-good (plant_judged file) r.result r.ensures.answer c.in-Accepted.is in
+    let taken : Taken (plant_judged file) c.read_plant-read.result.outline = let r = c.read_plant-read in read-good (plant_judged file) r.result r.ensures.answer c.in-Ok.is in
     let plant : Plant = taken.plant in
     let framed : frame ≡ own_frame plant = c.framed.ensures ∙ ap frame_of taken.outline in
     let steps : step_in frame bands coef ≡ step_in frame plant.bands plant.coef = let r = c.read_plant-read in lent-steps file c.args.bands.now c.args.coef.now c.requires plant taken.was bands coef r.ensures.bands r.ensures.coef frame in

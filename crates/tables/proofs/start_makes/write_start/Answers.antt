@@ -22,20 +22,20 @@ returns-then-buf-size c =
     let out : List ℕ = c.put_parts-past.new.buf in
     let r = c.refuse-then-buf-size in
     let e = ap (λ (f : Refusal). refused_with f out) c.short.ensures
-    ∙ start-short c.args.chain.now c.args.buf.now tables c.put_bytes-past_chain.ensures c.put_parts-past.result out c.put_parts-past.ensures c.in-Next.size c.in-Next.is c.if-buf-size.true in
+    ∙ start-short c.args.chain.now c.args.buf.now tables c.put_bytes-past_chain.ensures c.put_parts-past.result out c.put_parts-past.ensures c.in-Ok.size c.in-Ok.is c.if-buf-size.true in
     record { answer = r.ensures.answer ∙ ap (λ (l : Left). l.answer) e; bytes = r.ensures.bytes ∙ ap (λ (l : Left). l.buffer) e }
 
-pub returns-in-Refused : goal.returns-in-Refused
-returns-in-Refused c =
+pub returns-in-Err : goal.returns-in-Err
+returns-in-Err c =
     let tables : Judged (List (List ℕ)) = frames_tables c.args.f c.args.bands.now c.args.coef.now c.args.edges.now c.args.m in
     let out : List ℕ = c.put_parts-past.new.buf in
     let r = c.refuse in
-    let e = start-refused c.args.chain.now c.args.buf.now tables c.put_bytes-past_chain.ensures c.put_parts-past.result out c.put_parts-past.ensures c.in-Refused.e c.in-Refused.is in
+    let e = start-refused c.args.chain.now c.args.buf.now tables c.put_bytes-past_chain.ensures c.put_parts-past.result out c.put_parts-past.ensures c.in-Err.e c.in-Err.is in
     record { answer = r.ensures.answer ∙ ap (λ (l : Left). l.answer) e; bytes = r.ensures.bytes ∙ ap (λ (l : Left). l.buffer) e }
 
 pub returns-else-buf-size : goal.returns-else-buf-size
 returns-else-buf-size c =
     let tables : Judged (List (List ℕ)) = frames_tables c.args.f c.args.bands.now c.args.coef.now c.args.edges.now c.args.m in
     let out : List ℕ = c.put_parts-past.new.buf in
-    let e = start_fits c.args.chain.now c.args.buf.now tables c.put_bytes-past_chain.ensures c.put_parts-past.result out c.put_parts-past.ensures c.in-Next.size c.in-Next.is c.if-buf-size.false in
+    let e = start_fits c.args.chain.now c.args.buf.now tables c.put_bytes-past_chain.ensures c.put_parts-past.result out c.put_parts-past.ensures c.in-Ok.size c.in-Ok.is c.if-buf-size.false in
     record { answer = ap (λ (l : Left). l.answer) e; bytes = ap (λ (l : Left). l.buffer) e }

@@ -18,16 +18,16 @@ returns-then-place-lt2 c =
     let a = c.args in
     too-low a.k a.modes a.table.now a.place a.left c.if-place-lt2.true
 
-pub returns-in-Refused : goal.returns-in-Refused
-returns-in-Refused c =
+pub returns-in-Err : goal.returns-in-Err
+returns-in-Err c =
     let modes : List ℕ = pattern_of c.args.left c.read_modes-read.result.us in
     let read_as : told c.read_modes-read.result.answer modes ≡ modes_at c.args.modes c.args.left c.args.table.now c.args.place = c.read_modes-read.ensures in
     let a = c.args in
-    not-read a.k a.modes a.table.now a.place a.left c.if-k-left.false c.if-place-lt2.false c.read_modes-read.result.answer modes read_as c.in-Refused.field-0 c.in-Refused.is
+    not-read a.k a.modes a.table.now a.place a.left c.if-k-left.false c.if-place-lt2.false c.read_modes-read.result.answer modes read_as c.in-Err.field-0 c.in-Err.is
 
-pub returns-in-Next : goal.returns-in-Next
-returns-in-Next c =
+pub returns-in-Ok : goal.returns-in-Ok
+returns-in-Ok c =
     let modes : List ℕ = pattern_of c.args.left c.read_modes-read.result.us in
     let read_as : told c.read_modes-read.result.answer modes ≡ modes_at c.args.modes c.args.left c.args.table.now c.args.place = c.read_modes-read.ensures in
     let a = c.args in
-    all_read a.k a.modes a.table.now a.place a.left c.if-k-left.false c.if-place-lt2.false c.read_modes-read.result.answer modes read_as c.in-Next.field-0 c.in-Next.is
+    all_read a.k a.modes a.table.now a.place a.left c.if-k-left.false c.if-place-lt2.false c.read_modes-read.result.answer modes read_as c.in-Ok.field-0 c.in-Ok.is

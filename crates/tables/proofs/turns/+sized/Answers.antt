@@ -1,3 +1,4 @@
+use Rattle.std.specs.Prelude.{Some}
 use Prim.Native.Nat.{ℕ, ◌+◌, ◌-◌, ◌≤◌, ◌<◌}
 use mathlib.Core.Path.{◌≡◌, sym, ap, ◌∙◌}
 use mathlib.Core.Bool.{true, false}
@@ -5,7 +6,6 @@ use mathlib.Core.List.{List}
 use native.Mathlib.Omega.{arith}
 use lib.Dec.{ltb}
 use lib.ListN.{length}
-use Rattle.meaning.specs.declared.Number.{Number}
 use Rattle.meaning.specs.Boxes.{Side}
 use Rattle.meaning.specs.Numbers.{number_at}
 use Rattle.meaning.specs.Plants.{edge_limit}
@@ -34,8 +34,8 @@ overflow_sub-result t c =
     let bytes : List ℕ = c.args.table.now in
     let box : List Side = box_of c.args.f.n c.args.b in
     let Lies : Tree → ℕ → Type 0 = TreeLies c.args.f false bytes c.args.d box c.args.at in
-    let number_is : number_at bytes c.args.at ≡ Number.Value c.in-Value.k c.in-Value.next = sym c.number.ensures ∙ c.in-Value.is in
-    let the-tile : (u : Tree) (m : ℕ) (l : Lies u m) → 0 < c.in-Value.k → WasTile c.args.f false bytes c.args.d box c.args.at c.requires.0 c.in-Value.k c.in-Value.next u m l = λ u. λ m. λ l. λ h. was-tile c.args.f false bytes c.args.d box c.args.at c.requires.0 c.in-Value.k c.in-Value.next number_is u m l h in
+    let number_is : number_at bytes c.args.at ≡ Some (c.in-Some.k, c.in-Some.next) = sym c.number.ensures ∙ c.in-Some.is in
+    let the-tile : (u : Tree) (m : ℕ) (l : Lies u m) → 0 < c.in-Some.k → WasTile c.args.f false bytes c.args.d box c.args.at c.requires.0 c.in-Some.k c.in-Some.next u m l = λ u. λ m. λ l. λ h. was-tile c.args.f false bytes c.args.d box c.args.at c.requires.0 c.in-Some.k c.in-Some.next number_is u m l h in
     let p = c.requires.2 in
     let w = the-tile p.0 p.1 p.2 c.if-k-gt0.true in
     omega (arith, c.passed-behind.ensures p.1 w.behind, p.2.stand.end)
@@ -45,8 +45,8 @@ returns-then-k-gt0 t c u m l =
     let bytes : List ℕ = c.args.table.now in
     let box : List Side = box_of c.args.f.n c.args.b in
     let Lies : Tree → ℕ → Type 0 = TreeLies c.args.f false bytes c.args.d box c.args.at in
-    let number_is : number_at bytes c.args.at ≡ Number.Value c.in-Value.k c.in-Value.next = sym c.number.ensures ∙ c.in-Value.is in
-    let the-tile : (u : Tree) (m : ℕ) (l : Lies u m) → 0 < c.in-Value.k → WasTile c.args.f false bytes c.args.d box c.args.at c.requires.0 c.in-Value.k c.in-Value.next u m l = λ u. λ m. λ l. λ h. was-tile c.args.f false bytes c.args.d box c.args.at c.requires.0 c.in-Value.k c.in-Value.next number_is u m l h in
+    let number_is : number_at bytes c.args.at ≡ Some (c.in-Some.k, c.in-Some.next) = sym c.number.ensures ∙ c.in-Some.is in
+    let the-tile : (u : Tree) (m : ℕ) (l : Lies u m) → 0 < c.in-Some.k → WasTile c.args.f false bytes c.args.d box c.args.at c.requires.0 c.in-Some.k c.in-Some.next u m l = λ u. λ m. λ l. λ h. was-tile c.args.f false bytes c.args.d box c.args.at c.requires.0 c.in-Some.k c.in-Some.next number_is u m l h in
     let w = the-tile u m l c.if-k-gt0.true in
     let e = c.passed-behind.ensures m w.behind in
     (e, omega (arith, e, l.stand.end, ap length (w.same true)))
@@ -60,13 +60,13 @@ loop-c-init t c =
     let box : List Side = box_of c.args.f.n c.args.b in
     let kids : List (List Side) = children_by c.args.f.form box in
     let Lies : Tree → ℕ → Type 0 = TreeLies c.args.f false bytes c.args.d box c.args.at in
-    let number_is : number_at bytes c.args.at ≡ Number.Value c.in-Value.k c.in-Value.next = sym c.number.ensures ∙ c.in-Value.is in
-    let the-split : (u : Tree) (m : ℕ) (l : Lies u m) → c.in-Value.k ≤ 0 → WasSplit c.args.f false bytes c.args.d box c.args.at c.requires.0 c.in-Value.k c.in-Value.next u m l = λ u. λ m. λ l. λ h. was-split c.args.f false bytes c.args.d box c.args.at c.requires.0 c.in-Value.k c.in-Value.next number_is u m l h in (
+    let number_is : number_at bytes c.args.at ≡ Some (c.in-Some.k, c.in-Some.next) = sym c.number.ensures ∙ c.in-Some.is in
+    let the-split : (u : Tree) (m : ℕ) (l : Lies u m) → c.in-Some.k ≤ 0 → WasSplit c.args.f false bytes c.args.d box c.args.at c.requires.0 c.in-Some.k c.in-Some.next u m l = λ u. λ m. λ l. λ h. was-split c.args.f false bytes c.args.d box c.args.at c.requires.0 c.in-Some.k c.in-Some.next number_is u m l h in (
       omega arith,
       λ u m l.
           let w = the-split u m l c.if-k-gt0.false in
           let short = rw w.is at l.short in
-          rw w.is (sizing-none c.args.f bytes (c.args.d - 1) kids c.in-Value.next w.first m w.trees w.lie short),
+          rw w.is (sizing-none c.args.f bytes (c.args.d - 1) kids c.in-Some.next w.first m w.trees w.lie short),
     )
 
 pub child-child-requires : goal.child-child-requires
@@ -81,8 +81,8 @@ overflow_sub-d t c =
     let bytes : List ℕ = c.args.table.now in
     let box : List Side = box_of c.args.f.n c.args.b in
     let Lies : Tree → ℕ → Type 0 = TreeLies c.args.f false bytes c.args.d box c.args.at in
-    let number_is : number_at bytes c.args.at ≡ Number.Value c.in-Value.k c.in-Value.next = sym c.number.ensures ∙ c.in-Value.is in
-    let the-split : (u : Tree) (m : ℕ) (l : Lies u m) → c.in-Value.k ≤ 0 → WasSplit c.args.f false bytes c.args.d box c.args.at c.requires.0 c.in-Value.k c.in-Value.next u m l = λ u. λ m. λ l. λ h. was-split c.args.f false bytes c.args.d box c.args.at c.requires.0 c.in-Value.k c.in-Value.next number_is u m l h in
+    let number_is : number_at bytes c.args.at ≡ Some (c.in-Some.k, c.in-Some.next) = sym c.number.ensures ∙ c.in-Some.is in
+    let the-split : (u : Tree) (m : ℕ) (l : Lies u m) → c.in-Some.k ≤ 0 → WasSplit c.args.f false bytes c.args.d box c.args.at c.requires.0 c.in-Some.k c.in-Some.next u m l = λ u. λ m. λ l. λ h. was-split c.args.f false bytes c.args.d box c.args.at c.requires.0 c.in-Some.k c.in-Some.next number_is u m l h in
     let deep : 0 < c.args.d = (the-split c.requires.2.0 c.requires.2.1 c.requires.2.2 c.if-k-gt0.false).deep in
     deep
 
@@ -92,8 +92,8 @@ sized-kid-requires t c =
     let box : List Side = box_of c.args.f.n c.args.b in
     let kids : List (List Side) = children_by c.args.f.form box in
     let Lies : Tree → ℕ → Type 0 = TreeLies c.args.f false bytes c.args.d box c.args.at in
-    let number_is : number_at bytes c.args.at ≡ Number.Value c.in-Value.k c.in-Value.next = sym c.number.ensures ∙ c.in-Value.is in
-    let the-split : (u : Tree) (m : ℕ) (l : Lies u m) → c.in-Value.k ≤ 0 → WasSplit c.args.f false bytes c.args.d box c.args.at c.requires.0 c.in-Value.k c.in-Value.next u m l = λ u. λ m. λ l. λ h. was-split c.args.f false bytes c.args.d box c.args.at c.requires.0 c.in-Value.k c.in-Value.next number_is u m l h in
+    let number_is : number_at bytes c.args.at ≡ Some (c.in-Some.k, c.in-Some.next) = sym c.number.ensures ∙ c.in-Some.is in
+    let the-split : (u : Tree) (m : ℕ) (l : Lies u m) → c.in-Some.k ≤ 0 → WasSplit c.args.f false bytes c.args.d box c.args.at c.requires.0 c.in-Some.k c.in-Some.next u m l = λ u. λ m. λ l. λ h. was-split c.args.f false bytes c.args.d box c.args.at c.requires.0 c.in-Some.k c.in-Some.next number_is u m l h in
     let in-box : (j : ℕ) → j < c.count-count.result → j < length kids = λ j h. let e = c.count-count.ensures in rw (← e) h in
     let deep : 0 < c.args.d = (the-split c.requires.2.0 c.requires.2.1 c.requires.2.2 c.if-k-gt0.false).deep in
     let p = c.requires in

@@ -1,4 +1,5 @@
 -- `turns::turn`, which calls itself with less depth: a tile is copied; of a split the 0, the lengths, and in the loop its trees. Assumes nothing.
+use Rattle.std.specs.Prelude.{Some}
 use Prim.Native.Nat.{ℕ, ◌+◌, ◌-◌, ◌≤◌, ◌<◌}
 use mathlib.Core.Path.{◌≡◌, sym, ◌∙◌}
 use mathlib.Core.Bool.{not}
@@ -6,7 +7,6 @@ use mathlib.Core.List.{List}
 use native.Mathlib.Omega.{arith}
 use lib.ListN.{length, take, drop}
 use Rattle.laws.specs.Writing.{Put, put-length}
-use Rattle.meaning.specs.declared.Number.{Number}
 use Rattle.meaning.specs.Boxes.{Side}
 use Rattle.meaning.specs.Numbers.{number_at}
 use Rattle.meaning.specs.Plants.{edge_limit}
@@ -36,8 +36,8 @@ copy-past-requires t c =
     let bytes : List ℕ = c.args.table.now in
     let box : List Side = box_of c.args.f.n c.args.b in
     let Lies : Tree → ℕ → Type 0 = TreeLies c.args.f c.args.told bytes c.args.d box c.args.at in
-    let number_is : number_at bytes c.args.at ≡ Number.Value c.in-Value.k c.in-Value.next = sym c.number.ensures ∙ c.in-Value.is in
-    let the-tile : (u : Tree) (m : ℕ) (l : Lies u m) → 0 < c.in-Value.k → WasTile c.args.f c.args.told bytes c.args.d box c.args.at c.requires.0 c.in-Value.k c.in-Value.next u m l = λ u. λ m. λ l. λ h. was-tile c.args.f c.args.told bytes c.args.d box c.args.at c.requires.0 c.in-Value.k c.in-Value.next number_is u m l h in
+    let number_is : number_at bytes c.args.at ≡ Some (c.in-Some.k, c.in-Some.next) = sym c.number.ensures ∙ c.in-Some.is in
+    let the-tile : (u : Tree) (m : ℕ) (l : Lies u m) → 0 < c.in-Some.k → WasTile c.args.f c.args.told bytes c.args.d box c.args.at c.requires.0 c.in-Some.k c.in-Some.next u m l = λ u. λ m. λ l. λ h. was-tile c.args.f c.args.told bytes c.args.d box c.args.at c.requires.0 c.in-Some.k c.in-Some.next number_is u m l h in
     let p = c.requires.2 in
     let w = the-tile p.0 p.1 p.2 c.if-k-gt0.true in
     let e = c.passed-behind.ensures p.1 w.behind in
@@ -52,8 +52,8 @@ returns-then-k-gt0 t c u m l =
     let bytes : List ℕ = c.args.table.now in
     let box : List Side = box_of c.args.f.n c.args.b in
     let Lies : Tree → ℕ → Type 0 = TreeLies c.args.f c.args.told bytes c.args.d box c.args.at in
-    let number_is : number_at bytes c.args.at ≡ Number.Value c.in-Value.k c.in-Value.next = sym c.number.ensures ∙ c.in-Value.is in
-    let the-tile : (u : Tree) (m : ℕ) (l : Lies u m) → 0 < c.in-Value.k → WasTile c.args.f c.args.told bytes c.args.d box c.args.at c.requires.0 c.in-Value.k c.in-Value.next u m l = λ u. λ m. λ l. λ h. was-tile c.args.f c.args.told bytes c.args.d box c.args.at c.requires.0 c.in-Value.k c.in-Value.next number_is u m l h in
+    let number_is : number_at bytes c.args.at ≡ Some (c.in-Some.k, c.in-Some.next) = sym c.number.ensures ∙ c.in-Some.is in
+    let the-tile : (u : Tree) (m : ℕ) (l : Lies u m) → 0 < c.in-Some.k → WasTile c.args.f c.args.told bytes c.args.d box c.args.at c.requires.0 c.in-Some.k c.in-Some.next u m l = λ u. λ m. λ l. λ h. was-tile c.args.f c.args.told bytes c.args.d box c.args.at c.requires.0 c.in-Some.k c.in-Some.next number_is u m l h in
     let w = the-tile u m l c.if-k-gt0.true in
     let v = c.passed-behind in
     let e = v.ensures m w.behind in
@@ -72,10 +72,10 @@ overflow_sub-d t c =
     let bytes : List ℕ = c.args.table.now in
     let box : List Side = box_of c.args.f.n c.args.b in
     let Lies : Tree → ℕ → Type 0 = TreeLies c.args.f c.args.told bytes c.args.d box c.args.at in
-    let number_is : number_at bytes c.args.at ≡ Number.Value c.in-Value.k c.in-Value.next = sym c.number.ensures ∙ c.in-Value.is in
-    let the-split : (u : Tree) (m : ℕ) (l : Lies u m) → c.in-Value.k ≤ 0 → WasSplit c.args.f c.args.told bytes c.args.d box c.args.at c.requires.0 c.in-Value.k c.in-Value.next u m l = λ u. λ m. λ l. λ h. was-split c.args.f c.args.told bytes c.args.d box c.args.at c.requires.0 c.in-Value.k c.in-Value.next number_is u m l h in
-    let split-of : (u : Tree) (m : ℕ) (l : Lies u m) → WasSplit c.args.f c.args.told bytes c.args.d box c.args.at c.requires.0 c.in-Value.k c.in-Value.next u m l = λ u. λ m. λ l. the-split u m l c.if-k-gt0.false in
-    let own : let p = c.requires.2 in WasSplit c.args.f c.args.told bytes c.args.d box c.args.at c.requires.0 c.in-Value.k c.in-Value.next p.0 p.1 p.2 = let p = c.requires.2 in split-of p.0 p.1 p.2 in
+    let number_is : number_at bytes c.args.at ≡ Some (c.in-Some.k, c.in-Some.next) = sym c.number.ensures ∙ c.in-Some.is in
+    let the-split : (u : Tree) (m : ℕ) (l : Lies u m) → c.in-Some.k ≤ 0 → WasSplit c.args.f c.args.told bytes c.args.d box c.args.at c.requires.0 c.in-Some.k c.in-Some.next u m l = λ u. λ m. λ l. λ h. was-split c.args.f c.args.told bytes c.args.d box c.args.at c.requires.0 c.in-Some.k c.in-Some.next number_is u m l h in
+    let split-of : (u : Tree) (m : ℕ) (l : Lies u m) → WasSplit c.args.f c.args.told bytes c.args.d box c.args.at c.requires.0 c.in-Some.k c.in-Some.next u m l = λ u. λ m. λ l. the-split u m l c.if-k-gt0.false in
+    let own : let p = c.requires.2 in WasSplit c.args.f c.args.told bytes c.args.d box c.args.at c.requires.0 c.in-Some.k c.in-Some.next p.0 p.1 p.2 = let p = c.requires.2 in split-of p.0 p.1 p.2 in
     own.deep
 
 pub between-first-requires : goal.between-first-requires
@@ -83,10 +83,10 @@ between-first-requires t c =
     let bytes : List ℕ = c.args.table.now in
     let box : List Side = box_of c.args.f.n c.args.b in
     let Lies : Tree → ℕ → Type 0 = TreeLies c.args.f c.args.told bytes c.args.d box c.args.at in
-    let number_is : number_at bytes c.args.at ≡ Number.Value c.in-Value.k c.in-Value.next = sym c.number.ensures ∙ c.in-Value.is in
-    let the-split : (u : Tree) (m : ℕ) (l : Lies u m) → c.in-Value.k ≤ 0 → WasSplit c.args.f c.args.told bytes c.args.d box c.args.at c.requires.0 c.in-Value.k c.in-Value.next u m l = λ u. λ m. λ l. λ h. was-split c.args.f c.args.told bytes c.args.d box c.args.at c.requires.0 c.in-Value.k c.in-Value.next number_is u m l h in
-    let split-of : (u : Tree) (m : ℕ) (l : Lies u m) → WasSplit c.args.f c.args.told bytes c.args.d box c.args.at c.requires.0 c.in-Value.k c.in-Value.next u m l = λ u. λ m. λ l. the-split u m l c.if-k-gt0.false in
-    let own : let p = c.requires.2 in WasSplit c.args.f c.args.told bytes c.args.d box c.args.at c.requires.0 c.in-Value.k c.in-Value.next p.0 p.1 p.2 = let p = c.requires.2 in split-of p.0 p.1 p.2 in
+    let number_is : number_at bytes c.args.at ≡ Some (c.in-Some.k, c.in-Some.next) = sym c.number.ensures ∙ c.in-Some.is in
+    let the-split : (u : Tree) (m : ℕ) (l : Lies u m) → c.in-Some.k ≤ 0 → WasSplit c.args.f c.args.told bytes c.args.d box c.args.at c.requires.0 c.in-Some.k c.in-Some.next u m l = λ u. λ m. λ l. λ h. was-split c.args.f c.args.told bytes c.args.d box c.args.at c.requires.0 c.in-Some.k c.in-Some.next number_is u m l h in
+    let split-of : (u : Tree) (m : ℕ) (l : Lies u m) → WasSplit c.args.f c.args.told bytes c.args.d box c.args.at c.requires.0 c.in-Some.k c.in-Some.next u m l = λ u. λ m. λ l. the-split u m l c.if-k-gt0.false in
+    let own : let p = c.requires.2 in WasSplit c.args.f c.args.told bytes c.args.d box c.args.at c.requires.0 c.in-Some.k c.in-Some.next p.0 p.1 p.2 = let p = c.requires.2 in split-of p.0 p.1 p.2 in
     let z = own in
     let n = c.count-count.ensures in
     let v = c.put_number-zero in
@@ -98,13 +98,13 @@ loop-c-init t c =
     let box : List Side = box_of c.args.f.n c.args.b in
     let kids : List (List Side) = children_by c.args.f.form box in
     let Lies : Tree → ℕ → Type 0 = TreeLies c.args.f c.args.told bytes c.args.d box c.args.at in
-    let number_is : number_at bytes c.args.at ≡ Number.Value c.in-Value.k c.in-Value.next = sym c.number.ensures ∙ c.in-Value.is in
-    let the-split : (u : Tree) (m : ℕ) (l : Lies u m) → c.in-Value.k ≤ 0 → WasSplit c.args.f c.args.told bytes c.args.d box c.args.at c.requires.0 c.in-Value.k c.in-Value.next u m l = λ u. λ m. λ l. λ h. was-split c.args.f c.args.told bytes c.args.d box c.args.at c.requires.0 c.in-Value.k c.in-Value.next number_is u m l h in
-    let split-of : (u : Tree) (m : ℕ) (l : Lies u m) → WasSplit c.args.f c.args.told bytes c.args.d box c.args.at c.requires.0 c.in-Value.k c.in-Value.next u m l = λ u. λ m. λ l. the-split u m l c.if-k-gt0.false in
-    let own : let p = c.requires.2 in WasSplit c.args.f c.args.told bytes c.args.d box c.args.at c.requires.0 c.in-Value.k c.in-Value.next p.0 p.1 p.2 = let p = c.requires.2 in split-of p.0 p.1 p.2 in
+    let number_is : number_at bytes c.args.at ≡ Some (c.in-Some.k, c.in-Some.next) = sym c.number.ensures ∙ c.in-Some.is in
+    let the-split : (u : Tree) (m : ℕ) (l : Lies u m) → c.in-Some.k ≤ 0 → WasSplit c.args.f c.args.told bytes c.args.d box c.args.at c.requires.0 c.in-Some.k c.in-Some.next u m l = λ u. λ m. λ l. λ h. was-split c.args.f c.args.told bytes c.args.d box c.args.at c.requires.0 c.in-Some.k c.in-Some.next number_is u m l h in
+    let split-of : (u : Tree) (m : ℕ) (l : Lies u m) → WasSplit c.args.f c.args.told bytes c.args.d box c.args.at c.requires.0 c.in-Some.k c.in-Some.next u m l = λ u. λ m. λ l. the-split u m l c.if-k-gt0.false in
+    let own : let p = c.requires.2 in WasSplit c.args.f c.args.told bytes c.args.d box c.args.at c.requires.0 c.in-Some.k c.in-Some.next p.0 p.1 p.2 = let p = c.requires.2 in split-of p.0 p.1 p.2 in
     let told-out : List ℕ = c.between-first.new.buf in
     let told-past : ℕ = c.between-first.result.to in
-    let between_is : (first : ℕ) (g : Forest) (m : ℕ) → SplitLies c.args.f c.args.told bytes (c.args.d - 1) kids c.in-Value.next first g m → (c.between-first.result.behind ≡ first) × Put c.put_number-zero.new.buf c.put_number-zero.result (told_bytes (not c.args.told) g) told-past told-out = c.between-first.ensures in
+    let between_is : (first : ℕ) (g : Forest) (m : ℕ) → SplitLies c.args.f c.args.told bytes (c.args.d - 1) kids c.in-Some.next first g m → (c.between-first.result.behind ≡ first) × Put c.put_number-zero.new.buf c.put_number-zero.result (told_bytes (not c.args.told) g) told-past told-out = c.between-first.ensures in
     let z = own in
     let v = (between_is z.first z.trees c.requires.2.1 z.lie).1 in (
       omega arith,
@@ -125,10 +125,10 @@ overflow_sub-d-in-loop-c t c =
     let bytes : List ℕ = c.args.table.now in
     let box : List Side = box_of c.args.f.n c.args.b in
     let Lies : Tree → ℕ → Type 0 = TreeLies c.args.f c.args.told bytes c.args.d box c.args.at in
-    let number_is : number_at bytes c.args.at ≡ Number.Value c.in-Value.k c.in-Value.next = sym c.number.ensures ∙ c.in-Value.is in
-    let the-split : (u : Tree) (m : ℕ) (l : Lies u m) → c.in-Value.k ≤ 0 → WasSplit c.args.f c.args.told bytes c.args.d box c.args.at c.requires.0 c.in-Value.k c.in-Value.next u m l = λ u. λ m. λ l. λ h. was-split c.args.f c.args.told bytes c.args.d box c.args.at c.requires.0 c.in-Value.k c.in-Value.next number_is u m l h in
-    let split-of : (u : Tree) (m : ℕ) (l : Lies u m) → WasSplit c.args.f c.args.told bytes c.args.d box c.args.at c.requires.0 c.in-Value.k c.in-Value.next u m l = λ u. λ m. λ l. the-split u m l c.if-k-gt0.false in
-    let own : let p = c.requires.2 in WasSplit c.args.f c.args.told bytes c.args.d box c.args.at c.requires.0 c.in-Value.k c.in-Value.next p.0 p.1 p.2 = let p = c.requires.2 in split-of p.0 p.1 p.2 in
+    let number_is : number_at bytes c.args.at ≡ Some (c.in-Some.k, c.in-Some.next) = sym c.number.ensures ∙ c.in-Some.is in
+    let the-split : (u : Tree) (m : ℕ) (l : Lies u m) → c.in-Some.k ≤ 0 → WasSplit c.args.f c.args.told bytes c.args.d box c.args.at c.requires.0 c.in-Some.k c.in-Some.next u m l = λ u. λ m. λ l. λ h. was-split c.args.f c.args.told bytes c.args.d box c.args.at c.requires.0 c.in-Some.k c.in-Some.next number_is u m l h in
+    let split-of : (u : Tree) (m : ℕ) (l : Lies u m) → WasSplit c.args.f c.args.told bytes c.args.d box c.args.at c.requires.0 c.in-Some.k c.in-Some.next u m l = λ u. λ m. λ l. the-split u m l c.if-k-gt0.false in
+    let own : let p = c.requires.2 in WasSplit c.args.f c.args.told bytes c.args.d box c.args.at c.requires.0 c.in-Some.k c.in-Some.next p.0 p.1 p.2 = let p = c.requires.2 in split-of p.0 p.1 p.2 in
     own.deep
 
 pub turn-kid-requires : goal.turn-kid-requires
@@ -137,10 +137,10 @@ turn-kid-requires t c =
     let box : List Side = box_of c.args.f.n c.args.b in
     let kids : List (List Side) = children_by c.args.f.form box in
     let Lies : Tree → ℕ → Type 0 = TreeLies c.args.f c.args.told bytes c.args.d box c.args.at in
-    let number_is : number_at bytes c.args.at ≡ Number.Value c.in-Value.k c.in-Value.next = sym c.number.ensures ∙ c.in-Value.is in
-    let the-split : (u : Tree) (m : ℕ) (l : Lies u m) → c.in-Value.k ≤ 0 → WasSplit c.args.f c.args.told bytes c.args.d box c.args.at c.requires.0 c.in-Value.k c.in-Value.next u m l = λ u. λ m. λ l. λ h. was-split c.args.f c.args.told bytes c.args.d box c.args.at c.requires.0 c.in-Value.k c.in-Value.next number_is u m l h in
-    let split-of : (u : Tree) (m : ℕ) (l : Lies u m) → WasSplit c.args.f c.args.told bytes c.args.d box c.args.at c.requires.0 c.in-Value.k c.in-Value.next u m l = λ u. λ m. λ l. the-split u m l c.if-k-gt0.false in
-    let own : let p = c.requires.2 in WasSplit c.args.f c.args.told bytes c.args.d box c.args.at c.requires.0 c.in-Value.k c.in-Value.next p.0 p.1 p.2 = let p = c.requires.2 in split-of p.0 p.1 p.2 in
+    let number_is : number_at bytes c.args.at ≡ Some (c.in-Some.k, c.in-Some.next) = sym c.number.ensures ∙ c.in-Some.is in
+    let the-split : (u : Tree) (m : ℕ) (l : Lies u m) → c.in-Some.k ≤ 0 → WasSplit c.args.f c.args.told bytes c.args.d box c.args.at c.requires.0 c.in-Some.k c.in-Some.next u m l = λ u. λ m. λ l. λ h. was-split c.args.f c.args.told bytes c.args.d box c.args.at c.requires.0 c.in-Some.k c.in-Some.next number_is u m l h in
+    let split-of : (u : Tree) (m : ℕ) (l : Lies u m) → WasSplit c.args.f c.args.told bytes c.args.d box c.args.at c.requires.0 c.in-Some.k c.in-Some.next u m l = λ u. λ m. λ l. the-split u m l c.if-k-gt0.false in
+    let own : let p = c.requires.2 in WasSplit c.args.f c.args.told bytes c.args.d box c.args.at c.requires.0 c.in-Some.k c.in-Some.next p.0 p.1 p.2 = let p = c.requires.2 in split-of p.0 p.1 p.2 in
     let in-box : (j : ℕ) → j < c.count-count.result → j < length kids = λ j h. let e = c.count-count.ensures in rw (← e) h in
     let a = c.args in
     let z = own in
@@ -169,7 +169,7 @@ loop-c-preserved t c =
     let told-past : ℕ = c.between-first.result.to in
     let done : ℕ = c.loop-c.c in
     let in_count : done < length kids = in-box _ c.loop-c-test.true in
-    let turned : (first : ℕ) (g : Forest) (m : ℕ) → SplitLies c.args.f c.args.told bytes (c.args.d - 1) kids c.in-Value.next first g m → Turning c.args.f c.args.told bytes (c.args.d - 1) kids told-out told-past (done + 1) c.turn-kid.result.behind c.turn-kid.result.to c.turn-kid.new.buf g m = λ first. λ g. λ m. λ l. let p = c.loop-c in let a = c.args in let z = p.invariant.1 first g m l in let n = next-tree a.f a.told bytes (a.d - 1) kids done p.place z.rest m in_count z.lie in let e = c.turn-kid.ensures n.tree n.behind (rw c.child-child.ensures n.lies) in turning-more a.f a.told bytes (a.d - 1) kids told-out told-past done p.place p.past p.buf g m z in_count c.turn-kid.result.behind c.turn-kid.result.to c.turn-kid.new.buf e.0 e.1 in
+    let turned : (first : ℕ) (g : Forest) (m : ℕ) → SplitLies c.args.f c.args.told bytes (c.args.d - 1) kids c.in-Some.next first g m → Turning c.args.f c.args.told bytes (c.args.d - 1) kids told-out told-past (done + 1) c.turn-kid.result.behind c.turn-kid.result.to c.turn-kid.new.buf g m = λ first. λ g. λ m. λ l. let p = c.loop-c in let a = c.args in let z = p.invariant.1 first g m l in let n = next-tree a.f a.told bytes (a.d - 1) kids done p.place z.rest m in_count z.lie in let e = c.turn-kid.ensures n.tree n.behind (rw c.child-child.ensures n.lies) in turning-more a.f a.told bytes (a.d - 1) kids told-out told-past done p.place p.past p.buf g m z in_count c.turn-kid.result.behind c.turn-kid.result.to c.turn-kid.new.buf e.0 e.1 in
     let h = c.loop-c-test.true in (omega arith, turned)
 
 pub shape_of-buf : goal.shape_of-buf
@@ -178,13 +178,13 @@ shape_of-buf t c =
     let box : List Side = box_of c.args.f.n c.args.b in
     let kids : List (List Side) = children_by c.args.f.form box in
     let Lies : Tree → ℕ → Type 0 = TreeLies c.args.f c.args.told bytes c.args.d box c.args.at in
-    let number_is : number_at bytes c.args.at ≡ Number.Value c.in-Value.k c.in-Value.next = sym c.number.ensures ∙ c.in-Value.is in
-    let the-split : (u : Tree) (m : ℕ) (l : Lies u m) → c.in-Value.k ≤ 0 → WasSplit c.args.f c.args.told bytes c.args.d box c.args.at c.requires.0 c.in-Value.k c.in-Value.next u m l = λ u. λ m. λ l. λ h. was-split c.args.f c.args.told bytes c.args.d box c.args.at c.requires.0 c.in-Value.k c.in-Value.next number_is u m l h in
-    let split-of : (u : Tree) (m : ℕ) (l : Lies u m) → WasSplit c.args.f c.args.told bytes c.args.d box c.args.at c.requires.0 c.in-Value.k c.in-Value.next u m l = λ u. λ m. λ l. the-split u m l c.if-k-gt0.false in
-    let own : let p = c.requires.2 in WasSplit c.args.f c.args.told bytes c.args.d box c.args.at c.requires.0 c.in-Value.k c.in-Value.next p.0 p.1 p.2 = let p = c.requires.2 in split-of p.0 p.1 p.2 in
+    let number_is : number_at bytes c.args.at ≡ Some (c.in-Some.k, c.in-Some.next) = sym c.number.ensures ∙ c.in-Some.is in
+    let the-split : (u : Tree) (m : ℕ) (l : Lies u m) → c.in-Some.k ≤ 0 → WasSplit c.args.f c.args.told bytes c.args.d box c.args.at c.requires.0 c.in-Some.k c.in-Some.next u m l = λ u. λ m. λ l. λ h. was-split c.args.f c.args.told bytes c.args.d box c.args.at c.requires.0 c.in-Some.k c.in-Some.next number_is u m l h in
+    let split-of : (u : Tree) (m : ℕ) (l : Lies u m) → WasSplit c.args.f c.args.told bytes c.args.d box c.args.at c.requires.0 c.in-Some.k c.in-Some.next u m l = λ u. λ m. λ l. the-split u m l c.if-k-gt0.false in
+    let own : let p = c.requires.2 in WasSplit c.args.f c.args.told bytes c.args.d box c.args.at c.requires.0 c.in-Some.k c.in-Some.next p.0 p.1 p.2 = let p = c.requires.2 in split-of p.0 p.1 p.2 in
     let told-out : List ℕ = c.between-first.new.buf in
     let told-past : ℕ = c.between-first.result.to in
-    let between_is : (first : ℕ) (g : Forest) (m : ℕ) → SplitLies c.args.f c.args.told bytes (c.args.d - 1) kids c.in-Value.next first g m → (c.between-first.result.behind ≡ first) × Put c.put_number-zero.new.buf c.put_number-zero.result (told_bytes (not c.args.told) g) told-past told-out = c.between-first.ensures in
+    let between_is : (first : ℕ) (g : Forest) (m : ℕ) → SplitLies c.args.f c.args.told bytes (c.args.d - 1) kids c.in-Some.next first g m → (c.between-first.result.behind ≡ first) × Put c.put_number-zero.new.buf c.put_number-zero.result (told_bytes (not c.args.told) g) told-past told-out = c.between-first.ensures in
     let z = own in
     let m = c.requires.2.1 in
     (c.loop-c.invariant.1 z.first z.trees m z.lie).under.long ∙ put-length (between_is z.first z.trees m z.lie).1 ∙ put-length c.put_number-zero.ensures
@@ -195,12 +195,12 @@ returns t c u m l =
     let box : List Side = box_of c.args.f.n c.args.b in
     let kids : List (List Side) = children_by c.args.f.form box in
     let Lies : Tree → ℕ → Type 0 = TreeLies c.args.f c.args.told bytes c.args.d box c.args.at in
-    let number_is : number_at bytes c.args.at ≡ Number.Value c.in-Value.k c.in-Value.next = sym c.number.ensures ∙ c.in-Value.is in
-    let the-split : (u : Tree) (m : ℕ) (l : Lies u m) → c.in-Value.k ≤ 0 → WasSplit c.args.f c.args.told bytes c.args.d box c.args.at c.requires.0 c.in-Value.k c.in-Value.next u m l = λ u. λ m. λ l. λ h. was-split c.args.f c.args.told bytes c.args.d box c.args.at c.requires.0 c.in-Value.k c.in-Value.next number_is u m l h in
-    let split-of : (u : Tree) (m : ℕ) (l : Lies u m) → WasSplit c.args.f c.args.told bytes c.args.d box c.args.at c.requires.0 c.in-Value.k c.in-Value.next u m l = λ u. λ m. λ l. the-split u m l c.if-k-gt0.false in
+    let number_is : number_at bytes c.args.at ≡ Some (c.in-Some.k, c.in-Some.next) = sym c.number.ensures ∙ c.in-Some.is in
+    let the-split : (u : Tree) (m : ℕ) (l : Lies u m) → c.in-Some.k ≤ 0 → WasSplit c.args.f c.args.told bytes c.args.d box c.args.at c.requires.0 c.in-Some.k c.in-Some.next u m l = λ u. λ m. λ l. λ h. was-split c.args.f c.args.told bytes c.args.d box c.args.at c.requires.0 c.in-Some.k c.in-Some.next number_is u m l h in
+    let split-of : (u : Tree) (m : ℕ) (l : Lies u m) → WasSplit c.args.f c.args.told bytes c.args.d box c.args.at c.requires.0 c.in-Some.k c.in-Some.next u m l = λ u. λ m. λ l. the-split u m l c.if-k-gt0.false in
     let told-out : List ℕ = c.between-first.new.buf in
     let told-past : ℕ = c.between-first.result.to in
-    let between_is : (first : ℕ) (g : Forest) (m : ℕ) → SplitLies c.args.f c.args.told bytes (c.args.d - 1) kids c.in-Value.next first g m → (c.between-first.result.behind ≡ first) × Put c.put_number-zero.new.buf c.put_number-zero.result (told_bytes (not c.args.told) g) told-past told-out = c.between-first.ensures in
+    let between_is : (first : ℕ) (g : Forest) (m : ℕ) → SplitLies c.args.f c.args.told bytes (c.args.d - 1) kids c.in-Some.next first g m → (c.between-first.result.behind ≡ first) × Put c.put_number-zero.new.buf c.put_number-zero.result (told_bytes (not c.args.told) g) told-past told-out = c.between-first.ensures in
     let z = split-of u m l in
     let h = c.loop-c-test.false in
     let n = c.count-count.ensures in

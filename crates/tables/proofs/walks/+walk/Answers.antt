@@ -1,5 +1,6 @@
 -- `walks::walk`, which calls itself with less depth: each return cites the law of the node that it stops at; in the loop over the children,
 -- those that are left say what the whole says. Assumes nothing.
+use Rattle.std.specs.Prelude.{Some, Ok, Err}
 use Prim.Native.Nat.{ℕ, ◌+◌, ◌-◌, ◌≤◌, ◌<◌}
 use mathlib.Core.Path.{◌≡◌, sym, ap, ◌∙◌}
 use mathlib.Core.Bool.{Bool}
@@ -7,9 +8,8 @@ use mathlib.Core.List.{List, []}
 use native.Mathlib.Omega.{arith}
 use lib.IntN.{ℤ}
 use lib.ListN.{length, drop}
-use Rattle.meaning.specs.declared.Number.{Number}
+use Rattle.meaning.specs.Answers.{Walk}
 use Rattle.meaning.specs.declared.Refusal.{Refusal}
-use Rattle.meaning.specs.declared.Walk.{Walk}
 use Rattle.meaning.specs.Refusals.{bad_table}
 use Rattle.meaning.specs.Numbers.{number_at}
 use Rattle.meaning.specs.Boxes.{Side}
@@ -32,7 +32,7 @@ returns-in_default t c =
     let flag : Bool = c.args.judged in
     let table : List ℕ = c.args.table.now in
     let box : List Side = box_of c.args.f.n c.args.b in
-    ap Walk.Refused c.broken.ensures
+    ap Err c.broken.ensures
     ∙ tree-broken frame bands coef flag c.args.d table c.args.at box (sym c.number.ensures ∙ c.in_default.is)
 
 pub returns-then-f-k : goal.returns-then-f-k
@@ -44,11 +44,11 @@ returns-then-f-k t c =
     let table : List ℕ = c.args.table.now in
     let box : List Side = box_of c.args.f.n c.args.b in
     let whole : Walk = tree frame bands coef flag c.args.d table c.args.at box in
-    let size : ℕ = c.in-Value.k in
-    let next : ℕ = c.in-Value.next in
-    let value : number_at table c.args.at ≡ Number.Value size next = sym c.number.ensures ∙ c.in-Value.is in
-    let over : (frame).k < size → Walk.Refused (bad_table c.args.at) ≡ whole = λ h. tree_over frame bands coef flag c.args.d table c.args.at box size next value h in
-    ap Walk.Refused c.bad_table.ensures ∙ over c.if-f-k.true
+    let size : ℕ = c.in-Some.k in
+    let next : ℕ = c.in-Some.next in
+    let value : number_at table c.args.at ≡ Some (size, next) = sym c.number.ensures ∙ c.in-Some.is in
+    let over : (frame).k < size → Err (bad_table c.args.at) ≡ whole = λ h. tree_over frame bands coef flag c.args.d table c.args.at box size next value h in
+    ap Err c.bad_table.ensures ∙ over c.if-f-k.true
 
 pub tile-requires : goal.tile-requires
 tile-requires t c = let p = c.requires in record { frame = (p.0, p.1, p.2); size = c.if-f-k.false }
@@ -61,9 +61,9 @@ returns-then-k-gt0 t c =
     let flag : Bool = c.args.judged in
     let table : List ℕ = c.args.table.now in
     let box : List Side = box_of c.args.f.n c.args.b in
-    let size : ℕ = c.in-Value.k in
-    let next : ℕ = c.in-Value.next in
-    let value : number_at table c.args.at ≡ Number.Value size next = sym c.number.ensures ∙ c.in-Value.is in
+    let size : ℕ = c.in-Some.k in
+    let next : ℕ = c.in-Some.next in
+    let value : number_at table c.args.at ≡ Some (size, next) = sym c.number.ensures ∙ c.in-Some.is in
     c.tile.ensures ∙ tree-tile frame bands coef flag c.args.d table c.args.at box size next value c.if-k-gt0.true c.if-f-k.false
 
 pub returns-then-d-eq0 : goal.returns-then-d-eq0
@@ -75,11 +75,11 @@ returns-then-d-eq0 t c =
     let table : List ℕ = c.args.table.now in
     let box : List Side = box_of c.args.f.n c.args.b in
     let whole : Walk = tree frame bands coef flag c.args.d table c.args.at box in
-    let size : ℕ = c.in-Value.k in
-    let next : ℕ = c.in-Value.next in
-    let value : number_at table c.args.at ≡ Number.Value size next = sym c.number.ensures ∙ c.in-Value.is in
-    let deep : size ≤ 0 → c.args.d ≡ 0 → Walk.Refused (bad_table c.args.at) ≡ whole = λ z. λ h. tree-deep frame bands coef flag c.args.d table c.args.at box size next value z h in
-    ap Walk.Refused c.bad_table-then-d-eq0.ensures ∙ deep c.if-k-gt0.false c.if-d-eq0.true
+    let size : ℕ = c.in-Some.k in
+    let next : ℕ = c.in-Some.next in
+    let value : number_at table c.args.at ≡ Some (size, next) = sym c.number.ensures ∙ c.in-Some.is in
+    let deep : size ≤ 0 → c.args.d ≡ 0 → Err (bad_table c.args.at) ≡ whole = λ z. λ h. tree-deep frame bands coef flag c.args.d table c.args.at box size next value z h in
+    ap Err c.bad_table-then-d-eq0.ensures ∙ deep c.if-k-gt0.false c.if-d-eq0.true
 
 pub count-count-requires : goal.count-count-requires
 count-count-requires t c = c.requires.0.rooms
@@ -93,11 +93,11 @@ returns-then-count-eq0 t c =
     let table : List ℕ = c.args.table.now in
     let box : List Side = box_of c.args.f.n c.args.b in
     let whole : Walk = tree frame bands coef flag c.args.d table c.args.at box in
-    let size : ℕ = c.in-Value.k in
-    let next : ℕ = c.in-Value.next in
-    let value : number_at table c.args.at ≡ Number.Value size next = sym c.number.ensures ∙ c.in-Value.is in
-    let stuck : size ≤ 0 → length (children_by c.args.f.form box) ≡ 0 → Walk.Refused (bad_table c.args.at) ≡ whole = λ z. λ h. tree-stuck frame bands coef flag c.args.d table c.args.at box size next value z h in
-    ap Walk.Refused c.bad_table-then-count-eq0.ensures ∙ stuck c.if-k-gt0.false (sym c.count-count.ensures ∙ c.if-count-eq0.true)
+    let size : ℕ = c.in-Some.k in
+    let next : ℕ = c.in-Some.next in
+    let value : number_at table c.args.at ≡ Some (size, next) = sym c.number.ensures ∙ c.in-Some.is in
+    let stuck : size ≤ 0 → length (children_by c.args.f.form box) ≡ 0 → Err (bad_table c.args.at) ≡ whole = λ z. λ h. tree-stuck frame bands coef flag c.args.d table c.args.at box size next value z h in
+    ap Err c.bad_table-then-count-eq0.ensures ∙ stuck c.if-k-gt0.false (sym c.count-count.ensures ∙ c.if-count-eq0.true)
 
 pub loop-c-init : goal.loop-c-init
 loop-c-init t c =
@@ -107,9 +107,9 @@ loop-c-init t c =
     let flag : Bool = c.args.judged in
     let table : List ℕ = c.args.table.now in
     let box : List Side = box_of c.args.f.n c.args.b in
-    let size : ℕ = c.in-Value.k in
-    let next : ℕ = c.in-Value.next in
-    let value : number_at table c.args.at ≡ Number.Value size next = sym c.number.ensures ∙ c.in-Value.is in
+    let size : ℕ = c.in-Some.k in
+    let next : ℕ = c.in-Some.next in
+    let value : number_at table c.args.at ≡ Some (size, next) = sym c.number.ensures ∙ c.in-Some.is in
     let some : length (children_by c.args.f.form box) ≡ 0 → ⊥ = λ z. c.if-count-eq0.false (c.count-count.ensures ∙ z) in
     (omega arith, untold-split frame bands coef flag c.requires.3 c.args.d table c.args.at box size next value c.if-k-gt0.false c.if-d-eq0.false some)
 
@@ -143,7 +143,7 @@ returns-in_default-past t c =
     let done : ℕ = c.loop-c.c in
     let at-kid : ℕ = c.loop-c.place in
     let in_count : done < length (children_by c.args.f.form box) = let k = c.count-count.ensures in let h = c.loop-c-test.true in rw (← k) h in
-    let stopped : (e : Refusal) → c.walk-past.result ≡ Walk.Refused e → c.walk-past.result ≡ whole = λ e. λ h. children-stopped frame bands coef flag (c.args.d - 1) table box done at-kid in_count (box_of c.args.f.n c.child-child.result) c.child-child.ensures c.walk-past.result c.walk-past.ensures e h ∙ c.loop-c.invariant.1 in
+    let stopped : (e : Refusal) → c.walk-past.result ≡ Err e → c.walk-past.result ≡ whole = λ e. λ h. children-stopped frame bands coef flag (c.args.d - 1) table box done at-kid in_count (box_of c.args.f.n c.child-child.result) c.child-child.ensures c.walk-past.result c.walk-past.ensures e h ∙ c.loop-c.invariant.1 in
     stopped c.in_default-past.field-0 c.in_default-past.is
 
 pub overflow_add-c : goal.overflow_add-c
@@ -164,8 +164,8 @@ loop-c-preserved t c =
     let done : ℕ = c.loop-c.c in
     let at-kid : ℕ = c.loop-c.place in
     let in_count : done < length (children_by c.args.f.form box) = let k = c.count-count.ensures in let h = c.loop-c-test.true in rw (← k) h in
-    let more : (m : ℕ) → c.walk-past.result ≡ Walk.Next m → each (tree frame bands coef flag (c.args.d - 1) table) (drop (done + 1) (children_by c.args.f.form box)) [] m ≡ whole = λ m. λ h. children-more frame bands coef flag (c.args.d - 1) table box done at-kid in_count (box_of c.args.f.n c.child-child.result) c.child-child.ensures c.walk-past.result c.walk-past.ensures m h ∙ c.loop-c.invariant.1 in
-    (omega arith, more c.in-Next.m c.in-Next.is)
+    let more : (m : ℕ) → c.walk-past.result ≡ Ok m → each (tree frame bands coef flag (c.args.d - 1) table) (drop (done + 1) (children_by c.args.f.form box)) [] m ≡ whole = λ m. λ h. children-more frame bands coef flag (c.args.d - 1) table box done at-kid in_count (box_of c.args.f.n c.child-child.result) c.child-child.ensures c.walk-past.result c.walk-past.ensures m h ∙ c.loop-c.invariant.1 in
+    (omega arith, more c.in-Ok.m c.in-Ok.is)
 
 pub returns : goal.returns
 returns t c =

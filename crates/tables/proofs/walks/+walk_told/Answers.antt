@@ -1,5 +1,6 @@
 -- `walks::walk_told`, which calls itself with less depth: each return cites the law of the node that it stops at; in the loop over the children,
 -- those that are left say what the whole says, each held to its length. Assumes nothing.
+use Rattle.std.specs.Prelude.{Some, Ok, Err}
 use Prim.Native.Nat.{ℕ, ◌+◌, ◌-◌, ◌≤◌, ◌<◌}
 use mathlib.Core.Path.{◌≡◌, refl, sym, ap, ◌∙◌}
 use mathlib.Core.Bool.{Bool}
@@ -7,9 +8,8 @@ use mathlib.Core.List.{List}
 use native.Mathlib.Omega.{arith}
 use lib.IntN.{ℤ}
 use lib.ListN.{length}
-use Rattle.meaning.specs.declared.Number.{Number}
+use Rattle.meaning.specs.Answers.{Walk}
 use Rattle.meaning.specs.declared.Refusal.{Refusal}
-use Rattle.meaning.specs.declared.Walk.{Walk}
 use Rattle.meaning.specs.Refusals.{bad_table}
 use Rattle.meaning.specs.Numbers.{number_at}
 use Rattle.meaning.specs.Boxes.{Side}
@@ -31,7 +31,7 @@ returns-in_default t c =
     let flag : Bool = c.args.judged in
     let table : List ℕ = c.args.table.now in
     let box : List Side = box_of c.args.f.n c.args.b in
-    ap Walk.Refused c.broken.ensures
+    ap Err c.broken.ensures
     ∙ tree-broken frame bands coef flag c.args.d table c.args.at box (sym c.number.ensures ∙ c.in_default.is)
 
 pub returns-then-f-k : goal.returns-then-f-k
@@ -43,11 +43,11 @@ returns-then-f-k t c =
     let table : List ℕ = c.args.table.now in
     let box : List Side = box_of c.args.f.n c.args.b in
     let whole : Walk = tree frame bands coef flag c.args.d table c.args.at box in
-    let size : ℕ = c.in-Value.k in
-    let next : ℕ = c.in-Value.next in
-    let value : number_at table c.args.at ≡ Number.Value size next = sym c.number.ensures ∙ c.in-Value.is in
-    let over : (frame).k < size → Walk.Refused (bad_table c.args.at) ≡ whole = λ h. tree_over frame bands coef flag c.args.d table c.args.at box size next value h in
-    ap Walk.Refused c.bad_table.ensures ∙ over c.if-f-k.true
+    let size : ℕ = c.in-Some.k in
+    let next : ℕ = c.in-Some.next in
+    let value : number_at table c.args.at ≡ Some (size, next) = sym c.number.ensures ∙ c.in-Some.is in
+    let over : (frame).k < size → Err (bad_table c.args.at) ≡ whole = λ h. tree_over frame bands coef flag c.args.d table c.args.at box size next value h in
+    ap Err c.bad_table.ensures ∙ over c.if-f-k.true
 
 pub walk-requires : goal.walk-requires
 walk-requires t c =
@@ -63,9 +63,9 @@ returns-then-k-gt0 t c =
     let flag : Bool = c.args.judged in
     let table : List ℕ = c.args.table.now in
     let box : List Side = box_of c.args.f.n c.args.b in
-    let size : ℕ = c.in-Value.k in
-    let next : ℕ = c.in-Value.next in
-    let value : number_at table c.args.at ≡ Number.Value size next = sym c.number.ensures ∙ c.in-Value.is in
+    let size : ℕ = c.in-Some.k in
+    let next : ℕ = c.in-Some.next in
+    let value : number_at table c.args.at ≡ Some (size, next) = sym c.number.ensures ∙ c.in-Some.is in
     c.walk.ensures ∙ tile-alike frame bands coef flag c.args.d table c.args.at box size next value c.if-k-gt0.true c.if-f-k.false
 
 pub returns-then-d-eq0 : goal.returns-then-d-eq0
@@ -77,11 +77,11 @@ returns-then-d-eq0 t c =
     let table : List ℕ = c.args.table.now in
     let box : List Side = box_of c.args.f.n c.args.b in
     let whole : Walk = tree frame bands coef flag c.args.d table c.args.at box in
-    let size : ℕ = c.in-Value.k in
-    let next : ℕ = c.in-Value.next in
-    let value : number_at table c.args.at ≡ Number.Value size next = sym c.number.ensures ∙ c.in-Value.is in
-    let deep : size ≤ 0 → c.args.d ≡ 0 → Walk.Refused (bad_table c.args.at) ≡ whole = λ z. λ h. tree-deep frame bands coef flag c.args.d table c.args.at box size next value z h in
-    ap Walk.Refused c.bad_table-then-d-eq0.ensures ∙ deep c.if-k-gt0.false c.if-d-eq0.true
+    let size : ℕ = c.in-Some.k in
+    let next : ℕ = c.in-Some.next in
+    let value : number_at table c.args.at ≡ Some (size, next) = sym c.number.ensures ∙ c.in-Some.is in
+    let deep : size ≤ 0 → c.args.d ≡ 0 → Err (bad_table c.args.at) ≡ whole = λ z. λ h. tree-deep frame bands coef flag c.args.d table c.args.at box size next value z h in
+    ap Err c.bad_table-then-d-eq0.ensures ∙ deep c.if-k-gt0.false c.if-d-eq0.true
 
 pub count-count-requires : goal.count-count-requires
 count-count-requires t c = c.requires.0.rooms
@@ -95,11 +95,11 @@ returns-then-count-eq0 t c =
     let table : List ℕ = c.args.table.now in
     let box : List Side = box_of c.args.f.n c.args.b in
     let whole : Walk = tree frame bands coef flag c.args.d table c.args.at box in
-    let size : ℕ = c.in-Value.k in
-    let next : ℕ = c.in-Value.next in
-    let value : number_at table c.args.at ≡ Number.Value size next = sym c.number.ensures ∙ c.in-Value.is in
-    let stuck : size ≤ 0 → length (children_by c.args.f.form box) ≡ 0 → Walk.Refused (bad_table c.args.at) ≡ whole = λ z. λ h. tree-stuck frame bands coef flag c.args.d table c.args.at box size next value z h in
-    ap Walk.Refused c.bad_table-then-count-eq0.ensures ∙ stuck c.if-k-gt0.false (sym c.count-count.ensures ∙ c.if-count-eq0.true)
+    let size : ℕ = c.in-Some.k in
+    let next : ℕ = c.in-Some.next in
+    let value : number_at table c.args.at ≡ Some (size, next) = sym c.number.ensures ∙ c.in-Some.is in
+    let stuck : size ≤ 0 → length (children_by c.args.f.form box) ≡ 0 → Err (bad_table c.args.at) ≡ whole = λ z. λ h. tree-stuck frame bands coef flag c.args.d table c.args.at box size next value z h in
+    ap Err c.bad_table-then-count-eq0.ensures ∙ stuck c.if-k-gt0.false (sym c.count-count.ensures ∙ c.if-count-eq0.true)
 
 pub returns-in_default-behind : goal.returns-in_default-behind
 returns-in_default-behind t c =
@@ -110,11 +110,11 @@ returns-in_default-behind t c =
     let table : List ℕ = c.args.table.now in
     let box : List Side = box_of c.args.f.n c.args.b in
     let whole : Walk = tree frame bands coef flag c.args.d table c.args.at box in
-    let size : ℕ = c.in-Value.k in
-    let next : ℕ = c.in-Value.next in
-    let value : number_at table c.args.at ≡ Number.Value size next = sym c.number.ensures ∙ c.in-Value.is in
+    let size : ℕ = c.in-Some.k in
+    let next : ℕ = c.in-Some.next in
+    let value : number_at table c.args.at ≡ Some (size, next) = sym c.number.ensures ∙ c.in-Some.is in
     let many : ℕ = c.told-told.result in
-    let unread : (x : Refusal) → behind_at many table next ≡ Walk.Refused x → Walk.Refused x ≡ whole = λ x. λ e. tree-unread frame bands coef flag c.args.d table c.args.at box size next value c.if-k-gt0.false c.if-d-eq0.false c.count-count.result c.count-count.ensures c.if-count-eq0.false many c.told-told.ensures x e in
+    let unread : (x : Refusal) → behind_at many table next ≡ Err x → Err x ≡ whole = λ x. λ e. tree-unread frame bands coef flag c.args.d table c.args.at box size next value c.if-k-gt0.false c.if-d-eq0.false c.count-count.result c.count-count.ensures c.if-count-eq0.false many c.told-told.ensures x e in
     c.in_default-behind.is ∙ unread c.in_default-behind.field-0 (sym c.behind-behind.ensures ∙ c.in_default-behind.is)
 
 pub loop-c-init : goal.loop-c-init
@@ -126,14 +126,14 @@ loop-c-init t c =
     let table : List ℕ = c.args.table.now in
     let box : List Side = box_of c.args.f.n c.args.b in
     let whole : Walk = tree frame bands coef flag c.args.d table c.args.at box in
-    let size : ℕ = c.in-Value.k in
-    let next : ℕ = c.in-Value.next in
-    let value : number_at table c.args.at ≡ Number.Value size next = sym c.number.ensures ∙ c.in-Value.is in
+    let size : ℕ = c.in-Some.k in
+    let next : ℕ = c.in-Some.next in
+    let value : number_at table c.args.at ≡ Some (size, next) = sym c.number.ensures ∙ c.in-Some.is in
     let many : ℕ = c.told-told.result in
     let kids : List (List Side) = children_by c.args.f.form box in
     let Rest : ℕ → ℕ → ℕ → Type 0 = λ done. λ cursor. λ place. Left (tree frame bands coef flag (c.args.d - 1) table) kids table many done cursor place whole in
-    let entered : (first : ℕ) → behind_at many table next ≡ Walk.Next first → Rest 0 next first = λ first. λ e. tree-split frame bands coef flag c.args.d table c.args.at box size next value c.if-k-gt0.false c.if-d-eq0.false c.count-count.result c.count-count.ensures c.if-count-eq0.false many c.told-told.ensures first e in
-    (omega arith, entered c.in-Next.first (sym c.behind-behind.ensures ∙ c.in-Next.is))
+    let entered : (first : ℕ) → behind_at many table next ≡ Ok first → Rest 0 next first = λ first. λ e. tree-split frame bands coef flag c.args.d table c.args.at box size next value c.if-k-gt0.false c.if-d-eq0.false c.count-count.result c.count-count.ensures c.if-count-eq0.false many c.told-told.ensures first e in
+    (omega arith, entered c.in-Ok.first (sym c.behind-behind.ensures ∙ c.in-Ok.is))
 
 pub child-child-requires : goal.child-child-requires
 child-child-requires t c =
@@ -170,7 +170,7 @@ returns-in_default-past t c =
     let in_count : done < length kids = let k = c.count-count.ensures in let h = c.loop-c-test.true in rw (← k) h in
     let kid : List Side = box_of c.args.f.n c.child-child.result in
     let one : ℕ → List Side → Walk = tree frame bands coef flag (c.args.d - 1) table in
-    let stopped : (e : Refusal) → c.walk_told-past.result ≡ Walk.Refused e → c.walk_told-past.result ≡ whole = λ e. λ h. left-stopped one kids table many done cursor at-kid whole c.loop-c.invariant.1 in_count kid c.child-child.ensures c.walk_told-past.result c.walk_told-past.ensures e h in
+    let stopped : (e : Refusal) → c.walk_told-past.result ≡ Err e → c.walk_told-past.result ≡ whole = λ e. λ h. left-stopped one kids table many done cursor at-kid whole c.loop-c.invariant.1 in_count kid c.child-child.ensures c.walk_told-past.result c.walk_told-past.ensures e h in
     stopped c.in_default-past.field-0 c.in_default-past.is
 
 pub returns-in_default-held : goal.returns-in_default-held
@@ -190,8 +190,8 @@ returns-in_default-held t c =
     let in_count : done < length kids = let k = c.count-count.ensures in let h = c.loop-c-test.true in rw (← k) h in
     let kid : List Side = box_of c.args.f.n c.child-child.result in
     let one : ℕ → List Side → Walk = tree frame bands coef flag (c.args.d - 1) table in
-    let end : ℕ = c.in-Next-past.m in
-    let wrong : (x : Refusal) → c.held-held.result ≡ Walk.Refused x → c.held-held.result ≡ whole = λ x. λ g. left-wrong one kids table many done cursor at-kid whole c.loop-c.invariant.1 in_count kid c.child-child.ensures c.walk_told-past.result c.walk_told-past.ensures end c.in-Next-past.is c.held-held.result c.held-held.ensures x g in
+    let end : ℕ = c.in-Ok-past.m in
+    let wrong : (x : Refusal) → c.held-held.result ≡ Err x → c.held-held.result ≡ whole = λ x. λ g. left-wrong one kids table many done cursor at-kid whole c.loop-c.invariant.1 in_count kid c.child-child.ensures c.walk_told-past.result c.walk_told-past.ensures end c.in-Ok-past.is c.held-held.result c.held-held.ensures x g in
     wrong c.in_default-held.field-0 c.in_default-held.is
 
 pub overflow_add-c : goal.overflow_add-c
@@ -218,9 +218,9 @@ loop-c-preserved t c =
     let in_count : done < length kids = let k = c.count-count.ensures in let h = c.loop-c-test.true in rw (← k) h in
     let kid : List Side = box_of c.args.f.n c.child-child.result in
     let one : ℕ → List Side → Walk = tree frame bands coef flag (c.args.d - 1) table in
-    let end : ℕ = c.in-Next-past.m in
-    let more : (then : ℕ) → c.held-held.result ≡ Walk.Next then → Rest (done + 1) then end = λ then. λ g. left-more one kids table many done cursor at-kid whole c.loop-c.invariant.1 in_count kid c.child-child.ensures c.walk_told-past.result c.walk_told-past.ensures end c.in-Next-past.is c.held-held.result c.held-held.ensures then g in
-    (omega arith, more c.in-Next-held.then c.in-Next-held.is)
+    let end : ℕ = c.in-Ok-past.m in
+    let more : (then : ℕ) → c.held-held.result ≡ Ok then → Rest (done + 1) then end = λ then. λ g. left-more one kids table many done cursor at-kid whole c.loop-c.invariant.1 in_count kid c.child-child.ensures c.walk_told-past.result c.walk_told-past.ensures end c.in-Ok-past.is c.held-held.result c.held-held.ensures then g in
+    (omega arith, more c.in-Ok-held.then c.in-Ok-held.is)
 
 pub returns : goal.returns
 returns t c =
