@@ -11,6 +11,7 @@ use std::env::Env;
 use std::io::{Stderr, Stdout};
 use std::rt::Files;
 use tables::{checks, start_checks};
+use meaning::Refusal;
 
 fn tell(out: Stdout, verdict: Result<(), Refusal>) {
     match verdict {

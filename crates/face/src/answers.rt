@@ -3,7 +3,7 @@ ghost use Rattle.std.specs.Prelude.{◌≡◌};
 ghost use Rattle.meaning.specs.Refusals.{answer_shown, start_answer_shown};
 ghost use Rattle.face.specs.Answers.{mode, number_and_state, refusal_of, numbers_and_state, start_refusal_of};
 
-use meaning::Refusal;
+use meaning::{Refusal, StartState, State};
 
 // No mode: 255 is one.
 const NO_MODE: u64 = 65_535;

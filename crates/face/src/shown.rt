@@ -4,6 +4,8 @@ ghost use Rattle.std.specs.Prelude.{◌≡◌};
 ghost use Rattle.meaning.specs.Refusals.{verdict_shown, written_shown};
 ghost use Rattle.face.specs.Shown.{place_and_step, length_or_place};
 
+use meaning::Refusal;
+
 
 // The number of a verdict; out holds place and step.
 pub fn verdict(v: Result<(), Refusal>, out: &mut [u64; 2]) -> u64

@@ -3,6 +3,7 @@ use Rattle.std.specs.Prelude.{ℕ, ◌≤◌, ◌<◌, ◌≡◌, refl, Bool, tr
 use Rattle.std.proofs.Common.{sym, ap, ◌∙◌, arith, ltb-true, ltb-false, le-leb}
 use Rattle.std.specs.Int.Signed.{le_z, lt_z}
 use Rattle.std.proofs.lemmas.Bool.{lt-leb}
+use Rattle.laws.specs.Pairs.{some-first, some-second}
 use Rattle.laws.specs.Integers.{lt-nle, nlt-le}
 use Rattle.laws.specs.Tests.{never}
 use Rattle.meaning.specs.Answers.{Number, Signed}
@@ -39,12 +40,12 @@ counted-was s at least most v next e = go (number_at s at) refl e
     go None q e = never cc
     go (Some (w, m)) q e = tests (ltb w least) refl (ltb most w) refl e
       where
-        tests : (a : Bool) → ltb w least ≡ a → (b : Bool) → ltb most w ≡ b → cond a None (cond b None (Some (w, m))) ≡ Some (v, next) → Counted s at least most v next
+        tests : (a : Bool) → ltb w least ≡ a → (b : Bool) → ltb most w ≡ b → cond {A = Number} a None (cond {A = Number} b None (Some (w, m))) ≡ Some (v, next) → Counted s at least most v next
         tests true p b r e = never cc
         tests false p true r e = never cc
         tests false p false r e =
-            let i : w ≡ v = cc in
-            let j : m ≡ next = cc in
+            let i : w ≡ v = some-first e in
+            let j : m ≡ next = some-second e in
             record { number = q ∙ rw (i, j) refl; low = omega (arith, ltb-false w least p); high = omega (arith, ltb-false most w r) }
 
 -- not in range: the file is refused by the fault, for every test that asks as much
@@ -56,7 +57,7 @@ counted-fault ok rest s at least most low high e = go (number_at s at) refl e
     go None q e = not_taken ok rest s at q ∙ ap (λ (n : Number). refused (fault_of at n)) (sym q)
     go (Some (w, m)) q e = tests (ltb w least) refl (ltb most w) refl e ∙ ap (λ (n : Number). refused (fault_of at n)) (sym q)
       where
-        tests : (a : Bool) → ltb w least ≡ a → (b : Bool) → ltb most w ≡ b → cond a None (cond b None (Some (w, m))) ≡ None → values_at (counted ok rest) s at ≡ refused (unfit at)
+        tests : (a : Bool) → ltb w least ≡ a → (b : Bool) → ltb most w ≡ b → cond {A = Number} a None (cond {A = Number} b None (Some (w, m))) ≡ None → values_at (counted ok rest) s at ≡ refused (unfit at)
         tests true p b r e = taken-wrong ok rest s at w m q (low w (ltb-true w least p))
         tests false p true r e = taken-wrong ok rest s at w m q (high w (ltb-true most w r))
         tests false p false r e = never cc
@@ -102,12 +103,12 @@ module _ (s : List ℕ) (at : ℕ) (least most : ℤ) where
       go None q e = never cc
       go (Some (w, m)) q e = tests (lt_z w least) refl (lt_z most w) refl e
         where
-          tests : (a : Bool) → lt_z w least ≡ a → (b : Bool) → lt_z most w ≡ b → cond a None (cond b None (Some (w, m))) ≡ Some (v, next) → Ranged s at least most v next
+          tests : (a : Bool) → lt_z w least ≡ a → (b : Bool) → lt_z most w ≡ b → cond {A = Signed} a None (cond {A = Signed} b None (Some (w, m))) ≡ Some (v, next) → Ranged s at least most v next
           tests true p b r e = never cc
           tests false p true r e = never cc
           tests false p false r e =
-              let i : w ≡ v = cc in
-              let j : m ≡ next = cc in
+              let i : w ≡ v = some-first e in
+              let j : m ≡ next = some-second e in
               let l : le_z least v ≡ true = ap (le_z least) (sym i) ∙ nlt-le w least p in
               let h : le_z v most ≡ true = ap (λ (z : ℤ). le_z z most) (sym i) ∙ nlt-le most w r in
               record { holds = λ rest. right rest v next (q ∙ rw (i, j) refl) l h; low = l; high = h }
@@ -126,7 +127,7 @@ module _ (s : List ℕ) (at : ℕ) (least most : ℤ) where
           over true h = lt-nle most z h
           over false h = refl
 
-          tests : (a : Bool) → lt_z z least ≡ a → (b : Bool) → lt_z most z ≡ b → cond a None (cond b None (Some (z, m))) ≡ None → values_at (ranged least most rest) s at ≡ refused (unfit at)
+          tests : (a : Bool) → lt_z z least ≡ a → (b : Bool) → lt_z most z ≡ b → cond {A = Signed} a None (cond {A = Signed} b None (Some (z, m))) ≡ None → values_at (ranged least most rest) s at ≡ refused (unfit at)
           tests true p b r e = wrong rest z m (ap as_signed q) (simp (lt-nle z least p))
           tests false p true r e = wrong rest z m (ap as_signed q) (over (le_z least z) r)
           tests false p false r e = never cc

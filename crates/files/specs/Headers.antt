@@ -1,5 +1,6 @@
 -- The header of a plant or a sheet, as the code reads it: a form in 1..forms, n, a number in 1..most, q, K, D; or the refusal. Assumes nothing.
-use Rattle.std.specs.Prelude.{ℕ, ◌≤◌, ◌≡◌, List, [], ◌∷◌, ◌++◌, pos, Ok, Err}
+use Rattle.std.specs.Prelude.{ℕ, ◌≤◌, ◌≡◌, List, [], ◌∷◌, ◌++◌, pos, Ok, Err, Result}
+use Rattle.meaning.specs.declared.Refusal.{Refusal}
 use Rattle.meaning.specs.Files.{Form, refused, values_at}
 use Rattle.meaning.specs.Numbers.{bytes_of}
 use Rattle.meaning.specs.Plants.{headed}
@@ -22,7 +23,7 @@ pub record Headed (forms most : ℕ) (s : List ℕ) (h : Header) (next : ℕ) : 
   pub holds : (rest : ℕ → ℕ → ℕ → Form)
       → values_at (headed forms most rest) s 0 ≡ behind (pos h.form ∷ pos h.n ∷ pos h.m ∷ pos h.q ∷ pos h.k ∷ pos h.d ∷ []) (values_at (rest h.form h.n h.m) s next)
 
-abbrev pub HeaderTold : ℕ → ℕ → List ℕ → HeaderRead → Type 0
+abbrev pub HeaderTold : ℕ → ℕ → List ℕ → Result (Header × ℕ) Refusal → Type 0
 HeaderTold forms most s (Ok (h, next)) = Headed forms most s h next
 HeaderTold forms most s (Err e) = (rest : ℕ → ℕ → ℕ → Form) → values_at (headed forms most rest) s 0 ≡ refused e
 

@@ -1,6 +1,7 @@
 -- A lo with its hi as the code reads them: the part of the form that they are, with their values and the order that they stand in. Definitions alone.
-use Rattle.std.specs.Prelude.{ℕ, ◌≡◌, true, List, [], ◌∷◌, ℤ, Ok, Err}
+use Rattle.std.specs.Prelude.{ℕ, ◌≡◌, true, List, [], ◌∷◌, ℤ, Ok, Err, Result}
 use Rattle.std.specs.Int.Signed.{le_z}
+use Rattle.meaning.specs.declared.Refusal.{Refusal}
 use Rattle.meaning.specs.Files.{Form}
 use Rattle.meaning.specs.Plants.{ranged}
 use Rattle.files.specs.Parts.{Holds, Fails}
@@ -15,6 +16,6 @@ pub record Spanned (least most : ℤ) (s : List ℕ) (from : ℕ) (lo hi : ℤ) 
   pub order : le_z lo hi ≡ true
   pub high : le_z hi most ≡ true
 
-abbrev pub SpanTold : ℤ → ℤ → List ℕ → ℕ → Span → Type 0
+abbrev pub SpanTold : ℤ → ℤ → List ℕ → ℕ → Result (ℤ × ℤ × ℕ) Refusal → Type 0
 SpanTold least most s from (Ok (lo, hi, next)) = Spanned least most s from lo hi next
 SpanTold least most s from (Err e) = Fails (span_in least most) s from e

@@ -9,6 +9,7 @@ ghost use Rattle.files.specs.Signed.{signed_bytes};
 ghost use Rattle.files.specs.Bounds.{EdgesTold, BandsTold, BandSizes};
 
 use crate::{numbers, spans};
+use meaning::Refusal;
 
 // The edges of R and S, zeros beyond n, and the place behind them.
 #[derive(Clone, Copy)]

@@ -17,13 +17,6 @@ pub struct Header {
     pub d: usize,
 }
 
-// The header and the place behind it.
-#[derive(Clone, Copy)]
-pub enum HeaderRead {
-    Header(Header, usize),
-    Refused(Refusal),
-}
-
 // Whether a form is none of 1..forms.
 fn unknown(forms: usize, form: usize) -> bool
     ensures { result ≡ not (from 1 forms form) }

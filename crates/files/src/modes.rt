@@ -12,6 +12,7 @@ ghost use Rattle.files.specs.Modes.{ends_alike, ModeTold, after_mode, FurtherTol
 
 use crate::beginnings::Beginning;
 use crate::{arrays, bounds, refusals, rows};
+use meaning::Refusal;
 
 // The place behind the modes, and what is to be said of R, S and the bands of all modes.
 #[derive(Clone, Copy)]

@@ -10,6 +10,7 @@ ghost use Rattle.files.specs.Signed.{signed_bytes};
 ghost use Rattle.files.specs.Rows.{limit_at, next_column, RowsTold};
 
 use crate::{arrays, fields, numbers};
+use meaning::Refusal;
 
 // The number of a row's column: one of n entries of A, or b behind them.
 fn entry(s: &[u8], at: usize, n: usize, column: usize) -> Option<(i64, usize)>

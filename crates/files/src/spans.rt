@@ -5,13 +5,6 @@ ghost use Rattle.files.specs.Spans.{SpanTold};
 use crate::fields;
 use meaning::Refusal;
 
-// A lo with its hi and the place behind them.
-#[derive(Clone, Copy)]
-pub enum Span {
-    Ends(i64, i64, usize),
-    Refused(Refusal),
-}
-
 // lo within least..most, then hi within lo..most.
 pub fn read_span(s: &[u8], at: usize, least: i64, most: i64) -> Result<(i64, i64, usize), Refusal>
     ensures { SpanTold least most s.now at result }

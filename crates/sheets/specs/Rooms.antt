@@ -1,6 +1,7 @@
 -- Rooms of a sheet as the code reads them: the parts of the form that they are, with their values; that these give
 -- them back is promises' page Sheets. Relies on promises' page SheetRooms.
-use Rattle.std.specs.Prelude.{ℕ, ◌-◌, ◌<◌, ◌≡◌, List, [], ◌∷◌, ◌++◌, get_or, drop, ℤ, nat_abs, Float, Ok, Err}
+use Rattle.std.specs.Prelude.{ℕ, ◌-◌, ◌<◌, ◌≡◌, List, [], ◌∷◌, ◌++◌, get_or, drop, ℤ, nat_abs, Float, Ok, Err, Result}
+use Rattle.meaning.specs.declared.Refusal.{Refusal}
 use Rattle.laws.specs.Lists.{at, tab, tabs}
 use Rattle.laws.specs.Tabs.{FilledBy}
 use Rattle.meaning.specs.Answers.{Walk}
@@ -53,7 +54,7 @@ pub record OwnRead (kind : ℕ) (s : List ℕ) (start : ℕ) (e : Emitter) (next
   pub part : Holds (own_part kind) s start (own_values e) next
   pub held : HeldEmitter e
 
-abbrev pub OwnTold : ℕ → List ℕ → ℕ → EmitterRead → Type 0
+abbrev pub OwnTold : ℕ → List ℕ → ℕ → Result (Emitter × ℕ) Refusal → Type 0
 OwnTold kind s start (Ok (e, next)) = OwnRead kind s start e next
 OwnTold kind s start (Err e) = Fails (own_part kind) s start e
 
@@ -61,7 +62,7 @@ pub record EmitterHeld (s : List ℕ) (start : ℕ) (e : Emitter) (next : ℕ) :
   pub part : Holds emitter_part s start (emitter_values e) next
   pub held : HeldEmitter e
 
-abbrev pub EmitterTold : List ℕ → ℕ → EmitterRead → Type 0
+abbrev pub EmitterTold : List ℕ → ℕ → Result (Emitter × ℕ) Refusal → Type 0
 EmitterTold s start (Ok (e, next)) = EmitterHeld s start e next
 EmitterTold s start (Err e) = Fails emitter_part s start e
 

@@ -11,33 +11,12 @@ use crate::refusals;
 use files::numbers;
 use meaning::Refusal;
 
-// The bits of the float at a place, and the place behind it.
-#[derive(Clone, Copy)]
-pub enum BitsRead {
-    Bits(u64, usize),
-    Broken,
-}
-
 // What is asked of a float besides being finite: nothing, not below 0 (minus zero is not), or above 0.
 #[derive(Clone, Copy)]
 pub enum Asked {
     Any,
     NotBelow,
     Above,
-}
-
-// A float that was taken and the place behind it; or the refusal.
-#[derive(Clone, Copy)]
-pub enum FloatRead {
-    Float(f64, usize),
-    Refused(Refusal),
-}
-
-// Two floats one behind the other, and the place behind them; or the refusal.
-#[derive(Clone, Copy)]
-pub enum TwoFloats {
-    Floats(f64, f64, usize),
-    Refused(Refusal),
 }
 
 // A byte with its size known.

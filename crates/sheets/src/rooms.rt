@@ -2,7 +2,6 @@
 ghost use Rattle.std.specs.Prelude.{◌≡◌, ◌+◌, ◌≤◌, length};
 ghost use Rattle.laws.specs.Lists.{tabs};
 ghost use Rattle.laws.specs.Writing.{Put};
-ghost use Rattle.meaning.specs.declared.Walk.{Walk};
 ghost use Rattle.meaning.specs.Sheets.{no_room};
 ghost use Rattle.sheets.specs.Rooms.{ExchangesTold, OwnTold, EmitterTold, RestTold, RoomTold, RoomsTold, exchange_bytes, emitter_bytes, room_bytes, bytes_of_room};
 
@@ -44,13 +43,6 @@ fn read_exchanges(s: &[u8], at: usize, m: usize) -> Exchanges
         answer: Ok(p),
         exchange,
     }
-}
-
-// An emitter and the place behind it.
-#[derive(Clone, Copy)]
-pub enum EmitterRead {
-    Emitter(Emitter, usize),
-    Refused(Refusal),
 }
 
 // A heater's own values: its coefficient, then its water's temperature.
@@ -112,7 +104,7 @@ pub fn no_room() -> Room
 }
 
 fn refused(e: Refusal) -> RoomRead
-    ensures { result.answer ≡ Walk.Refused e }
+    ensures { result.answer ≡ Err e }
 {
     let room = no_room();
     RoomRead {

@@ -1,5 +1,5 @@
 -- The lengths that a split tells of its children, as the code reads them: one behind another, and again where one is needed. Definitions alone.
-use Rattle.std.specs.Prelude.{ℕ, zero, suc, ◌+◌, Bool, true, false, List, [], ◌∷◌, leb, eqb, length, Some, None, Ok, Err}
+use Rattle.std.specs.Prelude.{ℕ, zero, suc, ◌+◌, Bool, true, false, List, [], ◌∷◌, leb, eqb, length, Some, None, Ok, Err, Option}
 use Rattle.laws.specs.Guards.{guard}
 use Rattle.meaning.specs.Answers.{Walk}
 use Rattle.meaning.specs.Numbers.{number_at}
@@ -30,9 +30,9 @@ unfoldable pub sum_of : List Length → ℕ
 sum_of [] = 0
 sum_of (l ∷ ls) = l.size + sum_of ls
 
-abbrev pub total_of : ℕ → Read (List Length) → Sum
+abbrev pub total_of : ℕ → Read (List Length) → Option (ℕ × ℕ)
 total_of before (refused e) = None
 total_of before (read ls next) = Some (before + sum_of ls, next)
 
-abbrev pub total_at : ℕ → List ℕ → ℕ → Sum
+abbrev pub total_at : ℕ → List ℕ → ℕ → Option (ℕ × ℕ)
 total_at k s at = total_of 0 (lengths_at k s at)

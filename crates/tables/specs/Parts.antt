@@ -1,17 +1,17 @@
 -- Tables inside a start file as the code finds them, and how what is told of one is moved to the file. Definitions alone.
-use Rattle.std.specs.Prelude.{ℕ, ◌+◌, ◌^◌, ◌<◌, ◌≡◌, true, List, Ok, Err}
+use Rattle.std.specs.Prelude.{ℕ, ◌+◌, ◌^◌, ◌<◌, ◌≡◌, true, List, Ok, Err, Result}
 use Rattle.meaning.specs.declared.Refusal.{Refusal}
 use Rattle.meaning.specs.Refusals.{at_byte}
 use Rattle.meaning.specs.Starts.{on_length, on_part}
 
 -- the table whose length stands at a place, and the one that i others stand before
-abbrev pub part_at : List ℕ → ℕ → Part
-part_at s at = on_length s at Err Part.At
+abbrev pub part_at : List ℕ → ℕ → Result (ℕ × ℕ) Refusal
+part_at s at = on_length s at Err λ first size. Ok (first, size)
 
-abbrev pub part_behind : ℕ → List ℕ → ℕ → Part
-part_behind i s at = on_part i s at Err Part.At
+abbrev pub part_behind : ℕ → List ℕ → ℕ → Result (ℕ × ℕ) Refusal
+part_behind i s at = on_part i s at Err λ first size. Ok (first, size)
 
-abbrev pub on_found : {A : Type 0} → Part → (Refusal → A) → (ℕ → ℕ → A) → A
+abbrev pub on_found : {A : Type 0} → Result (ℕ × ℕ) Refusal → (Refusal → A) → (ℕ → ℕ → A) → A
 on_found (Err e) refuse rest = refuse e
 on_found (Ok (first, size)) refuse rest = rest first size
 

@@ -1,5 +1,5 @@
 -- A call on a start file as the code makes it: which table is called, then the call on it. Definitions alone.
-use Rattle.std.specs.Prelude.{ℕ, Bool, not, List, [], leb, eqb, ℤ, Ok, Err}
+use Rattle.std.specs.Prelude.{ℕ, Bool, not, List, [], leb, eqb, ℤ, Ok, Err, Result}
 use Rattle.laws.specs.Guards.{guard, choose}
 use Rattle.laws.specs.Lists.{all, first_false}
 use Rattle.meaning.specs.Answers.{StartAnswer}
@@ -26,19 +26,19 @@ module _ (n : ℕ) (root : List Side) (vs : List ℤ) where
   misses_at x i = not (all (fits_at x i))
 
   -- idle: an index that was kept cannot be, and outside Rm it is 11
-  abbrev pub idle_choice : ℕ → List ℤ → Choice
+  abbrev pub idle_choice : ℕ → List ℤ → Result ℕ Refusal
   idle_choice i x =
       let fit = fits_at x (above vs) in
       guard (eqb i 0) (Err bad_state) λ _.
       guard (all fit) (Err (outside (first_false fit))) λ _. Ok (chosen n root vs x)
 
   -- the table that is called
-  abbrev pub choice_of : StartState → List ℤ → Choice
+  abbrev pub choice_of : StartState → List ℤ → Result ℕ Refusal
   choice_of st x =
       guard (leb st.index (above vs)) (Err bad_state) λ _.
       choose (is_idle st.state) (λ _. idle_choice st.index x) (λ _. Ok st.index)
 
-abbrev pub on_choice : {A : Type 0} → Choice → (Refusal → A) → (ℕ → A) → A
+abbrev pub on_choice : {A : Type 0} → Result ℕ Refusal → (Refusal → A) → (ℕ → A) → A
 on_choice (Err e) refuse rest = refuse e
 on_choice (Ok i) refuse rest = rest i
 

@@ -10,6 +10,8 @@ ghost use Rattle.meaning.specs.Tables.{reading_of, children_by};
 ghost use Rattle.tables.specs.Boxes.{box_of, Small, piece_of, rest_of, part_of, bit_of, longest_at};
 ghost use Rattle.tables.specs.Finds.{holds_in, HalfOf};
 
+use meaning::Refusal;
+
 #[derive(Clone, Copy)]
 pub struct Bx {
     pub lo: [i64; 4],

@@ -11,7 +11,7 @@ use crate::arrays::{FEW_BANDS, FEW_COEFFICIENTS, FEW_MODES};
 use crate::frames::Frame;
 use crate::{frames, headers, refusals, walks};
 use files::plants;
-use meaning::{BANDS, COEFFICIENTS};
+use meaning::{BANDS, COEFFICIENTS, Refusal};
 
 // The place behind a table, its header and its tree, against a frame. What may stand there is not asked.
 fn end_by(f: Frame, bands: &[i64], coef: &[i64], table: &[u8]) -> Result<usize, Refusal>

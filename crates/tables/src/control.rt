@@ -14,7 +14,7 @@ use crate::boxes::Bx;
 use crate::frames::Frame;
 use crate::{boxes, finds, frames, headers, refusals, states};
 use files::plants;
-use meaning::State;
+use meaning::{Refusal, State};
 
 // Whether a call may go on: the state can be, and then the box holds the reading; 12 before 11.
 pub(crate) fn admit(can: bool, n: usize, b: Bx, x: [i64; 4]) -> Result<(), Refusal>

@@ -29,13 +29,6 @@ pub const LONG: usize = 32_769;
 
 pub const FEW: usize = 129;
 
-// A tree that was written: the place behind it, one past the buffer's end where there was not room for all; or that there is no such tree.
-#[derive(Clone, Copy)]
-pub enum Grown {
-    Next(usize),
-    Nothing,
-}
-
 // A tile of k modes: its number, then its modes, the first k of us.
 fn put_tile(buf: &mut [u8], at: usize, k: usize, us: &[usize; LONGEST]) -> usize
     requires { k ≤ longest_pattern }

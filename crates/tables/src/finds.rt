@@ -16,6 +16,7 @@ use crate::boxes::Bx;
 use crate::frames::Counts;
 use crate::{boxes, lengths, modes, refusals, walks};
 use files::numbers;
+use meaning::Refusal;
 
 // A tile of k modes at `from`: found, once they are all read.
 fn tile(modes: usize, k: usize, table: &[u8], from: usize) -> Result<(usize, usize), Refusal>

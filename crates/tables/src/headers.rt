@@ -6,6 +6,7 @@ ghost use Rattle.meaning.specs.Verdicts.{header};
 
 use crate::refusals;
 use files::numbers;
+use meaning::Refusal;
 
 // 1 halves all long sides at once, 2 too and tells lengths, 3 the longest alone.
 pub fn known(form: usize) -> bool

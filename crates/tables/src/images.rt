@@ -29,7 +29,7 @@ fn negative_part(a: i64) -> i64
 
 // One more term of a row: s and entry j, taken over side j. A larger reading makes the product with a positive part larger and that with a negative
 // part smaller, so for the least the positive part takes the low edge and the negative part the high one, and for the greatest the other way round.
-fn more(coef: &[i64], start: usize, j: usize, lo: &[i64; 4], hi: &[i64; 4], s: Result<(i64, i64, usize), Refusal>) -> Result<(i64, i64, usize), Refusal>
+fn more(coef: &[i64], start: usize, j: usize, lo: &[i64; 4], hi: &[i64; 4], s: Span) -> Span
     requires place { (j < 4) × (start + j < length coef.now) }
     requires entry { (nat_abs (at coef.now (start + j)) ≤ entry_limit) × Bounded edge_limit (side_at lo.now hi.now j) }
     requires sums { (nat_abs s.lo ≤ row_limit) × (nat_abs s.hi ≤ row_limit) }
@@ -51,7 +51,7 @@ fn more(coef: &[i64], start: usize, j: usize, lo: &[i64; 4], hi: &[i64; 4], s: R
 
 // The least and the greatest of A·x over a box, A being the row that starts at `start`. Written out room by room: a loop of at most four rounds
 // costs more than its terms.
-pub fn extremes(n: usize, coef: &[i64], start: usize, lo: &[i64; 4], hi: &[i64; 4]) -> Result<(i64, i64, usize), Refusal>
+pub fn extremes(n: usize, coef: &[i64], start: usize, lo: &[i64; 4], hi: &[i64; 4]) -> Span
     requires { RowSound n coef.now start × Small edge_limit (sides_of n lo.now hi.now) }
     ensures { Extremes (entries_of n coef.now start) (sides_of n lo.now hi.now) result.lo result.hi }
 {
@@ -97,7 +97,7 @@ fn image_side(
     wh: i64,
     lo: &[i64; 4],
     hi: &[i64; 4],
-) -> Result<(i64, i64, usize), Refusal>
+) -> Span
     requires step { (1 ≤ q) × (q ≤ 10_000) × (nat_abs wl ≤ band_limit) × (nat_abs wh ≤ band_limit) }
     requires row { RowSound n coef.now start × Small edge_limit (sides_of n lo.now hi.now) }
     ensures { side result.lo result.hi ≡ image_side q (sides_of n lo.now hi.now) (row_at n coef.now start wl wh) }
@@ -145,7 +145,7 @@ pub fn image(
 
 // The least and the greatest of a·x over l..h by the sign of a, for the search (levels): two products where the parts need four, which its inner loop
 // would feel. That both say the same is `parts-least` (proofs/images/Laws).
-pub fn term(a: i64, l: i64, h: i64) -> Result<(i64, i64, usize), Refusal>
+pub fn term(a: i64, l: i64, h: i64) -> Span
     requires { (nat_abs a ≤ entry_limit) × (nat_abs l ≤ edge_limit) × (nat_abs h ≤ edge_limit) }
     ensures { (result.lo ≡ least_of a (side l h)) × (result.hi ≡ greatest_of a (side l h)) }
 {

@@ -8,13 +8,7 @@ ghost use Rattle.tables.specs.Lengths.{behind_at, held_at, ends_at, total_at};
 
 use crate::refusals;
 use files::numbers;
-
-// What k lengths come to, and the place behind them; or that one is broken.
-#[derive(Clone, Copy)]
-pub enum Sum {
-    Of(usize, usize),
-    Broken,
-}
+use meaning::Refusal;
 
 // How many lengths a split of so many children tells.
 pub fn told(form: usize, children: usize) -> usize

@@ -45,7 +45,7 @@ pub fn begin(n: usize, b: Bx, boxes: &mut [i64; ROOM])
 }
 
 // One more term of a row: s and entry j, taken over side j of the box at `place`.
-fn more(coef: &[i64], start: usize, j: usize, boxes: &[i64; ROOM], place: usize, s: Result<(i64, i64, usize), Refusal>) -> Result<(i64, i64, usize), Refusal>
+fn more(coef: &[i64], start: usize, j: usize, boxes: &[i64; ROOM], place: usize, s: Span) -> Span
     requires place { (j < 4) × (start + j < length coef.now) × (place + wide ≤ room) }
     requires entry { (nat_abs (at coef.now (start + j)) ≤ entry_limit) × Bounded edge_limit (side_in boxes.now place j) }
     requires sums { (nat_abs s.lo ≤ row_limit) × (nat_abs s.hi ≤ row_limit) }
@@ -65,7 +65,7 @@ fn more(coef: &[i64], start: usize, j: usize, boxes: &[i64; ROOM], place: usize,
 }
 
 // The least and the greatest of A·x over the box at `place`, A being the row that starts at `start`: as images has it of a box by itself.
-pub fn extremes(n: usize, coef: &[i64], start: usize, boxes: &[i64; ROOM], place: usize) -> Result<(i64, i64, usize), Refusal>
+pub fn extremes(n: usize, coef: &[i64], start: usize, boxes: &[i64; ROOM], place: usize) -> Span
     requires { RowSound n coef.now start × (place + wide ≤ room) × Small edge_limit (box_in n boxes.now place) }
     ensures { Extremes (entries_of n coef.now start) (box_in n boxes.now place) result.lo result.hi }
 {

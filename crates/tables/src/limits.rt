@@ -36,7 +36,7 @@ pub const MOST_LIMITS: usize = 4_096;
 pub const MOST_MARKS: usize = 512;
 
 // The limits of side l..h with the band wl..wh: q·(l - 1) + 1 - wl, and q·(h + 1) - 1 - wh.
-fn around(q: usize, wl: i64, wh: i64, l: i64, h: i64) -> Result<(i64, i64, usize), Refusal>
+fn around(q: usize, wl: i64, wh: i64, l: i64, h: i64) -> Span
     requires { (q ≤ 10_000) × Bounded band_limit (side wl wh) × Bounded edge_limit (side l h) }
     ensures { side result.lo result.hi ≡ limit_side q (side wl wh) (side l h) }
 {

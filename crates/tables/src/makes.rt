@@ -14,7 +14,7 @@ use crate::drafts::{BRIEF, FEW, LONG, MOST};
 use crate::frames::Frame;
 use crate::{drafts, frames, headers, refusals, turns};
 use files::{buffers, plants};
-use meaning::{BANDS, COEFFICIENTS};
+use meaning::{BANDS, COEFFICIENTS, Refusal};
 
 // The table of a frame, drafted where there is room for it, and written, with the lengths that form 2 tells: 9, 10. Finished, only the table's bytes are
 // changed; refused, the buffer is all zeros.

@@ -7,6 +7,7 @@ ghost use Rattle.tables.specs.Modes.{read_of};
 
 use crate::refusals;
 use files::numbers;
+use meaning::Refusal;
 
 // The place behind the modes, and beside it the modes: an enum cannot hold an array. Refused, the array says nothing.
 #[derive(Clone, Copy)]

@@ -6,13 +6,6 @@ ghost use Rattle.tables.specs.Parts.{part_at, part_behind};
 use files::numbers;
 use meaning::Refusal;
 
-// The place of a table's first byte, and how many bytes it has.
-#[derive(Clone, Copy)]
-pub enum Part {
-    At(usize, usize),
-    Refused(Refusal),
-}
-
 // The table whose length stands at `at`. The sum of place and length may be beyond a usize, so the length is held against what stands behind the place.
 pub fn part_at(s: &[u8], at: usize) -> Result<(usize, usize), Refusal>
     ensures { result ≡ part_at s.now at }

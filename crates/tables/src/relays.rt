@@ -9,6 +9,7 @@ ghost use Rattle.promises.specs.Tables.Checked.{Tiled};
 
 use crate::{checks, frames, headers, turns};
 use files::{buffers, plants};
+use meaning::Refusal;
 
 // Whether the tree of a table of the one form is one of the other: form 3 halves one side at a time, the others all at once.
 fn turns_into(own: usize, form: usize) -> bool

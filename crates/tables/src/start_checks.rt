@@ -13,7 +13,7 @@ use crate::chains::EDGES;
 use crate::frames::Frame;
 use crate::{chains, checks, frames, parts, refusals};
 use files::plants;
-use meaning::{BANDS, COEFFICIENTS};
+use meaning::{BANDS, COEFFICIENTS, Refusal};
 
 // The place behind the table whose length stands at `at`. What is told of the table is told at its place in the file.
 fn table_at(f: Frame, bands: &[i64], coef: &[i64], start: &[u8], at: usize) -> Result<usize, Refusal>

@@ -17,13 +17,6 @@ use crate::{boxes, chains, control, frames, parts, refusals};
 use files::plants;
 use meaning::{Refusal, StartState, State};
 
-// The index of the table that is called, or why none is.
-#[derive(Clone, Copy)]
-enum Choice {
-    Table(usize),
-    Refused(Refusal),
-}
-
 // No mode is left and no place kept.
 fn is_idle(st: State) -> bool
     ensures { result ≡ is_idle st }

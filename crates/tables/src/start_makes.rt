@@ -20,7 +20,7 @@ use crate::drafts::{BRIEF, FEW, LONG, MOST};
 use crate::frames::Frame;
 use crate::{chains, drafts, frames, headers, refusals, turns};
 use files::{buffers, numbers, plants};
-use meaning::{BANDS, COEFFICIENTS};
+use meaning::{BANDS, COEFFICIENTS, Refusal};
 
 // A frame's table behind its length: drafted where there is room for it, then copied, with the lengths that form 2 tells.
 fn put_part(

@@ -5,7 +5,7 @@ ghost use Rattle.meaning.specs.Control.{can_run, mode_at};
 
 use crate::{modes, refusals};
 use files::numbers;
-use meaning::State;
+use meaning::{Refusal, State};
 
 // Whether `left` modes, at most k, stand in the table from `place` on behind its header, each a mode: all of them are read, as those of a tile are.
 pub fn can_run(k: usize, modes: usize, table: &[u8], place: usize, left: usize) -> bool

@@ -18,7 +18,7 @@ use crate::limits::{GOAL, PAIR, SPAN};
 use crate::{boxes, division, images, levels};
 
 // The least and the greatest of A·x + b over the box at `place`, by the row that starts at `start`.
-fn sums(n: usize, coef: &[i64], start: usize, boxes: &[i64; ROOM], place: usize) -> Result<(i64, i64, usize), Refusal>
+fn sums(n: usize, coef: &[i64], start: usize, boxes: &[i64; ROOM], place: usize) -> Span
     requires { RowSound n coef.now start × (place + wide ≤ room) × Small edge_limit (box_in n boxes.now place) }
     ensures sides { side result.lo result.hi ≡ sum_side n coef.now start (box_in n boxes.now place) }
     ensures sizes { (nat_abs result.lo ≤ add_limit) × (nat_abs result.hi ≤ add_limit) }
@@ -152,10 +152,10 @@ fn shared(
     coef: &[i64],
     marks: &[i64],
     u: usize,
-    e: Result<(i64, i64, usize), Refusal>,
+    e: Span,
     boxes: &[i64; ROOM],
     place: usize,
-) -> Result<(i64, i64, usize), Refusal>
+) -> Span
     requires row { (mark_at u < length marks.now) × (1 ≤ n) × RowsSound n coef.now u × (place + wide ≤ room) × Small edge_limit (box_in n boxes.now place) }
     requires kept { (at marks.now (mark_at u) ≡ pos 0 → ⊥) → Extremes (last_entries n coef.now u) (box_in n boxes.now place) e.lo e.hi }
     ensures { Extremes (last_entries n coef.now u) (box_in n boxes.now place) result.lo result.hi }
@@ -176,7 +176,7 @@ fn lands(
     limits: &[i64],
     marks: &[i64],
     u: usize,
-    e: Result<(i64, i64, usize), Refusal>,
+    e: Span,
     boxes: &[i64; ROOM],
     place: usize,
 ) -> bool

@@ -14,6 +14,7 @@ use crate::boxes::Bx;
 use crate::frames::{Counts, Frame};
 use crate::{boxes, frames, lengths};
 use files::{buffers, numbers};
+use meaning::Refusal;
 
 // The place behind a tree, and how many bytes it has where lengths are told.
 #[derive(Clone, Copy)]

@@ -15,7 +15,7 @@ use crate::boxes::Bx;
 use crate::frames::Counts;
 use crate::{boxes, lengths, modes, refusals, tiles};
 use files::numbers;
-use meaning::Tried;
+use meaning::{Refusal, Tried};
 
 // The tile at `at`, whose k modes begin at `from`: all of them are read before an image is tested. A fault of the pattern is told at the tile.
 fn tile(

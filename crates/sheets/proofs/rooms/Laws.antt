@@ -1,6 +1,6 @@
 -- Rooms read against the form: exchanges by their loop, an emitter by its number, a room by its parts, rooms by their loop.
 -- Relies on promises' page SheetRooms, and on files' pages FieldLaws and Parts.
-use Rattle.std.specs.Prelude.{Some, None, Ok, Err}
+use Rattle.std.specs.Prelude.{Some, None, Ok, Err, Result, ℕ}
 use Prim.Native.Nat.{ℕ, ◌+◌, ◌-◌, ◌≤◌, ◌<◌}
 use mathlib.Core.Path.{◌≡◌, refl, ap, ◌∙◌}
 use mathlib.Core.Bool.{true}
@@ -113,7 +113,7 @@ module _ (s : List ℕ) (start : ℕ) where
         held = t.held;
       }
 
-      pub own-told : (r : EmitterRead) → OwnTold kind s mid r → EmitterTold s start r
+      pub own-told : (r : Result (Emitter × ℕ) Refusal) → OwnTold kind s mid r → EmitterTold s start r
       own-told (Ok (m, next)) t = own_held m next t
       own-told (Err r) t = own-fails r t
 

@@ -1,5 +1,5 @@
 -- Tables behind their lengths, as the code finds them: one, those that are passed, and what stands behind a found one in the definitions. Assumes nothing.
-use Rattle.std.specs.Prelude.{Some, None, Ok, Err}
+use Rattle.std.specs.Prelude.{Some, None, Ok, Err, Result, ℕ}
 use Prim.Native.Nat.{ℕ, zero, suc, ◌+◌, ◌-◌, ◌≤◌, ◌<◌}
 use mathlib.Core.Path.{◌≡◌, refl, sym, ap, ◌∙◌}
 use mathlib.Core.Bool.{Bool, true, false}
@@ -93,9 +93,9 @@ module _ (s : List ℕ) where
   pub by_part : {A : Type 0} (i at : ℕ) (refuse : Refusal → A) (rest : ℕ → ℕ → A) → on_part i s at refuse rest ≡ on_found (part_behind i s at) refuse rest
   unfolding S.on_part
   by_part zero at refuse rest = by_length s at refuse rest
-  by_part {A} (suc i) at refuse rest = behind-step i at refuse rest ∙ go (part_at s at) (λ at. by_part i at refuse rest) ∙ ap (λ (p : Part). on_found p refuse rest) (sym (behind-step i at Err Part.At))
+  by_part {A} (suc i) at refuse rest = behind-step i at refuse rest ∙ go (part_at s at) (λ at. by_part i at refuse rest) ∙ ap (λ (p : Result (ℕ × ℕ) Refusal). on_found p refuse rest) (sym (behind-step i at Err Part.At))
     where
-      go : (p : Part) → ((at : ℕ) → on_part i s at refuse rest ≡ on_found (part_behind i s at) refuse rest)
+      go : (p : Result (ℕ × ℕ) Refusal) → ((at : ℕ) → on_part i s at refuse rest ≡ on_found (part_behind i s at) refuse rest)
           → on_found p refuse (λ first size. on_part i s (first + size) refuse rest) ≡ on_found (on_found p Err (λ first size. part_behind i s (first + size))) refuse rest
       go (Err e) ih = refl
       go (Ok (first, size)) ih = ih (first + size)
@@ -105,7 +105,7 @@ module _ (s : List ℕ) where
   behind-within zero at first size q = part-within s at first size q
   behind-within (suc i) at first size q = go (part_at s at) (λ at. behind-within i at first size) (sym (behind-step i at Err Part.At) ∙ q)
     where
-      go : (p : Part) → ((at : ℕ) → part_behind i s at ≡ Ok (first, size) → first + size ≤ length s)
+      go : (p : Result (ℕ × ℕ) Refusal) → ((at : ℕ) → part_behind i s at ≡ Ok (first, size) → first + size ≤ length s)
           → on_found p Err (λ first size. part_behind i s (first + size)) ≡ Ok (first, size) → first + size ≤ length s
       go (Err e) ih q = never cc
       go (Ok (f, z)) ih q = ih (f + z) q

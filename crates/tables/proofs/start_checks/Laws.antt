@@ -1,5 +1,5 @@
 -- The check of a start file in the terms that the code has: one table behind its length, the tables one after another, the whole. Assumes nothing.
-use Rattle.std.specs.Prelude.{Some, None, Ok, Err}
+use Rattle.std.specs.Prelude.{Some, None, Ok, Err, Result, ℕ}
 use Prim.Native.Nat.{ℕ, zero, suc, ◌+◌, ◌-◌, ◌≤◌, ◌<◌, ◌^◌}
 use mathlib.Core.Path.{◌≡◌, refl, sym, ap, ◌∙◌}
 use mathlib.Core.Bool.{Bool, true, false}
@@ -36,7 +36,7 @@ module _ (r : ℕ → Rules) (s : List ℕ) (at : ℕ) where
       guard (eqb next size) (Err (unfit at)) λ _.
       Ok (first + size)
 
-  module _ (p : Part) (q : p ≡ part_at s at) where
+  module _ (p : Result (ℕ × ℕ) Refusal) (q : p ≡ part_at s at) where
     pub length-stopped : (e : Refusal) → p ≡ Err e → Err e ≡ table_at r s at
     length-stopped e h = sym (by_length s at Err (λ first size. walked first size (table_end (r (form_of (part s first size))) (part s first size))) ∙ rw (← q, h) refl)
 

@@ -1,6 +1,6 @@
 -- A call on a start file in the terms that the code has: the table that is called, by the boxes that hold the reading; the call on it; the whole. Assumes
 -- nothing.
-use Rattle.std.specs.Prelude.{Ok, Err}
+use Rattle.std.specs.Prelude.{Ok, Err, Result, ℕ}
 use Prim.Native.Nat.{ℕ, zero, suc, ◌+◌, ◌≤◌, ◌<◌}
 use mathlib.Core.Path.{◌≡◌, refl, sym, ap, ◌∙◌, fun_ext}
 use mathlib.Core.Bool.{Bool, true, false, ◌&&◌, ◌||◌, not, cond}
@@ -107,7 +107,7 @@ module _ (n : ℕ) (root : List Side) (vs : List ℤ) (x : List ℤ) where
     index-over h = sym (simp (lt-leb st.index (above vs) h))
 
     -- by the tests
-    abbrev by : Bool → Bool → Choice
+    abbrev by : Bool → Bool → Result ℕ Refusal
     by can none = guard can (Err bad_state) λ _. choose none (λ _. idle_choice n root vs st.index x) (λ _. Ok st.index)
 
     module _ (h : st.index ≤ above vs) where
@@ -152,15 +152,15 @@ module _ (n : ℕ) (root : List Side) (vs : List ℤ) (x : List ℤ) where
 
 -- ---- the call on it
 
-module _ (f : Frame) (s : List ℕ) (at i : ℕ) (st : State) (x : List ℤ) (p : Part) (q : p ≡ part_behind i s at) where
+module _ (f : Frame) (s : List ℕ) (at i : ℕ) (st : State) (x : List ℤ) (p : Result (ℕ × ℕ) Refusal) (q : p ≡ part_behind i s at) where
   abbrev behind : ℕ → ℕ → StartAnswer
   behind first size = let t = part s first size in answer_in i first (call (rules_by f [] [] (form_of t)) t st x)
 
   pub behind-refused : (e : Refusal) → p ≡ Err e → Err e ≡ call_behind f s at i st x
-  behind-refused e h = sym (by_part s i at Err behind ∙ ap (λ (o : Part). on_found o Err behind) (sym q ∙ h))
+  behind-refused e h = sym (by_part s i at Err behind ∙ ap (λ (o : Result (ℕ × ℕ) Refusal). on_found o Err behind) (sym q ∙ h))
 
   pub behind-answered : (first size : ℕ) → p ≡ Ok (first, size) → (a : Answer) → a ≡ call (rules_by f [] [] (form_of (part s first size))) (part s first size) st x → answer_in i first a ≡ call_behind f s at i st x
-  behind-answered first size h a t = ap (answer_in i first) t ∙ sym (by_part s i at Err behind ∙ ap (λ (o : Part). on_found o Err behind) (sym q ∙ h))
+  behind-answered first size h a t = ap (answer_in i first) t ∙ sym (by_part s i at Err behind ∙ ap (λ (o : Result (ℕ × ℕ) Refusal). on_found o Err behind) (sym q ∙ h))
 
 -- ---- the whole, for a plant
 
@@ -185,7 +185,7 @@ module _ (p : Plant) (vs : List ℤ) (s : List ℕ) (at : ℕ) (st : StartState)
       go true true e true true = ap (λ (z : State). call_in p vs s at low z x) (is-idle st.state e)
 
 -- the same boxes, the same choice
-abbrev choice_by : ℕ → List Bool → ℕ → StartState → Choice
+abbrev choice_by : ℕ → List Bool → ℕ → StartState → Result ℕ Refusal
 choice_by m fit low st =
     guard (leb st.index m) (Err bad_state) λ _.
     choose (is_idle st.state) (λ _. guard (eqb st.index 0) (Err bad_state) λ _. guard (all fit) (Err (outside (first_false fit))) λ _. Ok low) (λ _. Ok st.index)
@@ -201,7 +201,7 @@ choice-same n root vs ws st x e box =
     ∙ ap (λ (k : ℕ). choice_by m (fits_at n root ws x m) k st) low
     ∙ ap (λ (k : ℕ). choice_by k (fits_at n root ws x k) (first_false (tab (misses_at n root ws x) (k + 1) 0)) st) e
 
-on_choice-same : (c : Choice) (f g : ℕ → StartAnswer) → ((i : ℕ) → f i ≡ g i) → on_choice c Err f ≡ on_choice c Err g
+on_choice-same : (c : Result ℕ Refusal) (f g : ℕ → StartAnswer) → ((i : ℕ) → f i ≡ g i) → on_choice c Err f ≡ on_choice c Err g
 on_choice-same (Err e) f g h = refl
 on_choice-same (Ok i) f g h = h i
 
@@ -211,7 +211,7 @@ module _ (p : Plant) (rooms : p.n ≤ 4) (edges vs : List ℤ) (q : Edged edges 
       let box : (i : ℕ) → box_at p.n (root_of p) (values_in m edges) i ≡ box_at p.n (root_of p) vs i =
       λ i. sym (box-same p.n rooms edges (values_in m edges) (in-edged m edges) (own_frame p).root i) ∙ box-same p.n rooms edges vs q (own_frame p).root i in
       ap (λ (g : Frame). start_answer g edges s m at st x) e
-      ∙ ap (λ (o : Choice). on_choice o Err (λ i. call_behind (frame_at (own_frame p) edges i) s at i st.state x)) (choice-same p.n (root_of p) (values_in m edges) vs st x c box)
+      ∙ ap (λ (o : Result ℕ Refusal). on_choice o Err (λ i. call_behind (frame_at (own_frame p) edges i) s at i st.state x)) (choice-same p.n (root_of p) (values_in m edges) vs st x c box)
       ∙ on_choice-same (choice_of p.n (root_of p) vs st x) (λ i. call_behind (frame_at (own_frame p) edges i) s at i st.state x) (λ i. call_in p vs s at i st.state x)
       (λ i. by-rules i (frame_at (own_frame p) edges i) ∙ answers_at p rooms edges vs q (λ root goal. on_part i s at Err λ first size. let t = part s first size in answer_in i first (call (table_rules (form_of t) p root goal) t st.state x)) i)
       ∙ called-as p vs s at st x

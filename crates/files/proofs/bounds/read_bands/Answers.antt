@@ -40,8 +40,8 @@ loop-i-smaller c = omega arith
 
 pub loop-i-preserved : goal.loop-i-preserved
 loop-i-preserved c =
-    let f : SFits w64 c.in-Ok.a = record { sfits = c.in-Ok.known_told-in-Ok-1-own.given.0.1 } in
-    let g : SFits w64 c.in-Ok.b = record { sfits = c.in-Ok.known_told-in-Ok-1-own.given.1.0.1 } in
+    let f : SFits w64 c.in-Ok.a = record { sfits = omega arith } in
+    let g : SFits w64 c.in-Ok.b = record { sfits = omega arith } in
     let t = subst (SpanTold (negsuc 999999999) (pos 1000000000) c.args.s.now c.loop-i.p) c.in-Ok.is c.read_span.ensures in
     simp to_z-of_z (bands-more c.loop-i.invariant c.in-Ok.a c.in-Ok.b c.in-Ok.next (omega arith) (omega arith) t)
 

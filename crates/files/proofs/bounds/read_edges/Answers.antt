@@ -61,10 +61,10 @@ pub loop-i-preserved : goal.loop-i-preserved
 loop-i-preserved c =
     let t = subst (SpanTold (negsuc 999999) (pos 1000000) c.args.s.now c.loop-i.p) c.in-Ok.is c.read_span.ensures in
     let u = subst (SpanTold (negsuc 999999) (pos 1000000) c.args.s.now c.in-Ok.mid) c.in-Ok-read_span.is c.read_span-in-Ok.ensures in
-    let f : SFits w64 c.in-Ok.a = record { sfits = c.in-Ok.known_told-in-Ok-1-own.given.0.1 } in
-    let g : SFits w64 c.in-Ok.b = record { sfits = c.in-Ok.known_told-in-Ok-1-own.given.1.0.1 } in
-    let h : SFits w64 c.in-Ok-read_span.c = record { sfits = c.in-Ok-read_span.known_told-in-Ok-read_span-2-1-own.given.0.1 } in
-    let j : SFits w64 c.in-Ok-read_span.d = record { sfits = c.in-Ok-read_span.known_told-in-Ok-read_span-2-1-own.given.1.0.1 } in
+    let f : SFits w64 c.in-Ok.a = record { sfits = omega arith } in
+    let g : SFits w64 c.in-Ok.b = record { sfits = omega arith } in
+    let h : SFits w64 c.in-Ok-read_span.c = record { sfits = omega arith } in
+    let j : SFits w64 c.in-Ok-read_span.d = record { sfits = omega arith } in
     simp to_z-of_z (edges_more c.loop-i.invariant c.in-Ok.a c.in-Ok.b c.in-Ok-read_span.c c.in-Ok-read_span.d c.in-Ok.mid c.in-Ok-read_span.next (omega arith) (omega arith) t u)
 
 pub returns : goal.returns

@@ -43,11 +43,11 @@ returns-in-Err-told c =
     (thin-told file c.args.b c.args.at (told (Ok c.in-Ok.next) c.in-Ok.is) c.requires.fact_1 c.if-next-s.false _ c.in-Err-told.is)
     c.refused-in-Err-told.ensures
 
-pub returns-in-Ok : goal.returns-in-Ok
-returns-in-Ok c =
+pub returns-in-Ok-told : goal.returns-in-Ok-told
+returns-in-Ok-told c =
     let file : List ℕ = c.args.s.now in
     let bands : List ℤ = c.read_modes-read.new.bands in
     let coef : List ℤ = c.read_modes-read.new.coef in
     let told : (w : Walk) → c.read_modes-read.result.answer ≡ w → ModesAs file c.args.b c.args.at c.args.bands.now c.args.coef.now bands coef c.read_modes-read.result.related w = λ w. λ e. subst (ModesAs file c.args.b c.args.at c.args.bands.now c.args.coef.now bands coef c.read_modes-read.result.related) e c.read_modes-read.ensures in
     rw c.outline.ensures
-    (all_told file c.args.b c.args.at (told (Ok c.in-Ok.next) c.in-Ok.is) c.requires.fact_1 c.if-next-s.false c.in-Ok.is)
+    (all_told file c.args.b c.args.at (told (Ok c.in-Ok.next) c.in-Ok.is) c.requires.fact_1 c.if-next-s.false c.in-Ok-told.is)

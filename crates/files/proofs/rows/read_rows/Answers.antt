@@ -49,7 +49,7 @@ loop-c-smaller c = omega arith
 
 pub loop-c-preserved : goal.loop-c-preserved
 loop-c-preserved c =
-    let f : SFits w64 c.in-Some.v = record { sfits = c.in-Some.known_told-1-own.given.0.1 } in
+    let f : SFits w64 c.in-Some.v = record { sfits = omega arith } in
     rw (c.next_column-column.ensures, c.store.ensures, to_z-of_z f)
     (entries-more c.loop-c.invariant c.in-Some.v c.in-Some.next (omega arith) (sym c.entry.ensures ∙ c.in-Some.is))
 

@@ -3,6 +3,7 @@ use mathlib.Core.Path.{sym, ◌∙◌}
 use mir.Syntax.{w64}
 use mir.Val.{SFits}
 use mir.Facts.{to_z-of_z}
+use native.Mathlib.Omega.{arith}
 use Rattle.files.proofs.spans.Laws.{lo-fails, hi-fails, spanned}
 use Rattle.files.proofs.spans.read_span.Goals as goal
 
@@ -15,7 +16,7 @@ returns-in_default c =
 
 pub returns-in_default-ranged : goal.returns-in_default-ranged
 returns-in_default-ranged c =
-    let l : SFits w64 c.in-Some.lo = record { sfits = c.in-Some.known_told-1-own.given.0.1 } in
+    let l : SFits w64 c.in-Some.lo = record { sfits = omega arith } in
     let f = c.ranges.least in
     let g = c.ranges.most in
     let e = simp to_z-of_z at (sym c.ranged.ensures ∙ c.in-Some.is) in
@@ -24,10 +25,10 @@ returns-in_default-ranged c =
 
 pub returns : goal.returns
 returns c =
-    let l : SFits w64 c.in-Some.lo = record { sfits = c.in-Some.known_told-1-own.given.0.1 } in
+    let l : SFits w64 c.in-Some.lo = record { sfits = omega arith } in
     let f = c.ranges.least in
     let g = c.ranges.most in
     let e = simp to_z-of_z at (sym c.ranged.ensures ∙ c.in-Some.is) in
-    let m : SFits w64 c.in-Some-ranged.hi = record { sfits = c.in-Some-ranged.known_told-in-Some-ranged-2-1-own.given.0.1 } in
+    let m : SFits w64 c.in-Some-ranged.hi = record { sfits = omega arith } in
     let h = simp to_z-of_z at (sym c.ranged-2.ensures ∙ c.in-Some-ranged.is) in
     simp to_z-of_z (spanned c.args.least c.args.most c.args.s.now c.args.at c.in-Some.lo c.in-Some.mid e c.in-Some-ranged.hi c.in-Some-ranged.next h)

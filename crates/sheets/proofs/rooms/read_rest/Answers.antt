@@ -20,9 +20,9 @@ returns-in-Err-read_emitter c =
     subst (RestAs z.s.now z.at z.n z.loss c.refused-in-Err-read_emitter.result.room) (sym c.refused-in-Err-read_emitter.ensures)
     (emitter-cut z.s.now z.at z.n x.result.exchange c.in-Ok.mid t c.in-Err-read_emitter.e (subst (EmitterTold z.s.now c.in-Ok.mid) c.in-Err-read_emitter.is c.read_emitter.ensures))
 
-pub returns-in-Ok : goal.returns-in-Ok
-returns-in-Ok c =
+pub returns-in-Ok-read_emitter : goal.returns-in-Ok-read_emitter
+returns-in-Ok-read_emitter c =
     let z = c.args in
     let x = c.read_exchanges-exchanges in
     let t = subst (ExchangesAs z.s.now z.at (z.n - 1) x.result.exchange) c.in-Ok.is x.ensures in
-    rest_read z.s.now z.at z.n x.result.exchange c.in-Ok.mid t z.loss c.in-Ok.emitter c.in-Ok.next (subst (EmitterTold z.s.now c.in-Ok.mid) c.in-Ok.is c.read_emitter.ensures)
+    rest_read z.s.now z.at z.n x.result.exchange c.in-Ok.mid t z.loss c.in-Ok-read_emitter.emitter c.in-Ok-read_emitter.next (subst (EmitterTold z.s.now c.in-Ok.mid) c.in-Ok-read_emitter.is c.read_emitter.ensures)

@@ -15,9 +15,9 @@ returns-then-next-s c =
     let f = c.read_two in
     let u = subst (TwoTold above s z.at) c.in-Ok.is f.ensures in
     let m = c.read_rooms-read in
-    let v = subst (RoomsAs s c.in-Ok.mid z.b.n m.result.rooms) c.in-Ok.is m.ensures in record {
+    let v = subst (RoomsAs s c.in-Ok.mid z.b.n m.result.rooms) c.in-Ok-past.is m.ensures in record {
       value = c.refused-then-next-s.ensures ∙ ap (λ (k : Refusal). sheet_read_of (bad k)) c.unfit.ensures
-          ∙ sym (left_over s z.b z.at c.in-Ok.time c.in-Ok.outside c.in-Ok.mid u m.result.rooms c.in-Ok.next v c.if-next-s.true);
+          ∙ sym (left_over s z.b z.at c.in-Ok.time c.in-Ok.outside c.in-Ok.mid u m.result.rooms c.in-Ok-past.next v c.if-next-s.true);
       sized = refused-sized c.refused-then-next-s.result _ c.refused-then-next-s.ensures;
     }
 
@@ -48,15 +48,15 @@ returns-in-Err-related c =
     let f = c.read_two in
     let u = subst (TwoTold above s z.at) c.in-Ok.is f.ensures in
     let m = c.read_rooms-read in
-    let v = subst (RoomsAs s c.in-Ok.mid z.b.n m.result.rooms) c.in-Ok.is m.ensures in
-    record { value = c.refused-in-Err-related.ensures ∙ sym (by-verdict s z.b z.at c.in-Ok.time c.in-Ok.outside c.in-Ok.mid u m.result.rooms c.in-Ok.next v c.requires.fact_1 c.if-next-s.false z.related _ c.requires.fact_2 c.in-Err-related.is); sized = refused-sized c.refused-in-Err-related.result _ c.refused-in-Err-related.ensures }
+    let v = subst (RoomsAs s c.in-Ok.mid z.b.n m.result.rooms) c.in-Ok-past.is m.ensures in
+    record { value = c.refused-in-Err-related.ensures ∙ sym (by-verdict s z.b z.at c.in-Ok.time c.in-Ok.outside c.in-Ok.mid u m.result.rooms c.in-Ok-past.next v c.requires.fact_1 c.if-next-s.false z.related _ c.requires.fact_2 c.in-Err-related.is); sized = refused-sized c.refused-in-Err-related.result _ c.refused-in-Err-related.ensures }
 
-pub returns-in-Ok : goal.returns-in-Ok
-returns-in-Ok c =
+pub returns-in-Ok-related : goal.returns-in-Ok-related
+returns-in-Ok-related c =
     let z = c.args in
     let s = c.args.s.now in
     let f = c.read_two in
     let u = subst (TwoTold above s z.at) c.in-Ok.is f.ensures in
     let m = c.read_rooms-read in
-    let v = subst (RoomsAs s c.in-Ok.mid z.b.n m.result.rooms) c.in-Ok.is m.ensures in
-    record { value = c.accepted.ensures ∙ sym (by-verdict s z.b z.at c.in-Ok.time c.in-Ok.outside c.in-Ok.mid u m.result.rooms c.in-Ok.next v c.requires.fact_1 c.if-next-s.false z.related _ c.requires.fact_2 c.in-Ok.is); sized = taken-sized c.accepted.result s z.b z.at c.in-Ok.time c.in-Ok.outside m.result.rooms c.accepted.ensures c.requires.fact_1 }
+    let v = subst (RoomsAs s c.in-Ok.mid z.b.n m.result.rooms) c.in-Ok-past.is m.ensures in
+    record { value = c.accepted.ensures ∙ sym (by-verdict s z.b z.at c.in-Ok.time c.in-Ok.outside c.in-Ok.mid u m.result.rooms c.in-Ok-past.next v c.requires.fact_1 c.if-next-s.false z.related _ c.requires.fact_2 c.in-Ok-related.is); sized = taken-sized c.accepted.result s z.b z.at c.in-Ok.time c.in-Ok.outside m.result.rooms c.accepted.ensures c.requires.fact_1 }

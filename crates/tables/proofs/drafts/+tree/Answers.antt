@@ -1,6 +1,6 @@
 -- `drafts::tree`, which calls itself with less depth: each return cites the law of the node that it stops at; in the loop over the children,
 -- whoever writes those that are left has written them all. Assumes nothing.
-use Rattle.std.specs.Prelude.{Some, None}
+use Rattle.std.specs.Prelude.{Some, None, Option, ℕ}
 use Prim.Native.Nat.{ℕ, ◌+◌, ◌-◌, ◌<◌}
 use mathlib.Core.Path.{◌≡◌, sym, ◌∙◌}
 use mathlib.Core.List.{List, []}
@@ -127,7 +127,7 @@ returns-in_default t c =
     let pattern : pattern_by c.first-size.result modes ≡ first_pattern rules box = c.first-size.ensures.pattern ∙ shortest-is frame bands coef c.args.limits.now c.args.marks.now c.requires.0 c.args.f.k 0 box in
     let whole : Option (List ℕ) = trees_bytes rules (c.args.d - 1) (children_by c.args.f.form box) in
     let in-box : (j : ℕ) → j < c.count-count.result → j < length (children_by c.args.f.form box) = λ j h. let e = c.count-count.ensures in rw (← e) h in
-    let goes : (a : Grown) (out : List ℕ) → Wrote whole c.put_number-place.new.buf c.put_number-place.result a out → Wrote (tree_bytes rules c.args.d box) c.args.buf.now c.args.at a out = λ a. λ out. λ w. node-split frame bands coef c.args.d box c.first-size.result modes pattern c.args.buf.now c.args.at c.if-size-ne0.false c.if-d-eq0.false (λ z. c.if-count-eq0.false (c.count-count.ensures ∙ z)) c.put_number-place.result c.put_number-place.new.buf c.put_number-place.ensures a out w in
+    let goes : (a : Option ℕ) (out : List ℕ) → Wrote whole c.put_number-place.new.buf c.put_number-place.result a out → Wrote (tree_bytes rules c.args.d box) c.args.buf.now c.args.at a out = λ a. λ out. λ w. node-split frame bands coef c.args.d box c.first-size.result modes pattern c.args.buf.now c.args.at c.if-size-ne0.false c.if-d-eq0.false (λ z. c.if-count-eq0.false (c.count-count.ensures ∙ z)) c.put_number-place.result c.put_number-place.new.buf c.put_number-place.ensures a out w in
     let done : ℕ = c.loop-c.c in
     let left : List ℕ = c.tree-grown.new.buf in
     let in_count : done < length (children_by c.args.f.form box) = in-box _ c.loop-c-test.true in
@@ -173,7 +173,7 @@ returns t c =
     let modes : List ℕ = c.first-size.new.us in
     let pattern : pattern_by c.first-size.result modes ≡ first_pattern rules box = c.first-size.ensures.pattern ∙ shortest-is frame bands coef c.args.limits.now c.args.marks.now c.requires.0 c.args.f.k 0 box in
     let whole : Option (List ℕ) = trees_bytes rules (c.args.d - 1) (children_by c.args.f.form box) in
-    let goes-on : (a : Grown) (out : List ℕ) → Wrote whole c.put_number-place.new.buf c.put_number-place.result a out → Wrote (tree_bytes rules c.args.d box) c.args.buf.now c.args.at a out = λ a. λ out. λ w. node-split frame bands coef c.args.d box c.first-size.result modes pattern c.args.buf.now c.args.at c.if-size-ne0.false c.if-d-eq0.false (λ z. c.if-count-eq0.false (c.count-count.ensures ∙ z)) c.put_number-place.result c.put_number-place.new.buf c.put_number-place.ensures a out w in
+    let goes-on : (a : Option ℕ) (out : List ℕ) → Wrote whole c.put_number-place.new.buf c.put_number-place.result a out → Wrote (tree_bytes rules c.args.d box) c.args.buf.now c.args.at a out = λ a. λ out. λ w. node-split frame bands coef c.args.d box c.first-size.result modes pattern c.args.buf.now c.args.at c.if-size-ne0.false c.if-d-eq0.false (λ z. c.if-count-eq0.false (c.count-count.ensures ∙ z)) c.put_number-place.result c.put_number-place.new.buf c.put_number-place.ensures a out w in
     let l = c.loop-c in
     let n = c.count-count.ensures in
     let h = c.loop-c-test.false in

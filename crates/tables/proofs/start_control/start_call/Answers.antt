@@ -1,8 +1,9 @@
 -- `start_control::start_call`: the table that is called, then the call on it. Assumes nothing.
-use Rattle.std.specs.Prelude.{Ok, Err}
+use Rattle.std.specs.Prelude.{Ok, Err, Result, ℕ}
 use Prim.Native.Nat.{ℕ, ◌≤◌}
 use mathlib.Core.Path.{◌≡◌, sym, ap, ◌∙◌, subst}
 use native.Mathlib.Omega.{arith}
+use Rattle.meaning.specs.declared.Refusal.{Refusal}
 use Rattle.tables.specs.declared.frames.Frame.{Frame}
 use Rattle.tables.specs.Boxes.{box_of}
 use Rattle.tables.specs.Chains.{values_in, frame_at}
@@ -26,12 +27,12 @@ call_behind-requires c =
 
 pub returns-in-Err : goal.returns-in-Err
 returns-in-Err c =
-    let told : (o : Choice) → c.choose_table.result ≡ o → on_choice o Err (λ i. call_behind (frame_at c.args.f c.args.edges.now i) c.args.start.now c.args.at i c.args.st.state c.args.x) ≡ start_answer c.args.f c.args.edges.now c.args.start.now c.args.m c.args.at c.args.st c.args.x = λ o. λ g. let a = c.args in ap (λ (o : Choice). on_choice o Err (λ i. call_behind (frame_at a.f a.edges.now i) a.start.now a.at i a.st.state a.x)) (sym g ∙ c.choose_table.ensures) in
+    let told : (o : Result ℕ Refusal) → c.choose_table.result ≡ o → on_choice o Err (λ i. call_behind (frame_at c.args.f c.args.edges.now i) c.args.start.now c.args.at i c.args.st.state c.args.x) ≡ start_answer c.args.f c.args.edges.now c.args.start.now c.args.m c.args.at c.args.st c.args.x = λ o. λ g. let a = c.args in ap (λ (o : Result ℕ Refusal). on_choice o Err (λ i. call_behind (frame_at a.f a.edges.now i) a.start.now a.at i a.st.state a.x)) (sym g ∙ c.choose_table.ensures) in
     told _ c.in-Err.is
 
 pub returns-in-Ok : goal.returns-in-Ok
 returns-in-Ok c =
-    let told : (o : Choice) → c.choose_table.result ≡ o → on_choice o Err (λ i. call_behind (frame_at c.args.f c.args.edges.now i) c.args.start.now c.args.at i c.args.st.state c.args.x) ≡ start_answer c.args.f c.args.edges.now c.args.start.now c.args.m c.args.at c.args.st c.args.x = λ o. λ g. let a = c.args in ap (λ (o : Choice). on_choice o Err (λ i. call_behind (frame_at a.f a.edges.now i) a.start.now a.at i a.st.state a.x)) (sym g ∙ c.choose_table.ensures) in
+    let told : (o : Result ℕ Refusal) → c.choose_table.result ≡ o → on_choice o Err (λ i. call_behind (frame_at c.args.f c.args.edges.now i) c.args.start.now c.args.at i c.args.st.state c.args.x) ≡ start_answer c.args.f c.args.edges.now c.args.start.now c.args.m c.args.at c.args.st c.args.x = λ o. λ g. let a = c.args in ap (λ (o : Result ℕ Refusal). on_choice o Err (λ i. call_behind (frame_at a.f a.edges.now i) a.start.now a.at i a.st.state a.x)) (sym g ∙ c.choose_table.ensures) in
     let a = c.args in
     c.call_behind.ensures
     ∙ ap (λ (f : Frame). call_behind f a.start.now a.at c.in-Ok.i a.st.state a.x) c.frame_at.ensures
