@@ -1,6 +1,6 @@
 -- The chain of a start file as the code holds it: its edges in one array as they stand in the file, the boxes taken out of it, and the frame of each
 -- box's table. What the reader answers is meaning's `on_chain`. Definitions alone.
-use Rattle.std.specs.Prelude.{ℕ, zero, suc, ◌+◌, ◌*◌, ◌≤◌, ◌≡◌, Bool, true, false, ◌&&◌, List, [], ◌∷◌, ℤ, pos, drop, replicate, Ok, Err}
+use Rattle.std.specs.Prelude.{ℕ, zero, suc, ◌+◌, ◌*◌, ◌≤◌, ◌≡◌, Bool, true, false, ◌&&◌, List, [], ◌∷◌, ℤ, pos, drop, replicate, Ok, Err, Result}
 use Rattle.laws.specs.Lists.{at, tab, padded}
 use Rattle.laws.specs.Tabs.{Filled}
 use Rattle.meaning.specs.Answers.{Walk}
@@ -12,7 +12,6 @@ use Rattle.meaning.specs.Starts.{chain_form, above, on_chain}
 use Rattle.files.specs.Parts.{behind, Holds, Fails}
 use Rattle.tables.specs.declared.boxes.Bx.{Bx}
 use Rattle.tables.specs.declared.chains.ChainRead.{ChainRead}
-use Rattle.tables.specs.declared.chains.Head.{Head}
 use Rattle.tables.specs.declared.frames.Frame.{Frame}
 use Rattle.tables.specs.Boxes.{box_of}
 use Rattle.tables.specs.Frames.{box_from, FrameSound}
@@ -95,9 +94,9 @@ pub record Headed (s : List ℕ) (m next : ℕ) : Type 0 where
   pub few : m ≤ most_above
   pub goes : (n : ℕ) → values_at (chain_form n) s 0 ≡ behind (pos 1 ∷ pos m ∷ []) (values_at (times (m * n) (span edge_limit) end) s next)
 
-abbrev pub HeadTold : List ℕ → Head → Type 0
-HeadTold s (Head.Boxes m next) = Headed s m next
-HeadTold s (Head.Refused e) = (n : ℕ) → values_at (chain_form n) s 0 ≡ refused e
+abbrev pub HeadTold : List ℕ → Result (ℕ × ℕ) Refusal → Type 0
+HeadTold s (Ok (m, next)) = Headed s m next
+HeadTold s (Err e) = (n : ℕ) → values_at (chain_form n) s 0 ≡ refused e
 
 pub record EdgesRead (s : List ℕ) (from count : ℕ) (edges : List ℤ) (next : ℕ) : Type 0 where
   pub part : Holds (times count (span edge_limit)) s from (tab (at edges) (2 * count) 0) next

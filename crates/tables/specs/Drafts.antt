@@ -1,6 +1,7 @@
 -- What is drafted in an array: the bytes of a tree, where there is one, its splits telling no lengths whatever the form; and how many they are at the most. Definitions
 -- alone.
-use Rattle.std.specs.Prelude.{ℕ, ◌+◌, ◌≡◌, false, List, length, Some, None, Option}
+use Rattle.std.specs.Prelude.{ℕ, ◌+◌, ◌≡◌, false, List, length, Some, None}
+use Rattle.std.specs.Prelude.{Option as Maybe}
 use Rattle.std.proofs.Math.Option.{Option, none, some}
 use Rattle.laws.specs.Writing.{Put}
 use Rattle.meaning.specs.Trees.{Tree, layout, layouts}
@@ -11,9 +12,13 @@ use Rattle.promises.specs.Tables.TreeLengths.{most, children_most, tile_bytes}
 use Rattle.tables.specs.declared.frames.Frame.{Frame}
 use Rattle.tables.specs.Turns.{table_by}
 
+-- a tree that was written: the place behind it, one past the buffer's end where there was not room for all; or none, where there is no such tree
+abbrev pub Grown : Type 0
+Grown = Maybe ℕ
+
 -- The bytes that are asked for, or none: what was answered, and the buffer as it is left. Where there are none the bytes in it are left open,
 -- for the maker zeros them.
-abbrev pub Wrote : Option (List ℕ) → List ℕ → ℕ → Option ℕ → List ℕ → Type 0
+abbrev pub Wrote : Option (List ℕ) → List ℕ → ℕ → Grown → List ℕ → Type 0
 Wrote (some bytes) buf at (Some next) out = Put buf at bytes next out
 Wrote (some bytes) buf at None out = ⊥
 Wrote none buf at (Some next) out = ⊥

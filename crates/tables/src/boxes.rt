@@ -10,8 +10,6 @@ ghost use Rattle.meaning.specs.Tables.{reading_of, children_by};
 ghost use Rattle.tables.specs.Boxes.{box_of, Small, piece_of, rest_of, part_of, bit_of, longest_at};
 ghost use Rattle.tables.specs.Finds.{holds_in, HalfOf};
 
-use meaning::Refusal;
-
 #[derive(Clone, Copy)]
 pub struct Bx {
     pub lo: [i64; 4],
@@ -103,7 +101,7 @@ fn all_halved(n: usize, b: Bx, x: usize) -> Bx
 }
 
 // The half of the side l..h that holds v, where the sides before it make so many children: the upper half's children are numbered behind those of the lower.
-fn part_of(l: i64, h: i64, v: i64, count: usize) -> Result<(usize, usize), Refusal>
+fn part_of(l: i64, h: i64, v: i64, count: usize) -> Part
     requires { (nat_abs l ≤ edge_limit) × (nat_abs h ≤ edge_limit) × (count ≤ 8) }
     ensures { (side result.lo result.hi ≡ part_of (side l h) v) × (result.add ≡ count * bit_of (side l h) v) × (result.count ≡ count * length (halves (side l h))) }
 {

@@ -28,13 +28,6 @@ pub struct ChainRead {
     pub edges: [i64; EDGES],
 }
 
-// m and the place behind it.
-#[derive(Clone, Copy)]
-enum Head {
-    Boxes(usize, usize),
-    Refused(Refusal),
-}
-
 fn refused(e: Refusal) -> ChainRead
     ensures { result ≡ no_chain e }
 {
@@ -46,23 +39,23 @@ fn refused(e: Refusal) -> ChainRead
     }
 }
 
-// Form 1, then m.
-fn read_head(s: &[u8]) -> Head
+// Form 1, then m: m and the place behind it.
+fn read_head(s: &[u8]) -> Result<(usize, usize), Refusal>
     ensures { HeadTold s.now result }
 {
     let Some((form, at)) = numbers::number(s, 0) else {
-        return Head::Refused(files::refusals::broken(0));
+        return Err(files::refusals::broken(0));
     };
     if form != 1 {
-        return Head::Refused(files::refusals::wrong_form());
+        return Err(files::refusals::wrong_form());
     }
     let Some((m, next)) = numbers::number(s, at) else {
-        return Head::Refused(files::refusals::broken(at));
+        return Err(files::refusals::broken(at));
     };
     if ABOVE < m {
-        return Head::Refused(files::refusals::unfit(at));
+        return Err(files::refusals::unfit(at));
     }
-    Head::Boxes(m, next)
+    Ok((m, next))
 }
 
 // `count` sides, lo and hi of each, into an array of zeros that is lent; the place behind them.
@@ -195,8 +188,8 @@ pub fn read_chain(f: Frame, whole: bool, s: &[u8]) -> ChainRead
     ensures { result ≡ chain_read whole f s.now }
 {
     match read_head(s) {
-        Head::Refused(e) => refused(e),
-        Head::Boxes(m, at) => {
+        Err(e) => refused(e),
+        Ok((m, at)) => {
             let mut edges = [0i64; EDGES];
             let past = read_edges(s, at, m * f.n, &mut edges);
             match past {

@@ -13,6 +13,7 @@ ghost use Rattle.tables.specs.Levels.{wide, room, side_in, box_in, stored};
 
 use crate::boxes::Bx;
 use crate::images;
+use crate::images::Span;
 
 // The modes of the longest pattern; the numbers of a box, and of a box for each of those modes.
 pub const LONGEST: usize = 6;

@@ -15,6 +15,7 @@ ghost use Rattle.tables.specs.Limits.{limit_side, limits_size, marks_size, limit
 use crate::boxes::Bx;
 use crate::frames::Frame;
 use crate::images;
+use crate::images::Span;
 
 // The limits of a mode: those of S, then those of the goal; a span of sixteen is found without a product. Its mark and its offset stand side by side in a
 // slice of their own: the search reads these two and one side for most modes.

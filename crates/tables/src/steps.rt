@@ -13,6 +13,7 @@ ghost use Rattle.tables.specs.Levels.{wide, room, side_in, box_in, Beside};
 ghost use Rattle.tables.specs.Limits.{add_limit, limits_size, safe_at, goal_at, mark_at, offset_at, sum_side, sums_at, covered, stays_lent, lands_lent, image_lent, landing, divided_in, Within, RowsSound, BandsSound, last_entries, last_offset, MarksLent};
 ghost use Rattle.tables.specs.Search.{one_of};
 
+use crate::images::Span;
 use crate::levels::{ROOM, WIDE};
 use crate::limits::{GOAL, PAIR, SPAN};
 use crate::{boxes, division, images, levels};

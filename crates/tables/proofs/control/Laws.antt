@@ -45,21 +45,21 @@ module _ (can : Bool) (c : can ≡ true) (n : ℕ) (lo hi x : List ℤ) (i : ℕ
 pub admitted : (can : Bool) (fit : List Bool) → admission can fit ≡ Ok tt → all fit ≡ true
 admitted can fit e = go can (all fit) (first_false fit) e
   where
-    go : (can held : Bool) (i : ℕ) → guard can (Err bad_state) (λ _. guard held (Err (outside i)) λ _. Ok tt) ≡ Ok tt → held ≡ true
+    go : (can held : Bool) (i : ℕ) → guard {A = Verdict} can (Err bad_state) (λ _. guard held (Err (outside i)) λ _. Ok tt) ≡ Ok tt → held ≡ true
     go true true i e = refl
     go true false i e = never cc
     go false held i e = never cc
 
 -- what is behind it, where it was refused and where not
 stopped : (can all : Bool) (i : ℕ) (rest : Unit {0} → Answer) (e : Refusal)
-    → guard can (Err bad_state) (λ _. guard all (Err (outside i)) λ _. Ok tt) ≡ Err e
+    → guard {A = Verdict} can (Err bad_state) (λ _. guard all (Err (outside i)) λ _. Ok tt) ≡ Err e
     → Err e ≡ guard can (Err bad_state) λ _. guard all (Err (outside i)) rest
 stopped true true i rest e q = never cc
 stopped true false i rest e q = cc
 stopped false a i rest e q = cc
 
 goes_on : (can all : Bool) (i : ℕ) (rest : Unit {0} → Answer)
-    → guard can (Err bad_state) (λ _. guard all (Err (outside i)) λ _. Ok tt) ≡ Ok tt
+    → guard {A = Verdict} can (Err bad_state) (λ _. guard all (Err (outside i)) λ _. Ok tt) ≡ Ok tt
     → rest tt ≡ guard can (Err bad_state) λ _. guard all (Err (outside i)) rest
 goes_on true true i rest q = refl
 goes_on true false i rest q = never cc

@@ -1,6 +1,6 @@
 -- The defined table, written: a tile's modes one after another; a box by its first pattern; the children of a split one after another; the whole
 -- by its parts. Assumes nothing.
-use Rattle.std.specs.Prelude.{Some, None, Option, ℕ}
+use Rattle.std.specs.Prelude.{Some, None, ℕ}
 use Prim.Native.Nat.{ℕ, zero, suc, ◌+◌, ◌*◌, ◌-◌, ◌^◌, ◌≤◌, ◌<◌}
 use mathlib.Core.Path.{◌≡◌, refl, sym, ap, ◌∙◌}
 use mathlib.Core.Bool.{Bool, true, false, cond}
@@ -35,7 +35,7 @@ use Rattle.tables.specs.Boxes.{box_of}
 use Rattle.tables.specs.Frames.{step_in, rules_in, FrameSound}
 use Rattle.tables.specs.Search.{pattern_by}
 use Rattle.tables.specs.Tiles.{mode_at, pattern_of}
-use Rattle.tables.specs.Drafts.{Wrote, bytes_most, tree_bytes, trees_bytes, draft_of, draft_bytes}
+use Rattle.tables.specs.Drafts.{Wrote, bytes_most, tree_bytes, trees_bytes, draft_of, draft_bytes, Grown}
 use Rattle.tables.specs.Turns.{table_by}
 
 -- ---- a tile: its modes from the j-th on are left
@@ -60,14 +60,14 @@ module _ (k : ℕ) (us : List ℕ) where
 -- ---- some bytes, and behind them what may not exist
 
 wrote-behind : {buf : List ℕ} {at : ℕ} {xs : List ℕ} {next : ℕ} {mid : List ℕ} → Put buf at xs next mid
-    → (o : Option (List ℕ)) (a : Option ℕ) (out : List ℕ) → Wrote o mid next a out → Wrote (map_some (λ ys. xs ++ ys) o) buf at a out
+    → (o : Option (List ℕ)) (a : Grown) (out : List ℕ) → Wrote o mid next a out → Wrote (map_some (λ ys. xs ++ ys) o) buf at a out
 wrote-behind t (some ys) (Some n) out w = put-append t w
 wrote-behind t (some ys) None out w = w
 wrote-behind t none (Some n) out w = w
 wrote-behind t none None out w = w ∙ put-length t
 
 -- the buffer stays as long as it was
-pub wrote-length : (o : Option (List ℕ)) (buf : List ℕ) (at : ℕ) (a : Option ℕ) (out : List ℕ) → Wrote o buf at a out → length out ≡ length buf
+pub wrote-length : (o : Option (List ℕ)) (buf : List ℕ) (at : ℕ) (a : Grown) (out : List ℕ) → Wrote o buf at a out → length out ≡ length buf
 wrote-length (some ys) buf at (Some n) out w = put-length w
 wrote-length (some ys) buf at None out w = absurd w
 wrote-length none buf at (Some n) out w = absurd w
@@ -123,7 +123,7 @@ pub record Growing (buf₀ : List ℕ) (at : ℕ) (whole rest : Option (List ℕ
   pub long : length buf ≡ length buf₀
   pub within : place ≤ length buf + 1
   -- whoever writes the rest has written the whole
-  pub goes : (a : Option ℕ) (out : List ℕ) → Wrote rest buf place a out → Wrote whole buf₀ at a out
+  pub goes : (a : Grown) (out : List ℕ) → Wrote rest buf place a out → Wrote whole buf₀ at a out
 
 pub grow-none : (buf : List ℕ) (at : ℕ) (whole : Option (List ℕ)) → at ≤ length buf + 1 → Growing buf at whole whole at buf
 grow-none buf at whole h = record { long = refl; within = h; goes = λ a out w. w }
@@ -137,7 +137,7 @@ module _ (r : Rules) (d : ℕ) (bs : List (Rules.Box r)) (c : ℕ) (buf₀ : Lis
       at-end = rw (drop_of_length-le bs h) refl
 
   -- the next box, as the code has it, and what was written for it
-  module _ (b₀ : Rules.Box r) (h : c < length bs) (kid : Rules.Box r) (k : kid ≡ get_or bs c b₀) (a : Option ℕ) (out : List ℕ) (w : Wrote (tree_bytes r d kid) buf place a out) where
+  module _ (b₀ : Rules.Box r) (h : c < length bs) (kid : Rules.Box r) (k : kid ≡ get_or bs c b₀) (a : Grown) (out : List ℕ) (w : Wrote (tree_bytes r d kid) buf place a out) where
     next-box : (o : Option Tree) → tree_of r d kid ≡ o → trees_bytes r d (drop c bs) ≡ map_some (layouts false) (and_also o λ _. all_of (λ c. tree_of r d c) (drop (c + 1) bs))
     unfolding all_of
     next-box o e = rw (add-one, drop-cons bs c b₀ h, ← k, e) refl
@@ -186,7 +186,7 @@ module _ (f : Frame) (bands coef : List ℤ) (d : ℕ) (b : List Side) (size : �
     node-stuck h = rw (box-stuck (rules_in f bands coef) d b nothing (empty (children_by f.form b) h)) refl
 
     pub node-split : (d ≡ 0 → ⊥) → (length (children_by f.form b) ≡ 0 → ⊥) → (place : ℕ) (mid : List ℕ) → Put buf at (bytes_of 0) place mid
-        → (a : Option ℕ) (out : List ℕ) → Wrote (trees_bytes (rules_in f bands coef) (d - 1) (children_by f.form b)) mid place a out → Wrote (tree_bytes (rules_in f bands coef) d b) buf at a out
+        → (a : Grown) (out : List ℕ) → Wrote (trees_bytes (rules_in f bands coef) (d - 1) (children_by f.form b)) mid place a out → Wrote (tree_bytes (rules_in f bands coef) d b) buf at a out
     node-split h l place mid t a out w =
         let k : d ≡ suc (d - 1) = omega arith in
         let e : tree_bytes (rules_in f bands coef) d b ≡ map_some (λ ys. bytes_of 0 ++ ys) (trees_bytes (rules_in f bands coef) (d - 1) (children_by f.form b)) =
@@ -209,12 +209,12 @@ module _ (r : Rules) where
   open r use {form, n, D, root}
 
   pub table-wrote : {buf : List ℕ} {past-form : ℕ} {mid : List ℕ} {past-rooms : ℕ} {behind : List ℕ} → Put buf 0 (bytes_of form) past-form mid → Put mid past-form (bytes_of n) past-rooms behind
-      → (a : Option ℕ) (out : List ℕ) → Wrote (tree_bytes r D root) behind past-rooms a out → Wrote (draft_bytes r) buf 0 a out
+      → (a : Grown) (out : List ℕ) → Wrote (tree_bytes r D root) behind past-rooms a out → Wrote (draft_bytes r) buf 0 a out
   table-wrote t v a out w =
       let o = tree_bytes r D root in
       rw (header-bytes r (defined_tree r)) (wrote-behind t (map_some (λ ys. bytes_of n ++ ys) o) a out (wrote-behind v o a out w))
 
-  module _ (draft : List ℕ) (a : Option ℕ) (out : List ℕ) (w : Wrote (draft_bytes r) draft 0 a out) where
+  module _ (draft : List ℕ) (a : Grown) (out : List ℕ) (w : Wrote (draft_bytes r) draft 0 a out) where
     -- nothing where there is none
     pub draft-none : a ≡ None → defined_tree r ≡ none
     draft-none z = go (defined_tree r) (rw z at w)
@@ -311,7 +311,7 @@ module _ (f : Frame) (g : FrameSound f) where
         go false = cap-few (tile_bytes f.modes) f.n f.d g.some g.rooms l
 
 -- a draft that has room for a frame's table
-pub drafted : (f : Frame) (bands coef : List ℤ) → FrameSound f → (draft : List ℕ) → bytes_most f ≤ length draft → (a : Option ℕ) (out : List ℕ)
+pub drafted : (f : Frame) (bands coef : List ℤ) → FrameSound f → (draft : List ℕ) → bytes_most f ≤ length draft → (a : Grown) (out : List ℕ)
     → Wrote (draft_bytes (rules_in f bands coef)) draft 0 a out → (size : ℕ) → a ≡ Some size → Drafted (rules_in f bands coef) size out
 drafted f bands coef g draft l a out w size z =
     drafted-by (rules_in f bands coef) draft a out w size z (λ t e. omega (arith, draft-length f bands coef g t e, l))

@@ -11,6 +11,7 @@ use native.Mathlib.Nat.{zero-add}
 use lib.Dec.{leb}
 use lib.ListN.{length}
 use borrow.Author.Tests.{eq-eqb, ne_eqb, le-leb, lt-leb}
+use Rattle.laws.specs.Pairs.{some-first, some-second}
 use Rattle.laws.specs.Guards.{guard}
 use Rattle.laws.specs.Tests.{never}
 use Rattle.meaning.specs.Answers.{Number, Walk}
@@ -206,8 +207,8 @@ module _ (s : List ℕ) where
       go : (o : Read (List Length)) → lengths_at k s at ≡ o → total_of 0 o ≡ Some (sum, next) → (ls : List Length) × (lengths_at k s at ≡ read ls next) × (sum ≡ sum_of ls)
       go (refused x) q e = never cc
       go (read ls m) q e =
-          let z : m ≡ next = cc in
-          let y : 0 + sum_of ls ≡ sum = cc in
+          let z : m ≡ next = some-second e in
+          let y : 0 + sum_of ls ≡ sum = some-first e in
           (ls, q ∙ ap (read ls) z, omega (arith, y))
 
   pub lengths-joined : (k c at : ℕ) (ls : List Length) (mid : ℕ) (ms : List Length) (next : ℕ) → lengths_at c s at ≡ read ls mid → lengths_at k s mid ≡ read ms next

@@ -8,10 +8,11 @@ use native.Mathlib.Omega.{arith}
 use lib.Dec.{leb}
 use lib.ListN.{length, take, drop}
 use borrow.Author.Tests.{leb-true, le-leb, lt-leb}
+use Rattle.laws.specs.Pairs.{ok-first, ok-second}
 use Rattle.laws.specs.Guards.{guard}
 use Rattle.laws.specs.Standing.{stand-within}
 use Rattle.laws.specs.Tests.{never}
-use Rattle.meaning.specs.Answers.{Number}
+use Rattle.meaning.specs.Answers.{Number, Found}
 use Rattle.meaning.specs.declared.Refusal.{Refusal}
 use Rattle.meaning.specs.Numbers.{number_at, bytes_of}
 use Rattle.meaning.specs.Refusals.{broken, unfit}
@@ -42,15 +43,15 @@ module _ (s : List ℕ) (at : ℕ) where
   pub part-within : (first size : ℕ) → part_at s at ≡ Ok (first, size) → first + size ≤ length s
   part-within first size q = go (number_at s at) q
     where
-      go : (n : Number) → on_number n (Err (broken at)) (λ size first. guard (leb (first + size) (length s)) (Err (unfit at)) λ _. Ok (first, size)) ≡ Ok (first, size) → first + size ≤ length s
+      go : (n : Number) → on_number {A = Found} n (Err (broken at)) (λ size first. guard (leb (first + size) (length s)) (Err (unfit at)) λ _. Ok (first, size)) ≡ Ok (first, size) → first + size ≤ length s
       go None e = never cc
       go (Some (z, f)) e = tests (leb (f + z) (length s)) refl e
         where
-          tests : (t : Bool) → leb (f + z) (length s) ≡ t → guard t (Err (unfit at)) (λ _. Ok (f, z)) ≡ Ok (first, size) → first + size ≤ length s
+          tests : (t : Bool) → leb (f + z) (length s) ≡ t → guard {A = Found} t (Err (unfit at)) (λ _. Ok (f, z)) ≡ Ok (first, size) → first + size ≤ length s
           tests false p e = never cc
           tests true p e =
-              let a : f ≡ first = cc in
-              let b : z ≡ size = cc in
+              let a : f ≡ first = ok-first e in
+              let b : z ≡ size = ok-second e in
               omega (arith, leb-true (f + z) (length s) p)
 
   -- what stands behind it in the definitions
@@ -82,7 +83,7 @@ module _ (s : List ℕ) where
     one-passed : part_behind left s at ≡ on_found (part_at s at) Err (λ first size. part_behind (left - 1) s (first + size))
     one-passed =
         let e : left ≡ suc (left - 1) = omega arith in
-        ap (λ (i : ℕ). part_behind i s at) e ∙ behind-step (left - 1) at Err Part.At
+        ap (λ (i : ℕ). part_behind i s at) e ∙ behind-step (left - 1) at Err (λ first size. Ok (first, size))
 
     pub behind_more : (first size : ℕ) → part_at s at ≡ Ok (first, size) → part_behind (left - 1) s (first + size) ≡ part_behind left s at
     behind_more first size q = sym (one-passed ∙ rw q refl)
@@ -93,7 +94,7 @@ module _ (s : List ℕ) where
   pub by_part : {A : Type 0} (i at : ℕ) (refuse : Refusal → A) (rest : ℕ → ℕ → A) → on_part i s at refuse rest ≡ on_found (part_behind i s at) refuse rest
   unfolding S.on_part
   by_part zero at refuse rest = by_length s at refuse rest
-  by_part {A} (suc i) at refuse rest = behind-step i at refuse rest ∙ go (part_at s at) (λ at. by_part i at refuse rest) ∙ ap (λ (p : Result (ℕ × ℕ) Refusal). on_found p refuse rest) (sym (behind-step i at Err Part.At))
+  by_part {A} (suc i) at refuse rest = behind-step i at refuse rest ∙ go (part_at s at) (λ at. by_part i at refuse rest) ∙ ap (λ (p : Result (ℕ × ℕ) Refusal). on_found p refuse rest) (sym (behind-step i at Err (λ first size. Ok (first, size))))
     where
       go : (p : Result (ℕ × ℕ) Refusal) → ((at : ℕ) → on_part i s at refuse rest ≡ on_found (part_behind i s at) refuse rest)
           → on_found p refuse (λ first size. on_part i s (first + size) refuse rest) ≡ on_found (on_found p Err (λ first size. part_behind i s (first + size))) refuse rest
@@ -103,7 +104,7 @@ module _ (s : List ℕ) where
   pub behind-within : (i at first size : ℕ) → part_behind i s at ≡ Ok (first, size) → first + size ≤ length s
   unfolding S.on_part
   behind-within zero at first size q = part-within s at first size q
-  behind-within (suc i) at first size q = go (part_at s at) (λ at. behind-within i at first size) (sym (behind-step i at Err Part.At) ∙ q)
+  behind-within (suc i) at first size q = go (part_at s at) (λ at. behind-within i at first size) (sym (behind-step i at Err (λ first size. Ok (first, size))) ∙ q)
     where
       go : (p : Result (ℕ × ℕ) Refusal) → ((at : ℕ) → part_behind i s at ≡ Ok (first, size) → first + size ≤ length s)
           → on_found p Err (λ first size. part_behind i s (first + size)) ≡ Ok (first, size) → first + size ≤ length s

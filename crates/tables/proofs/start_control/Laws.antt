@@ -79,13 +79,13 @@ module _ (n : ℕ) (rooms : n ≤ 4) (root : Bx) (edges : List ℤ) (m : ℕ) (x
 -- ---- the table that is called
 
 -- by the admission to Rm
-refused-by : (can held : Bool) (k low : ℕ) (e : Refusal) → guard can (Err bad_state) (λ _. guard held (Err (outside k)) λ _. Ok tt) ≡ Err e
+refused-by : (can held : Bool) (k low : ℕ) (e : Refusal) → guard {A = Verdict} can (Err bad_state) (λ _. guard held (Err (outside k)) λ _. Ok tt) ≡ Err e
     → Err e ≡ guard can (Err bad_state) (λ _. guard held (Err (outside k)) λ _. Ok low)
 refused-by true true k low e q = never cc
 refused-by true false k low e q = cc
 refused-by false held k low e q = cc
 
-accepted-by : (can held : Bool) (k low : ℕ) → guard can (Err bad_state) (λ _. guard held (Err (outside k)) λ _. Ok tt) ≡ Ok tt
+accepted-by : (can held : Bool) (k low : ℕ) → guard {A = Verdict} can (Err bad_state) (λ _. guard held (Err (outside k)) λ _. Ok tt) ≡ Ok tt
     → Ok low ≡ guard can (Err bad_state) (λ _. guard held (Err (outside k)) λ _. Ok low)
 accepted-by true true k low q = refl
 accepted-by true false k low q = never cc

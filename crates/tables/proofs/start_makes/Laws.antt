@@ -1,6 +1,6 @@
 -- The start file, written: a table behind its length; the tables of the boxes one after another; the chain's bytes before them; and the whole by what was
 -- read of the chain. Assumes nothing.
-use Rattle.std.specs.Prelude.{Some, None, Ok, Err, Option, ℕ}
+use Rattle.std.specs.Prelude.{Some, None, Ok, Err, ℕ}
 use Prim.Native.Nat.{ℕ, zero, suc, ◌+◌, ◌-◌, ◌≤◌, ◌<◌}
 use mathlib.Core.Path.{◌≡◌, refl, sym, ap, ◌∙◌}
 use mathlib.Core.Bool.{Bool, true, false}
@@ -30,7 +30,7 @@ use Rattle.tables.specs.declared.chains.ChainRead.{ChainRead}
 use Rattle.tables.specs.declared.frames.Frame.{Frame}
 use Rattle.tables.specs.Boxes.{box_of}
 use Rattle.tables.specs.Chains.{chain_read}
-use Rattle.tables.specs.Drafts.{Wrote}
+use Rattle.tables.specs.Drafts.{Wrote, Grown}
 use Rattle.tables.specs.Frames.{own_frame, formed, step_in}
 use Rattle.tables.specs.StartMakes.{with_length, part_bytes, WroteParts, frames_rules, frames_tables, behind_chain, values_rules, chain_left}
 use Rattle.tables.proofs.chains.Laws.{boxes-same, Chained, chain-refused, chain-edged, chain-goes}
@@ -76,7 +76,7 @@ module _ (r : ℕ → Rules) (m i : ℕ) (buf₀ : List ℕ) (at : ℕ) (whole :
       at-end = let k : m + 1 - i ≡ 0 = omega arith in rw k refl
 
   -- box i's table, and what was written for it
-  module _ (h : i ≤ m) (a : Option ℕ) (out : List ℕ) (w : Wrote (part_bytes (r i)) buf place a out) where
+  module _ (h : i ≤ m) (a : Grown) (out : List ℕ) (w : Wrote (part_bytes (r i)) buf place a out) where
     next-box : (j : Judged (List ℕ)) → defined_table i (r i) ≡ j → tables_from r (m + 1 - i) i ≡ table_before j λ _. tables_from r (m + 1 - (i + 1)) (i + 1)
     unfolding tables_from
     next-box j e =

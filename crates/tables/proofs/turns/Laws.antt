@@ -12,6 +12,8 @@ use lib.ListN.{length, get_or, drop, take, drop_of_length-le, length-append}
 use lib.Seq.{drop-cons, take_at}
 use native.Mathlib.Decide.{dec_lt}
 use borrow.Author.Tests.{lt-ltb, le-ltb, le-leb}
+use Rattle.meaning.specs.Answers.{Number}
+use Rattle.laws.specs.Pairs.{some-first, some-second}
 use Rattle.laws.specs.Standing.{Stands, stand-front, stand-back, stand-within}
 use Rattle.laws.specs.Tests.{never}
 use Rattle.laws.specs.Writing.{Put, Under, put-append, put-length, under_none, under_more, under-done}
@@ -33,8 +35,8 @@ use Rattle.tables.specs.Lengths.{behind_at}
 use Rattle.tables.proofs.lengths.Laws.{behind_more}
 use Rattle.tables.specs.Turns.{shapes, CountsSound, most_tree, TreeLies, TreesLie, SplitLies, length_if}
 
-value_same : {k next j m : ℕ} → Some (k, next) ≡ Some (j, m) → (k ≡ j) × (next ≡ m)
-value_same e = (cc, cc)
+value_same : {k next j m : ℕ} → ◌≡◌ {A = Number} (Some (k, next)) (Some (j, m)) → (k ≡ j) × (next ≡ m)
+value_same e = (some-first e, some-second e)
 
 -- ---- a tile: the place behind its modes
 

@@ -13,29 +13,29 @@ use Rattle.meaning.specs.Answers.{Walk}
 pub overflow_mul-m : goal.overflow_mul-m
 overflow_mul-m c =
     let file : List ℕ = c.args.s.now in
-    let m : ℕ = c.in-Boxes.m in
-    let at : ℕ = c.in-Boxes.at in
-    let headed : Headed file m at = subst (HeadTold file) c.in-Boxes.is c.read_head.ensures in
+    let m : ℕ = c.in-Ok.m in
+    let at : ℕ = c.in-Ok.at in
+    let headed : Headed file m at = subst (HeadTold file) c.in-Ok.is c.read_head.ensures in
     record { fits = omega (arith, few-sides m c.args.f.n headed.few c.requires) }
 
 pub read_edges-past-requires : goal.read_edges-past-requires
 read_edges-past-requires c =
     let file : List ℕ = c.args.s.now in
-    let m : ℕ = c.in-Boxes.m in
-    let at : ℕ = c.in-Boxes.at in
-    let headed : Headed file m at = subst (HeadTold file) c.in-Boxes.is c.read_head.ensures in
+    let m : ℕ = c.in-Ok.m in
+    let at : ℕ = c.in-Ok.at in
+    let headed : Headed file m at = subst (HeadTold file) c.in-Ok.is c.read_head.ensures in
     (few-sides m c.args.f.n headed.few c.requires, refl)
 
 pub returns-then-left_over : goal.returns-then-left_over
 returns-then-left_over c =
     let file : List ℕ = c.args.s.now in
-    let m : ℕ = c.in-Boxes.m in
-    let at : ℕ = c.in-Boxes.at in
-    let headed : Headed file m at = subst (HeadTold file) c.in-Boxes.is c.read_head.ensures in
+    let m : ℕ = c.in-Ok.m in
+    let at : ℕ = c.in-Ok.at in
+    let headed : Headed file m at = subst (HeadTold file) c.in-Ok.is c.read_head.ensures in
     let edges : List ℤ = c.read_edges-past.new.edges in
     let told : (w : Walk) → c.read_edges-past.result ≡ w → EdgesTold file at (m * c.args.f.n) edges w = λ w. λ e. subst (EdgesTold file at (m * c.args.f.n) edges) e c.read_edges-past.ensures in
-    let next : ℕ = c.in-Ok.next in
-    let whole : EdgesRead file at (m * c.args.f.n) edges next = told (Ok next) c.in-Ok.is in
+    let next : ℕ = c.in-Ok-past.next in
+    let whole : EdgesRead file at (m * c.args.f.n) edges next = told (Ok next) c.in-Ok-past.is in
     let a = c.args in
     c.refused-then-left_over.ensures ∙ ap no_chain c.unfit.ensures
     ∙ over-told a.whole a.f file m at headed c.requires edges next whole
@@ -44,21 +44,21 @@ returns-then-left_over c =
 pub first_unheld-fault-requires : goal.first_unheld-fault-requires
 first_unheld-fault-requires c =
     let file : List ℕ = c.args.s.now in
-    let m : ℕ = c.in-Boxes.m in
-    let at : ℕ = c.in-Boxes.at in
-    let headed : Headed file m at = subst (HeadTold file) c.in-Boxes.is c.read_head.ensures in
+    let m : ℕ = c.in-Ok.m in
+    let at : ℕ = c.in-Ok.at in
+    let headed : Headed file m at = subst (HeadTold file) c.in-Ok.is c.read_head.ensures in
     (c.requires, headed.few)
 
 pub returns-then-fault-m : goal.returns-then-fault-m
 returns-then-fault-m c =
     let file : List ℕ = c.args.s.now in
-    let m : ℕ = c.in-Boxes.m in
-    let at : ℕ = c.in-Boxes.at in
-    let headed : Headed file m at = subst (HeadTold file) c.in-Boxes.is c.read_head.ensures in
+    let m : ℕ = c.in-Ok.m in
+    let at : ℕ = c.in-Ok.at in
+    let headed : Headed file m at = subst (HeadTold file) c.in-Ok.is c.read_head.ensures in
     let edges : List ℤ = c.read_edges-past.new.edges in
     let told : (w : Walk) → c.read_edges-past.result ≡ w → EdgesTold file at (m * c.args.f.n) edges w = λ w. λ e. subst (EdgesTold file at (m * c.args.f.n) edges) e c.read_edges-past.ensures in
-    let next : ℕ = c.in-Ok.next in
-    let whole : EdgesRead file at (m * c.args.f.n) edges next = told (Ok next) c.in-Ok.is in
+    let next : ℕ = c.in-Ok-past.next in
+    let whole : EdgesRead file at (m * c.args.f.n) edges next = told (Ok next) c.in-Ok-past.is in
     let a = c.args in
     c.refused-then-fault-m.ensures ∙ ap no_chain c.not_held.ensures
     ∙ not-kept a.whole a.f file m at headed c.requires edges next whole
@@ -73,9 +73,9 @@ returns-in-Err c =
 pub returns-in-Err-past : goal.returns-in-Err-past
 returns-in-Err-past c =
     let file : List ℕ = c.args.s.now in
-    let m : ℕ = c.in-Boxes.m in
-    let at : ℕ = c.in-Boxes.at in
-    let headed : Headed file m at = subst (HeadTold file) c.in-Boxes.is c.read_head.ensures in
+    let m : ℕ = c.in-Ok.m in
+    let at : ℕ = c.in-Ok.at in
+    let headed : Headed file m at = subst (HeadTold file) c.in-Ok.is c.read_head.ensures in
     let edges : List ℤ = c.read_edges-past.new.edges in
     let told : (w : Walk) → c.read_edges-past.result ≡ w → EdgesTold file at (m * c.args.f.n) edges w = λ w. λ e. subst (EdgesTold file at (m * c.args.f.n) edges) e c.read_edges-past.ensures in
     let a = c.args in
@@ -84,13 +84,13 @@ returns-in-Err-past c =
 pub returns-else-fault-m : goal.returns-else-fault-m
 returns-else-fault-m c =
     let file : List ℕ = c.args.s.now in
-    let m : ℕ = c.in-Boxes.m in
-    let at : ℕ = c.in-Boxes.at in
-    let headed : Headed file m at = subst (HeadTold file) c.in-Boxes.is c.read_head.ensures in
+    let m : ℕ = c.in-Ok.m in
+    let at : ℕ = c.in-Ok.at in
+    let headed : Headed file m at = subst (HeadTold file) c.in-Ok.is c.read_head.ensures in
     let edges : List ℤ = c.read_edges-past.new.edges in
     let told : (w : Walk) → c.read_edges-past.result ≡ w → EdgesTold file at (m * c.args.f.n) edges w = λ w. λ e. subst (EdgesTold file at (m * c.args.f.n) edges) e c.read_edges-past.ensures in
-    let next : ℕ = c.in-Ok.next in
-    let whole : EdgesRead file at (m * c.args.f.n) edges next = told (Ok next) c.in-Ok.is in
+    let next : ℕ = c.in-Ok-past.next in
+    let whole : EdgesRead file at (m * c.args.f.n) edges next = told (Ok next) c.in-Ok-past.is in
     let a = c.args in
     taken a.whole a.f file m at headed c.requires edges next whole
     (sym c.left_over.ensures ∙ c.if-left_over.false) c.first_unheld-fault.result c.first_unheld-fault.ensures c.if-fault-m.false

@@ -45,10 +45,10 @@ returns-in-Err-find c =
     let found : (o : Found) → c.find.result ≡ o → on_found bytes o ≡ idle_call rules bytes c.args.at c.args.place c.args.x = λ o. λ e. let v = c.admit in ap (on_found bytes) (sym e ∙ sought) ∙ idle-finds rules bytes c.args.x c.args.at c.args.place v.result v.ensures c.in-Ok.is in
     found _ c.in-Err-find.is
 
-pub returns-in-Ok : goal.returns-in-Ok
-returns-in-Ok c =
+pub returns-in-Ok-find : goal.returns-in-Ok-find
+returns-in-Ok-find c =
     let rules : Rules = rules_in c.args.f [] [] in
     let bytes : List ℕ = c.args.table.now in
     let sought : c.find.result ≡ find rules rules.D bytes c.args.at (box_of c.args.f.n c.args.f.root) c.args.x = let k = c.counts_of in let e = c.edges_of-edges in let d = c.depth-depth in c.find.ensures ∙ lent_same c.args.f k.result e.result k.ensures e.ensures (λ k e. find (rules_in (frame_from k e) [] []) d.result bytes c.args.at (box_of k.n c.args.f.root) c.args.x) ∙ ap (λ (d : ℕ). find rules d bytes c.args.at (box_of c.args.f.n c.args.f.root) c.args.x) d.ensures in
     let found : (o : Found) → c.find.result ≡ o → on_found bytes o ≡ idle_call rules bytes c.args.at c.args.place c.args.x = λ o. λ e. let v = c.admit in ap (on_found bytes) (sym e ∙ sought) ∙ idle-finds rules bytes c.args.x c.args.at c.args.place v.result v.ensures c.in-Ok.is in
-    c.answer.ensures ∙ found _ c.in-Ok.is
+    c.answer.ensures ∙ found _ c.in-Ok-find.is

@@ -1,6 +1,6 @@
 -- `drafts::tree`, which calls itself with less depth: each return cites the law of the node that it stops at; in the loop over the children,
 -- whoever writes those that are left has written them all. Assumes nothing.
-use Rattle.std.specs.Prelude.{Some, None, Option, ℕ}
+use Rattle.std.specs.Prelude.{Some, None, ℕ}
 use Prim.Native.Nat.{ℕ, ◌+◌, ◌-◌, ◌<◌}
 use mathlib.Core.Path.{◌≡◌, sym, ◌∙◌}
 use mathlib.Core.List.{List, []}
@@ -18,7 +18,7 @@ use Rattle.tables.specs.declared.frames.Frame.{Frame}
 use Rattle.tables.specs.Boxes.{box_of}
 use Rattle.tables.specs.Frames.{frame_from, rules_in}
 use Rattle.tables.specs.Search.{pattern_by}
-use Rattle.tables.specs.Drafts.{Wrote, tree_bytes, trees_bytes}
+use Rattle.tables.specs.Drafts.{Wrote, tree_bytes, trees_bytes, Grown}
 use Rattle.tables.proofs.boxes.Halving.{small-children}
 use Rattle.tables.proofs.search.Rules.{lent, shortest-is}
 use Rattle.tables.proofs.drafts.Laws.{Growing, grow-none, grow-done, grow-more, grow-stopped, node-tile, node-deep, node-stuck, node-split, wrote-length}
@@ -127,7 +127,7 @@ returns-in_default t c =
     let pattern : pattern_by c.first-size.result modes ≡ first_pattern rules box = c.first-size.ensures.pattern ∙ shortest-is frame bands coef c.args.limits.now c.args.marks.now c.requires.0 c.args.f.k 0 box in
     let whole : Option (List ℕ) = trees_bytes rules (c.args.d - 1) (children_by c.args.f.form box) in
     let in-box : (j : ℕ) → j < c.count-count.result → j < length (children_by c.args.f.form box) = λ j h. let e = c.count-count.ensures in rw (← e) h in
-    let goes : (a : Option ℕ) (out : List ℕ) → Wrote whole c.put_number-place.new.buf c.put_number-place.result a out → Wrote (tree_bytes rules c.args.d box) c.args.buf.now c.args.at a out = λ a. λ out. λ w. node-split frame bands coef c.args.d box c.first-size.result modes pattern c.args.buf.now c.args.at c.if-size-ne0.false c.if-d-eq0.false (λ z. c.if-count-eq0.false (c.count-count.ensures ∙ z)) c.put_number-place.result c.put_number-place.new.buf c.put_number-place.ensures a out w in
+    let goes : (a : Grown) (out : List ℕ) → Wrote whole c.put_number-place.new.buf c.put_number-place.result a out → Wrote (tree_bytes rules c.args.d box) c.args.buf.now c.args.at a out = λ a. λ out. λ w. node-split frame bands coef c.args.d box c.first-size.result modes pattern c.args.buf.now c.args.at c.if-size-ne0.false c.if-d-eq0.false (λ z. c.if-count-eq0.false (c.count-count.ensures ∙ z)) c.put_number-place.result c.put_number-place.new.buf c.put_number-place.ensures a out w in
     let done : ℕ = c.loop-c.c in
     let left : List ℕ = c.tree-grown.new.buf in
     let in_count : done < length (children_by c.args.f.form box) = in-box _ c.loop-c-test.true in
@@ -156,7 +156,7 @@ loop-c-preserved t c =
     let kid : List Side = box_of c.args.f.n c.child-child.result in
     let goes_on : (m : ℕ) → c.tree-grown.result ≡ Some m → Growing c.put_number-place.new.buf c.put_number-place.result whole (trees_bytes rules (c.args.d - 1) (drop (done + 1) (children_by c.args.f.form box))) m left = λ m. λ e. let l = c.loop-c in grow-more rules (c.args.d - 1) (children_by c.args.f.form box) done c.put_number-place.new.buf c.put_number-place.result whole l.place l.buf l.invariant.1 [] in_count kid c.child-child.ensures c.tree-grown.result left c.tree-grown.ensures m e in
     let h = c.loop-c-test.true in
-    (omega arith, goes_on c.in-Ok.next c.in-Ok.is)
+    (omega arith, goes_on c.in-Some.next c.in-Some.is)
 
 pub shape_of-buf : goal.shape_of-buf
 shape_of-buf t c =
@@ -173,7 +173,7 @@ returns t c =
     let modes : List ℕ = c.first-size.new.us in
     let pattern : pattern_by c.first-size.result modes ≡ first_pattern rules box = c.first-size.ensures.pattern ∙ shortest-is frame bands coef c.args.limits.now c.args.marks.now c.requires.0 c.args.f.k 0 box in
     let whole : Option (List ℕ) = trees_bytes rules (c.args.d - 1) (children_by c.args.f.form box) in
-    let goes-on : (a : Option ℕ) (out : List ℕ) → Wrote whole c.put_number-place.new.buf c.put_number-place.result a out → Wrote (tree_bytes rules c.args.d box) c.args.buf.now c.args.at a out = λ a. λ out. λ w. node-split frame bands coef c.args.d box c.first-size.result modes pattern c.args.buf.now c.args.at c.if-size-ne0.false c.if-d-eq0.false (λ z. c.if-count-eq0.false (c.count-count.ensures ∙ z)) c.put_number-place.result c.put_number-place.new.buf c.put_number-place.ensures a out w in
+    let goes-on : (a : Grown) (out : List ℕ) → Wrote whole c.put_number-place.new.buf c.put_number-place.result a out → Wrote (tree_bytes rules c.args.d box) c.args.buf.now c.args.at a out = λ a. λ out. λ w. node-split frame bands coef c.args.d box c.first-size.result modes pattern c.args.buf.now c.args.at c.if-size-ne0.false c.if-d-eq0.false (λ z. c.if-count-eq0.false (c.count-count.ensures ∙ z)) c.put_number-place.result c.put_number-place.new.buf c.put_number-place.ensures a out w in
     let l = c.loop-c in
     let n = c.count-count.ensures in
     let h = c.loop-c-test.false in

@@ -9,9 +9,9 @@ returns-in_default c = told_none c.args.table.now (sym c.number.ensures ∙ c.in
 pub returns-then-known : goal.returns-then-known
 returns-then-known c =
     let k = c.known in
-    told-known c.args.table.now c.in-Some.form c.in-Some.field-1 (sym c.number.ensures ∙ c.in-Some.is) k.result k.ensures c.if-known.true
+    told-known c.args.table.now c.in-Some.form c.in-Some.field-0-1 (sym c.number.ensures ∙ c.in-Some.is) k.result k.ensures c.if-known.true
 
 pub returns-else-known : goal.returns-else-known
 returns-else-known c =
     let k = c.known in
-    told-unknown c.args.table.now c.in-Some.form c.in-Some.field-1 (sym c.number.ensures ∙ c.in-Some.is) k.result k.ensures c.if-known.false
+    told-unknown c.args.table.now c.in-Some.form c.in-Some.field-0-1 (sym c.number.ensures ∙ c.in-Some.is) k.result k.ensures c.if-known.false

@@ -24,7 +24,7 @@ loop-left-smaller c = omega arith
 pub loop-left-preserved : goal.loop-left-preserved
 loop-left-preserved c =
     let v = sym c.number.ensures ∙ c.in-Some.is in
-    behind_more c.args.table.now c.loop-left.left c.loop-left.place c.loop-left-test.true c.in-Some.field-0 c.in-Some.next v ∙ c.loop-left.invariant
+    behind_more c.args.table.now c.loop-left.left c.loop-left.place c.loop-left-test.true c.in-Some.field-0-0 c.in-Some.next v ∙ c.loop-left.invariant
 
 pub returns : goal.returns
 returns c =

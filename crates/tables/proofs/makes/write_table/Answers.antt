@@ -33,14 +33,14 @@ slice_bounds-leave-end c =
     let rules : Rules = rules_in c.args.f c.args.bands.now c.args.coef.now in
     let draft : List ℕ = c.table.new.buf in
     let held : (size : ℕ) → c.table.result ≡ Some size → Drafted rules size draft = λ size. λ z. drafted c.args.f c.args.bands.now c.args.coef.now c.requires.frame.0 c.args.draft.now c.requires.room c.table.result draft c.table.ensures size z in
-    (held c.in-Ok.length c.in-Ok.is).held.fits
+    (held c.in-Some.length c.in-Some.is).held.fits
 
 pub slice_bounds-leave-end-then-f-eq2 : goal.slice_bounds-leave-end-then-f-eq2
 slice_bounds-leave-end-then-f-eq2 c =
     let rules : Rules = rules_in c.args.f c.args.bands.now c.args.coef.now in
     let draft : List ℕ = c.table.new.buf in
     let held : (size : ℕ) → c.table.result ≡ Some size → Drafted rules size draft = λ size. λ z. drafted c.args.f c.args.bands.now c.args.coef.now c.requires.frame.0 c.args.draft.now c.requires.room c.table.result draft c.table.ensures size z in
-    sym (length-take-le c.in-Ok.length draft (held c.in-Ok.length c.in-Ok.is).held.fits)
+    sym (length-take-le c.in-Some.length draft (held c.in-Some.length c.in-Some.is).held.fits)
 
 -- form 2 tells lengths
 pub leave-requires : goal.leave-requires
@@ -48,7 +48,7 @@ leave-requires c =
     let rules : Rules = rules_in c.args.f c.args.bands.now c.args.coef.now in
     let draft : List ℕ = c.table.new.buf in
     let held : (size : ℕ) → c.table.result ≡ Some size → Drafted rules size draft = λ size. λ z. drafted c.args.f c.args.bands.now c.args.coef.now c.requires.frame.0 c.args.draft.now c.requires.room c.table.result draft c.table.ensures size z in
-    (c.requires.frame.0, some-lies c.args.f c.args.bands.now c.args.coef.now c.requires.frame.0 (eq-eqb c.args.f.form 2 c.if-f-eq2.true) (held c.in-Ok.length c.in-Ok.is))
+    (c.requires.frame.0, some-lies c.args.f c.args.bands.now c.args.coef.now c.requires.frame.0 (eq-eqb c.args.f.form 2 c.if-f-eq2.true) (held c.in-Some.length c.in-Some.is))
 
 pub returns-then-f-eq2 : goal.returns-then-f-eq2
 returns-then-f-eq2 c =
@@ -56,7 +56,7 @@ returns-then-f-eq2 c =
     let buffer : List ℕ = c.args.buf.now in
     let draft : List ℕ = c.table.new.buf in
     let held : (size : ℕ) → c.table.result ≡ Some size → Drafted rules size draft = λ size. λ z. drafted c.args.f c.args.bands.now c.args.coef.now c.requires.frame.0 c.args.draft.now c.requires.room c.table.result draft c.table.ensures size z in
-    let d = held c.in-Ok.length c.in-Ok.is in
+    let d = held c.in-Some.length c.in-Some.is in
     let told = eq-eqb c.args.f.form 2 c.if-f-eq2.true in
     let w = c.leave.ensures d.tree _ (lies c.args.f c.args.bands.now c.args.coef.now c.requires.frame.0 told d) in
     let e = left-drafted rules buffer d.tree d.is (table_by c.args.f.form c.args.f.n true d.tree) (table-by rules true told d.tree) in
@@ -67,14 +67,14 @@ slice_bounds-leave-end-2 c =
     let rules : Rules = rules_in c.args.f c.args.bands.now c.args.coef.now in
     let draft : List ℕ = c.table.new.buf in
     let held : (size : ℕ) → c.table.result ≡ Some size → Drafted rules size draft = λ size. λ z. drafted c.args.f c.args.bands.now c.args.coef.now c.requires.frame.0 c.args.draft.now c.requires.room c.table.result draft c.table.ensures size z in
-    (held c.in-Ok.length c.in-Ok.is).held.fits
+    (held c.in-Some.length c.in-Some.is).held.fits
 
 pub slice_bounds-leave-end-3 : goal.slice_bounds-leave-end-3
 slice_bounds-leave-end-3 c =
     let rules : Rules = rules_in c.args.f c.args.bands.now c.args.coef.now in
     let draft : List ℕ = c.table.new.buf in
     let held : (size : ℕ) → c.table.result ≡ Some size → Drafted rules size draft = λ size. λ z. drafted c.args.f c.args.bands.now c.args.coef.now c.requires.frame.0 c.args.draft.now c.requires.room c.table.result draft c.table.ensures size z in
-    sym (length-take-le c.in-Ok.length draft (held c.in-Ok.length c.in-Ok.is).held.fits)
+    sym (length-take-le c.in-Some.length draft (held c.in-Some.length c.in-Some.is).held.fits)
 
 pub returns : goal.returns
 returns c =
@@ -82,7 +82,7 @@ returns c =
     let buffer : List ℕ = c.args.buf.now in
     let draft : List ℕ = c.table.new.buf in
     let held : (size : ℕ) → c.table.result ≡ Some size → Drafted rules size draft = λ size. λ z. drafted c.args.f c.args.bands.now c.args.coef.now c.requires.frame.0 c.args.draft.now c.requires.room c.table.result draft c.table.ensures size z in
-    let d = held c.in-Ok.length c.in-Ok.is in
+    let d = held c.in-Some.length c.in-Some.is in
     let w = c.leave-2 in
-    let e = left-drafted rules buffer d.tree d.is (take c.in-Ok.length draft) (untold-is rules (ne_eqb c.args.f.form 2 c.if-f-eq2.false) d) in
+    let e = left-drafted rules buffer d.tree d.is (take c.in-Some.length draft) (untold-is rules (ne_eqb c.args.f.form 2 c.if-f-eq2.false) d) in
     record { answer = w.ensures.answer ∙ ap (λ (l : Left). l.answer) e; bytes = w.ensures.bytes ∙ ap (λ (l : Left). l.buffer) e }

@@ -62,7 +62,7 @@ returns-then-next-size c =
     let found : c.part_at.result ≡ Ok (first, size) = c.in-Ok.is in
     let walked : c.table_end.result ≡ table_end (rules (form_of (part file first size))) (part file first size) = c.table_end.ensures ∙ ap (λ (t : List ℕ). table_end (rules (form_of t)) t) (slice-part file first size) in
     let p = c.part_at in
-    table-ends rules file c.args.at p.result p.ensures first size found c.table_end.result walked c.in-Ok.next c.in-Ok.is c.if-next-size.true
+    table-ends rules file c.args.at p.result p.ensures first size found c.table_end.result walked c.in-Ok-table_end.next c.in-Ok-table_end.is c.if-next-size.true
 
 pub returns-else-next-size : goal.returns-else-next-size
 returns-else-next-size c =
@@ -74,4 +74,4 @@ returns-else-next-size c =
     let walked : c.table_end.result ≡ table_end (rules (form_of (part file first size))) (part file first size) = c.table_end.ensures ∙ ap (λ (t : List ℕ). table_end (rules (form_of t)) t) (slice-part file first size) in
     let p = c.part_at in
     ap Err c.unfit.ensures
-    ∙ table-over rules file c.args.at p.result p.ensures first size found c.table_end.result walked c.in-Ok.next c.in-Ok.is c.if-next-size.false
+    ∙ table-over rules file c.args.at p.result p.ensures first size found c.table_end.result walked c.in-Ok-table_end.next c.in-Ok-table_end.is c.if-next-size.false

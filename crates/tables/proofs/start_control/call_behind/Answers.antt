@@ -5,6 +5,7 @@ use mathlib.Core.Path.{◌≡◌, sym, ap, ◌∙◌}
 use mathlib.Core.List.{List, []}
 use native.Mathlib.Omega.{arith}
 use lib.ListN.{length}
+use Rattle.meaning.specs.declared.StartState.{StartState}
 use Rattle.meaning.specs.Answers.{Answer, StartAnswer}
 use Rattle.meaning.specs.Control.{call}
 use Rattle.meaning.specs.Rules.{Rules}
@@ -66,8 +67,8 @@ returns-in-Err-call c =
     let answered : (a : Answer) → c.call.result ≡ a → answer_in c.args.i first a ≡ call_behind c.args.f file c.args.at c.args.i c.args.st c.args.x = λ a. λ g. let s = c.args in let p = c.part_behind in ap (answer_in s.i first) (sym g) ∙ behind-answered s.f file s.at s.i s.st s.x p.result p.ensures first size found c.call.result called in
     ap Err c.moved.ensures ∙ answered _ c.in-Err-call.is
 
-pub returns-in-Ok : goal.returns-in-Ok
-returns-in-Ok c =
+pub returns-in-Ok-call : goal.returns-in-Ok-call
+returns-in-Ok-call c =
     let file : List ℕ = c.args.start.now in
     let rules : ℕ → Rules = rules_by c.args.f [] [] in
     let first : ℕ = c.in-Ok.first in
@@ -75,4 +76,4 @@ returns-in-Ok c =
     let found : c.part_behind.result ≡ Ok (first, size) = c.in-Ok.is in
     let called : c.call.result ≡ call (rules (form_of (part file first size))) (part file first size) c.args.st c.args.x = c.call.ensures ∙ ap (λ (t : List ℕ). call (rules (form_of t)) t c.args.st c.args.x) (slice-part file first size) in
     let answered : (a : Answer) → c.call.result ≡ a → answer_in c.args.i first a ≡ call_behind c.args.f file c.args.at c.args.i c.args.st c.args.x = λ a. λ g. let s = c.args in let p = c.part_behind in ap (answer_in s.i first) (sym g) ∙ behind-answered s.f file s.at s.i s.st s.x p.result p.ensures first size found c.call.result called in
-    ap (StartAnswer.Mode c.in-Ok.u) c.state_in.ensures ∙ answered _ c.in-Ok.is
+    ap (λ (s : StartState). Ok (c.in-Ok-call.u, s)) c.state_in.ensures ∙ answered _ c.in-Ok-call.is

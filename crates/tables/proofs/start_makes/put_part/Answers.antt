@@ -26,14 +26,14 @@ slice_bounds-table_size-end c =
     let rules : Rules = rules_in c.args.f c.args.bands.now c.args.coef.now in
     let draft : List ℕ = c.table.new.buf in
     let held : (size : ℕ) → c.table.result ≡ Some size → Drafted rules size draft = λ size. λ z. drafted c.args.f c.args.bands.now c.args.coef.now c.requires.frame.0 c.args.draft.now c.requires.room c.table.result draft c.table.ensures size z in
-    (held c.in-Ok.size c.in-Ok.is).held.fits
+    (held c.in-Some.size c.in-Some.is).held.fits
 
 pub slice_bounds-table_size-end-then-f-eq2 : goal.slice_bounds-table_size-end-then-f-eq2
 slice_bounds-table_size-end-then-f-eq2 c =
     let rules : Rules = rules_in c.args.f c.args.bands.now c.args.coef.now in
     let draft : List ℕ = c.table.new.buf in
     let held : (size : ℕ) → c.table.result ≡ Some size → Drafted rules size draft = λ size. λ z. drafted c.args.f c.args.bands.now c.args.coef.now c.requires.frame.0 c.args.draft.now c.requires.room c.table.result draft c.table.ensures size z in
-    sym (length-take-le c.in-Ok.size draft (held c.in-Ok.size c.in-Ok.is).held.fits)
+    sym (length-take-le c.in-Some.size draft (held c.in-Some.size c.in-Some.is).held.fits)
 
 -- form 2 tells lengths
 pub table_size-long-requires : goal.table_size-long-requires
@@ -41,35 +41,35 @@ table_size-long-requires c =
     let rules : Rules = rules_in c.args.f c.args.bands.now c.args.coef.now in
     let draft : List ℕ = c.table.new.buf in
     let held : (size : ℕ) → c.table.result ≡ Some size → Drafted rules size draft = λ size. λ z. drafted c.args.f c.args.bands.now c.args.coef.now c.requires.frame.0 c.args.draft.now c.requires.room c.table.result draft c.table.ensures size z in
-    (c.requires.frame.0, some-lies c.args.f c.args.bands.now c.args.coef.now c.requires.frame.0 (eq-eqb c.args.f.form 2 c.if-f-eq2.true) (held c.in-Ok.size c.in-Ok.is))
+    (c.requires.frame.0, some-lies c.args.f c.args.bands.now c.args.coef.now c.requires.frame.0 (eq-eqb c.args.f.form 2 c.if-f-eq2.true) (held c.in-Some.size c.in-Some.is))
 
 pub slice_bounds-put_table-end : goal.slice_bounds-put_table-end
 slice_bounds-put_table-end c =
     let rules : Rules = rules_in c.args.f c.args.bands.now c.args.coef.now in
     let draft : List ℕ = c.table.new.buf in
     let held : (size : ℕ) → c.table.result ≡ Some size → Drafted rules size draft = λ size. λ z. drafted c.args.f c.args.bands.now c.args.coef.now c.requires.frame.0 c.args.draft.now c.requires.room c.table.result draft c.table.ensures size z in
-    (held c.in-Ok.size c.in-Ok.is).held.fits
+    (held c.in-Some.size c.in-Some.is).held.fits
 
 pub slice_bounds-put_table-end-then-f-eq2 : goal.slice_bounds-put_table-end-then-f-eq2
 slice_bounds-put_table-end-then-f-eq2 c =
     let rules : Rules = rules_in c.args.f c.args.bands.now c.args.coef.now in
     let draft : List ℕ = c.table.new.buf in
     let held : (size : ℕ) → c.table.result ≡ Some size → Drafted rules size draft = λ size. λ z. drafted c.args.f c.args.bands.now c.args.coef.now c.requires.frame.0 c.args.draft.now c.requires.room c.table.result draft c.table.ensures size z in
-    sym (length-take-le c.in-Ok.size draft (held c.in-Ok.size c.in-Ok.is).held.fits)
+    sym (length-take-le c.in-Some.size draft (held c.in-Some.size c.in-Some.is).held.fits)
 
 pub put_table-next-requires : goal.put_table-next-requires
 put_table-next-requires c =
     let rules : Rules = rules_in c.args.f c.args.bands.now c.args.coef.now in
     let draft : List ℕ = c.table.new.buf in
     let held : (size : ℕ) → c.table.result ≡ Some size → Drafted rules size draft = λ size. λ z. drafted c.args.f c.args.bands.now c.args.coef.now c.requires.frame.0 c.args.draft.now c.requires.room c.table.result draft c.table.ensures size z in
-    (c.requires.frame.0, some-lies c.args.f c.args.bands.now c.args.coef.now c.requires.frame.0 (eq-eqb c.args.f.form 2 c.if-f-eq2.true) (held c.in-Ok.size c.in-Ok.is))
+    (c.requires.frame.0, some-lies c.args.f c.args.bands.now c.args.coef.now c.requires.frame.0 (eq-eqb c.args.f.form 2 c.if-f-eq2.true) (held c.in-Some.size c.in-Some.is))
 
 pub returns-then-f-eq2 : goal.returns-then-f-eq2
 returns-then-f-eq2 c =
     let rules : Rules = rules_in c.args.f c.args.bands.now c.args.coef.now in
     let draft : List ℕ = c.table.new.buf in
     let held : (size : ℕ) → c.table.result ≡ Some size → Drafted rules size draft = λ size. λ z. drafted c.args.f c.args.bands.now c.args.coef.now c.requires.frame.0 c.args.draft.now c.requires.room c.table.result draft c.table.ensures size z in
-    let d = held c.in-Ok.size c.in-Ok.is in
+    let d = held c.in-Some.size c.in-Some.is in
     let told = eq-eqb c.args.f.form 2 c.if-f-eq2.true in
     let lie = lies c.args.f c.args.bands.now c.args.coef.now c.requires.frame.0 told d in
     part-wrote rules c.args.buf.now c.args.at d.tree d.is (table_by c.args.f.form c.args.f.n true d.tree) (table-by rules true told d.tree)
@@ -80,20 +80,20 @@ slice_bounds-put_bytes-end c =
     let rules : Rules = rules_in c.args.f c.args.bands.now c.args.coef.now in
     let draft : List ℕ = c.table.new.buf in
     let held : (size : ℕ) → c.table.result ≡ Some size → Drafted rules size draft = λ size. λ z. drafted c.args.f c.args.bands.now c.args.coef.now c.requires.frame.0 c.args.draft.now c.requires.room c.table.result draft c.table.ensures size z in
-    (held c.in-Ok.size c.in-Ok.is).held.fits
+    (held c.in-Some.size c.in-Some.is).held.fits
 
 pub slice_bounds-put_bytes-end-2 : goal.slice_bounds-put_bytes-end-2
 slice_bounds-put_bytes-end-2 c =
     let rules : Rules = rules_in c.args.f c.args.bands.now c.args.coef.now in
     let draft : List ℕ = c.table.new.buf in
     let held : (size : ℕ) → c.table.result ≡ Some size → Drafted rules size draft = λ size. λ z. drafted c.args.f c.args.bands.now c.args.coef.now c.requires.frame.0 c.args.draft.now c.requires.room c.table.result draft c.table.ensures size z in
-    sym (length-take-le c.in-Ok.size draft (held c.in-Ok.size c.in-Ok.is).held.fits)
+    sym (length-take-le c.in-Some.size draft (held c.in-Some.size c.in-Some.is).held.fits)
 
 pub returns : goal.returns
 returns c =
     let rules : Rules = rules_in c.args.f c.args.bands.now c.args.coef.now in
     let draft : List ℕ = c.table.new.buf in
     let held : (size : ℕ) → c.table.result ≡ Some size → Drafted rules size draft = λ size. λ z. drafted c.args.f c.args.bands.now c.args.coef.now c.requires.frame.0 c.args.draft.now c.requires.room c.table.result draft c.table.ensures size z in
-    let d = held c.in-Ok.size c.in-Ok.is in
-    part-wrote rules c.args.buf.now c.args.at d.tree d.is (take c.in-Ok.size draft) (untold-is rules (ne_eqb c.args.f.form 2 c.if-f-eq2.false) d)
-    (sym (length-take-le c.in-Ok.size draft d.held.fits)) c.put_number-past_length.ensures c.put_bytes.ensures
+    let d = held c.in-Some.size c.in-Some.is in
+    part-wrote rules c.args.buf.now c.args.at d.tree d.is (take c.in-Some.size draft) (untold-is rules (ne_eqb c.args.f.form 2 c.if-f-eq2.false) d)
+    (sym (length-take-le c.in-Some.size draft d.held.fits)) c.put_number-past_length.ensures c.put_bytes.ensures

@@ -48,7 +48,7 @@ loop-i-preserved c =
     let wrote : let l = c.loop-i in Wrote (part_bytes (frames_rules c.args.f c.args.bands.now c.args.coef.now c.args.edges.now l.i)) l.buf l.place c.put_part-grown.result left = let l = c.loop-i in subst (λ (f : Frame). Wrote (part_bytes (rules_in f c.args.bands.now c.args.coef.now)) l.buf l.place c.put_part-grown.result left) c.frame_at-own.ensures c.put_part-grown.ensures in
     let goes_on : (next : ℕ) → c.put_part-grown.result ≡ Some next → let i = c.loop-i.i in Going c.args.buf.now c.args.at (frames_tables c.args.f c.args.bands.now c.args.coef.now c.args.edges.now c.args.m) (tables_from (frames_rules c.args.f c.args.bands.now c.args.coef.now c.args.edges.now) (c.args.m + 1 - (i + 1)) (i + 1)) next left = λ next. λ z. let l = c.loop-i in let a = c.args in parts_more (frames_rules a.f a.bands.now a.coef.now a.edges.now) a.m l.i a.buf.now a.at (frames_tables a.f a.bands.now a.coef.now a.edges.now a.m) l.place l.buf l.invariant.2 c.loop-i-test.true c.put_part-grown.result left wrote next z in
     let h = c.loop-i-test.true in
-    (omega arith, c.put_part-grown.auto.draft ∙ c.loop-i.invariant.1, goes_on c.in-Ok.next c.in-Ok.is)
+    (omega arith, c.put_part-grown.auto.draft ∙ c.loop-i.invariant.1, goes_on c.in-Some.next c.in-Some.is)
 
 pub shape_of-draft : goal.shape_of-draft
 shape_of-draft c = c.loop-i.invariant.1
