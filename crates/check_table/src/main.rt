@@ -7,11 +7,11 @@
 ghost use Rattle.std.specs.Prelude.{◌^◌, ◌<◌};
 
 use desk::{papers, tellings};
+use meaning::Refusal;
 use std::env::Env;
 use std::io::{Stderr, Stdout};
 use std::rt::Files;
 use tables::{checks, start_checks};
-use meaning::Refusal;
 
 fn tell(out: Stdout, verdict: Result<(), Refusal>) {
     match verdict {

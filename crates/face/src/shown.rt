@@ -6,7 +6,6 @@ ghost use Rattle.face.specs.Shown.{place_and_step, length_or_place};
 
 use meaning::Refusal;
 
-
 // The number of a verdict; out holds place and step.
 pub fn verdict(v: Result<(), Refusal>, out: &mut [u64; 2]) -> u64
     ensures number { result ≡ (verdict_shown v).number }
