@@ -1,6 +1,7 @@
 -- Lines worked out by hand from request 2026-09 and its readings: P in form 2 byte for byte, a band for each mode, which band a mode's equation has,
 -- and what is refused where.
 use Rattle.std.specs.Prelude.{ℕ, ◌≡◌, refl, Bool, true, false, List, [], ◌∷◌, ◌++◌, ℤ, pos, neg_ℤ, Ok, Err}
+use Rattle.meaning.specs.Answers.{verdict_in}
 use Rattle.meaning.specs.Refusals.{wrong_form, unfit, not_in_safe, narrow}
 use Rattle.meaning.specs.Files.{file_of, good}
 use Rattle.meaning.specs.Boxes.{Side, side}
@@ -37,14 +38,14 @@ unfolding computing
 alike = refl
 
 -- 5 has the mode as place and the dimension as step, behind leftover bytes and 4; the form of neither kind is 2
-refused : ((plant_read (file 3 4)).verdict ≡ Err (narrow 0 0)) × ((plant_read (file 4 3)).verdict ≡ Err (narrow 1 0))
-    × ((plant_read (file 3 3)).verdict ≡ Err (narrow 0 0)) × ((plant_read (file 4 3 ++ 0 ∷ [])).verdict ≡ Err (unfit 24))
-    × ((plant_read (3 ∷ [])).verdict ≡ Err wrong_form) × ((plant_read (0 ∷ [])).verdict ≡ Err wrong_form)
+refused : (verdict_in (plant_read (file 3 4)) ≡ Err (narrow 0 0)) × (verdict_in (plant_read (file 4 3)) ≡ Err (narrow 1 0))
+    × (verdict_in (plant_read (file 3 3)) ≡ Err (narrow 0 0)) × (verdict_in (plant_read (file 4 3 ++ 0 ∷ [])) ≡ Err (unfit 24))
+    × (verdict_in (plant_read (3 ∷ [])) ≡ Err wrong_form) × (verdict_in (plant_read (0 ∷ [])) ≡ Err wrong_form)
 unfolding computing
 refused = (refl, refl, refl, refl, refl, refl)
 
 -- S lo 200 is above R lo 195: 4, before the narrow band of mode 1; and mode 1's w hi below its w lo: 3 at its byte, as the rows' numbers are told
-before : ((plant_read (but 0x90 0x03 0x06)).verdict ≡ Err (not_in_safe 0)) × ((plant_read (but 0xFC 0x02 0x0B)).verdict ≡ Err (unfit 20))
+before : (verdict_in (plant_read (but 0x90 0x03 0x06)) ≡ Err (not_in_safe 0)) × (verdict_in (plant_read (but 0xFC 0x02 0x0B)) ≡ Err (unfit 20))
 unfolding computing
 before = (refl, refl)
 
@@ -55,7 +56,7 @@ rooms last =
     ∷ pos 0 ∷ pos 2 ∷ pos 0 ∷ pos 3 ∷ pos 1 ∷ pos 0 ∷ pos 0 ∷ pos 0 ∷ pos 1 ∷ pos 0
     ∷ pos 0 ∷ pos 4 ∷ pos 0 ∷ pos last ∷ pos 0 ∷ pos 1 ∷ pos 7 ∷ pos 1 ∷ pos 0 ∷ pos 8 ∷ []
 
-second : ((plant_read (file_of plant_form (rooms 1))).verdict ≡ Err (narrow 1 1)) × ((plant_read (file_of plant_form (rooms 2))).verdict ≡ Ok tt)
+second : (verdict_in (plant_read (file_of plant_form (rooms 1))) ≡ Err (narrow 1 1)) × (verdict_in (plant_read (file_of plant_form (rooms 2))) ≡ Ok tt)
     × (numbers_of (plant_of (rooms 2)) ≡ rooms 2)
 unfolding computing
 second = (refl, refl, refl)

@@ -1,7 +1,7 @@
 -- Lines worked out by hand from request 2026-08 and its readings: N up to 256, modes of two bytes in a table, states inside one, and the modes left of a
 -- running state, all of them read.
 use Rattle.std.specs.Prelude.{ℕ, zero, suc, ◌≡◌, refl, List, [], ◌∷◌, ◌++◌, ℤ, pos, neg_ℤ, Ok, Err}
-use Rattle.meaning.specs.Answers.{Answer}
+use Rattle.meaning.specs.Answers.{Answer, verdict_in}
 use Rattle.meaning.specs.declared.State.{State}
 use Rattle.meaning.specs.Refusals.{broken, unfit, bad_table, bad_state}
 use Rattle.meaning.specs.Files.{good, file_of}
@@ -23,8 +23,8 @@ abbrev valves : ℕ → ℕ → ℕ → List ℕ
 valves a b d = file_of plant_form (front 129 a b d ++ cool 128 ++ pos 9 ∷ pos 300 ∷ [])
 
 -- N 256 is `80 02`; 257 is 3 at N
-ranges : ((plant_read (file_of plant_form (front 256 190 230 1 ++ cool 256))).verdict ≡ Ok tt)
-    × ((plant_read (file_of plant_form (front 257 190 230 1 ++ cool 257))).verdict ≡ Err (unfit 2))
+ranges : (verdict_in (plant_read (file_of plant_form (front 256 190 230 1 ++ cool 256))) ≡ Ok tt)
+    × (verdict_in (plant_read (file_of plant_form (front 257 190 230 1 ++ cool 257))) ≡ Err (unfit 2))
 unfolding computing cool
 ranges = (refl, refl)
 

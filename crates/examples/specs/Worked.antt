@@ -4,7 +4,7 @@
 use Rattle.std.specs.Prelude.{ℕ, ◌≡◌, refl, Bool, true, false, List, [], ◌∷◌, ◌++◌, ℤ, pos, neg_ℤ, Float, Some, Ok, Err}
 use Rattle.std.specs.Float.{binary64}
 use Rattle.std.specs.Float.Ieee.{add, sub, of_bits}
-use Rattle.meaning.specs.Answers.{Verdict, Answer, Whole}
+use Rattle.meaning.specs.Answers.{Verdict, Answer, Whole, verdict_in}
 use Rattle.meaning.specs.declared.Sheet.{Sheet}
 use Rattle.meaning.specs.Refusals.{broken, unfit, narrow, outside, leaves, bad_result}
 use Rattle.meaning.specs.Files.{file_of}
@@ -37,12 +37,12 @@ unfolding computing
 line-10 = (refl, refl, refl, refl)
 
 -- line 12
-line-12 : ((plant_read []).verdict ≡ Err (broken 0)) × ((plant_read (file_of plant_form (plant_p 3))).verdict ≡ Err (narrow 0 0))
+line-12 : (verdict_in (plant_read []) ≡ Err (broken 0)) × (verdict_in (plant_read (file_of plant_form (plant_p 3))) ≡ Err (narrow 0 0))
 unfolding computing
 line-12 = (refl, refl)
 
 -- bytes left over are told before the narrow band
-leftover-first : (plant_read (file_of plant_form (plant_p 3) ++ 0 ∷ [])).verdict ≡ Err (unfit 22)
+leftover-first : verdict_in (plant_read (file_of plant_form (plant_p 3) ++ 0 ∷ [])) ≡ Err (unfit 22)
 unfolding computing
 leftover-first = refl
 
@@ -149,7 +149,7 @@ before-exchanges = refl
 -- offset is told; with water at 40 degrees that fits too.
 abbrev hot : ℕ → ℕ → Verdict
 hot p water =
-    (sheet_read (file_of sheet_form (house 10 8 (pos 0x3FC0_0000_0000_0000 ∷ pos 0 ∷ pos 0 ∷ pos 0x3FC0_0000_0000_0000 ∷ pos 0 ∷ pos 1 ∷ pos p ∷ pos water ∷ [])))).verdict
+    verdict_in (sheet_read (file_of sheet_form (house 10 8 (pos 0x3FC0_0000_0000_0000 ∷ pos 0 ∷ pos 0 ∷ pos 0x3FC0_0000_0000_0000 ∷ pos 0 ∷ pos 1 ∷ pos p ∷ pos water ∷ []))))
 
 one-mode-out : (hot 0x40A7_7000_0000_0000 0x412E_8480_0000_0000 ≡ Err (bad_result 28))
     × (hot 0x40A3_8800_0000_0000 0x412E_8480_0000_0000 ≡ Err (bad_result 29))

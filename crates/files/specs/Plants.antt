@@ -1,9 +1,8 @@
 -- A plant's file as the code reads it, what stands behind the beginning, and as it drafts it; and how many modes one says it has. Definitions alone.
 use Rattle.std.specs.Prelude.{ℕ, ◌≡◌, List, [], ◌∷◌, ℤ, Some, None}
 use Rattle.laws.specs.Lists as L
-use Rattle.meaning.specs.Answers.{Number}
+use Rattle.meaning.specs.Answers.{Number, PlantRead}
 use Rattle.meaning.specs.declared.Outline.{Outline}
-use Rattle.meaning.specs.declared.PlantRead.{PlantRead}
 use Rattle.meaning.specs.Numbers.{number_at}
 use Rattle.meaning.specs.Files.{Judged}
 use Rattle.meaning.specs.Plants.{most_modes, Plant, plant_from, plant_related, read_of, array_left}

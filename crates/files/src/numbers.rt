@@ -3,7 +3,6 @@ ghost use Rattle.std.specs.Prelude.{◌≡◌, [], ◌∷◌};
 ghost use Rattle.laws.specs.Writing.{Put};
 ghost use Rattle.meaning.specs.Numbers.{number_at, signed_at, bytes_of, stored};
 
-
 // The number at `at` and the place behind it; broken where it ends early, is over 5 bytes, or not shortest.
 pub fn number(s: &[u8], at: usize) -> Option<(usize, usize)>
     ensures { result ≡ number_at s.now at }

@@ -10,7 +10,7 @@ ghost use Rattle.files.specs.Plants.{modes_told, outline_in, Answered, body_of, 
 
 use crate::beginnings::Beginning;
 use crate::{arrays, beginnings, buffers, modes, numbers, refusals};
-use meaning::{MODES, Outline, PlantRead, Refusal};
+use meaning::{MODES, Outline, Refusal};
 
 // The writer's draft, ten bytes for each number, right or not: 6 in the header, 16 edges of four rooms, and for each mode 8 ends of bands and 20
 // coefficients. Most plants have few modes, and a draft of theirs is small.
@@ -36,27 +36,13 @@ pub fn modes_told(s: &[u8]) -> usize
     modes
 }
 
-// A refused plant: its outline is all zeros, and so is what was lent for its bands and coefficients.
-fn refused(e: Refusal, bands: &mut [i64], coef: &mut [i64]) -> PlantRead
+// A refused plant: what was lent for its bands and coefficients is all zeros.
+fn refused(e: Refusal, bands: &mut [i64], coef: &mut [i64]) -> Result<Outline, Refusal>
     ensures { Answered (bad e) bands.old coef.old bands.new coef.new result }
 {
     arrays::clear(bands);
     arrays::clear(coef);
-    PlantRead {
-        verdict: Err(e),
-        outline: Outline {
-            form: 0,
-            n: 0,
-            modes: 0,
-            q: 0,
-            k: 0,
-            d: 0,
-            rlo: [0i64; 4],
-            rhi: [0i64; 4],
-            slo: [0i64; 4],
-            shi: [0i64; 4],
-        },
-    }
+    Err(e)
 }
 
 // The outline of a plant that begins so.
@@ -89,7 +75,7 @@ fn read_body(
     at: usize,
     bands: &mut [i64],
     coef: &mut [i64],
-) -> PlantRead
+) -> Result<Outline, Refusal>
     requires fact_1 { Begun plant_forms most_modes s.now b at }
     requires fact_2 { related ≡ relation b }
     ensures { Answered (body_of s.now b at) bands.old coef.old bands.new coef.new result }
@@ -105,10 +91,7 @@ fn read_body(
             let told = read.related;
             match told {
                 Err(e) => refused(e, bands, coef),
-                Ok(()) => PlantRead {
-                    verdict: Ok(()),
-                    outline: outline(b),
-                },
+                Ok(()) => Ok(outline(b)),
             }
         }
     }
@@ -116,7 +99,7 @@ fn read_body(
 
 // A plant's file, judged in order: number, place and step of the first fault, or the plant. Its bands and coefficients are left in the arrays that are lent
 // for them, as far as there is room, so who lends none has the plant judged alone. Refused, the arrays are all zeros.
-pub fn read_plant(s: &[u8], bands: &mut [i64], coef: &mut [i64]) -> PlantRead
+pub fn read_plant(s: &[u8], bands: &mut [i64], coef: &mut [i64]) -> Result<Outline, Refusal>
     ensures answer { result ≡ plant_read s.now }
     ensures bands { bands.new ≡ bands_left s.now bands.old }
     ensures coef { coef.new ≡ coef_left s.now coef.old }
@@ -134,7 +117,7 @@ pub fn read_plant(s: &[u8], bands: &mut [i64], coef: &mut [i64]) -> PlantRead
 }
 
 // A plant's file, judged alone: its bands and coefficients are kept nowhere.
-pub fn judge_plant(s: &[u8]) -> PlantRead
+pub fn judge_plant(s: &[u8]) -> Result<Outline, Refusal>
     ensures { result ≡ plant_read s.now }
 {
     let mut bands = [0i64; 0];
@@ -191,20 +174,29 @@ fn put_plant(p: Outline, bands: &[i64], coef: &[i64], buf: &mut [u8]) -> usize
 }
 
 // A plant drafted in an array that holds its file, judged as that file, and left in the buffer.
-fn write_by(p: Outline, bands: &[i64], coef: &[i64], draft: &mut [u8], buf: &mut [u8]) -> Result<usize, Refusal>
+fn write_by(
+    p: Outline,
+    bands: &[i64],
+    coef: &[i64],
+    draft: &mut [u8],
+    buf: &mut [u8],
+) -> Result<usize, Refusal>
     requires { length (plant_draft (plant_from p bands.now coef.now)) ≤ length draft.old }
     ensures answer { result ≡ (plant_left (plant_from p bands.now coef.now) buf.old).answer }
     ensures bytes { buf.new ≡ (plant_left (plant_from p bands.now coef.now) buf.old).buffer }
 {
     let drafted = put_plant(p, bands, coef, draft);
     let file = &draft[..drafted];
-    let read = judge_plant(file);
-    let verdict = read.verdict;
-    buffers::leave(verdict, file, buf)
+    buffers::leave(judge_plant(file).map(|_| ()), file, buf)
 }
 
 // In a draft for any plant.
-fn write_many<'a>(p: Outline, bands: &'a [i64], coef: &'a [i64], buf: &mut [u8]) -> Result<usize, Refusal>
+fn write_many<'a>(
+    p: Outline,
+    bands: &'a [i64],
+    coef: &'a [i64],
+    buf: &mut [u8],
+) -> Result<usize, Refusal>
     ensures answer { result ≡ (plant_left (plant_from p bands.now coef.now) buf.old).answer }
     ensures bytes { buf.new ≡ (plant_left (plant_from p bands.now coef.now) buf.old).buffer }
 {
@@ -213,7 +205,12 @@ fn write_many<'a>(p: Outline, bands: &'a [i64], coef: &'a [i64], buf: &mut [u8])
 }
 
 // A plant as values, judged as the file it would be, then 10; what its bands or coefficients lack is 0. Finished, only the file's bytes are changed; refused, the buffer is all zeros.
-pub fn write_plant<'a>(p: Outline, bands: &'a [i64], coef: &'a [i64], buf: &mut [u8]) -> Result<usize, Refusal>
+pub fn write_plant<'a>(
+    p: Outline,
+    bands: &'a [i64],
+    coef: &'a [i64],
+    buf: &mut [u8],
+) -> Result<usize, Refusal>
     ensures answer { result ≡ (plant_left (plant_from p bands.now coef.now) buf.old).answer }
     ensures bytes { buf.new ≡ (plant_left (plant_from p bands.now coef.now) buf.old).buffer }
 {

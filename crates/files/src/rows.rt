@@ -30,7 +30,14 @@ fn next_column(n: usize, column: usize) -> usize
 }
 
 // `count` rows into the array from `from` on, as far as there is room; the place behind them in the file.
-pub fn read_rows(s: &[u8], at: usize, n: usize, count: usize, from: usize, coef: &mut [i64]) -> Result<usize, Refusal>
+pub fn read_rows(
+    s: &[u8],
+    at: usize,
+    n: usize,
+    count: usize,
+    from: usize,
+    coef: &mut [i64],
+) -> Result<usize, Refusal>
     requires { (n ≤ 4) × (from + count * (n + 1) ≤ most_coefs) }
     ensures { RowsTold s.now at n count from coef.old coef.new result }
 {

@@ -1,6 +1,8 @@
 -- What is answered, each under a name of its own: what was taken or done, or the refusal; or nothing, where whoever asked tells why.
-use Rattle.std.specs.Prelude.{ℕ, ℤ, Option, Result}
+use Rattle.std.specs.Prelude.{ℕ, ℤ, Option, Result, Ok, Err}
 use Rattle.meaning.specs.declared.Refusal.{Refusal}
+use Rattle.meaning.specs.declared.Outline.{Outline}
+use Rattle.meaning.specs.declared.Sheet.{Sheet}
 use Rattle.meaning.specs.declared.State.{State}
 use Rattle.meaning.specs.declared.StartState.{StartState}
 
@@ -15,6 +17,19 @@ Signed = Option (ℤ × ℕ)
 -- a file that was judged
 abbrev pub Verdict : Type 0
 Verdict = Result (Unit {0}) Refusal
+
+-- that of a file that was read, whatever it says
+abbrev pub verdict_in : {A : Type 0} → Result A Refusal → Verdict
+verdict_in (Ok a) = Ok tt
+verdict_in (Err e) = Err e
+
+-- a plant's reader: the plant but for its bands and coefficients, which are lent beside it
+abbrev pub PlantRead : Type 0
+PlantRead = Result Outline Refusal
+
+-- a sheet's reader
+abbrev pub SheetRead : Type 0
+SheetRead = Result Sheet Refusal
 
 -- what a writer did: the bytes written
 abbrev pub Written : Type 0

@@ -3,10 +3,10 @@
 use Rattle.std.specs.Prelude.{ℕ, zero, suc, ◌+◌, ◌*◌, Bool, ◌&&◌, cond, List, [], ◌∷◌, ◌++◌, map, leb, eqb, ℤ, pos, nat_abs, neg_ℤ, ◌-ℤ◌, length, replicate, Ok, Err}
 use Rattle.std.proofs.lemmas.List.Edits.{sets}
 use Rattle.std.specs.Int.Signed.{le_z}
+use Rattle.meaning.specs.Answers.{PlantRead}
 use Rattle.laws.specs.Guards.{guard}
 use Rattle.laws.specs.Lists.{at, tab, tabs, padded, all, first_false}
 use Rattle.meaning.specs.declared.Outline.{Outline}
-use Rattle.meaning.specs.declared.PlantRead.{PlantRead}
 use Rattle.meaning.specs.Refusals.{wrong_form, unfit, not_in_safe, narrow}
 use Rattle.meaning.specs.Files.{plain, signed, Form, end, field, Read, read, refused, values_of, Judged, good, bad, file_of, file_judged}
 use Rattle.meaning.specs.Buffers.{Left, left}
@@ -267,8 +267,8 @@ abbrev pub outline_of : Plant → Outline
 outline_of p = record { form = p.form; n = p.n; modes = p.modes; q = p.q; k = p.k; d = p.d; rlo = p.rlo; rhi = p.rhi; slo = p.slo; shi = p.shi }
 
 abbrev pub read_of : Judged Plant → PlantRead
-read_of (good p) = record { verdict = Ok tt; outline = outline_of p }
-read_of (bad r) = record { verdict = Err r; outline = outline_of (plant_of []) }
+read_of (good p) = Ok (outline_of p)
+read_of (bad r) = Err r
 
 abbrev pub plant_read : List ℕ → PlantRead
 plant_read s = read_of (plant_judged s)

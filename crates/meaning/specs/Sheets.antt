@@ -5,11 +5,10 @@ use Rattle.std.specs.Float.{nan, inf, fin, binary64}
 use Rattle.std.specs.Float.Ieee.{up, down, add, sub, mul, lt, of_bits, to_bits}
 use Rattle.laws.specs.Guards.{guard}
 use Rattle.laws.specs.Lists.{at, tab, tabs, padded, all, first_false}
-use Rattle.meaning.specs.Answers.{Whole}
+use Rattle.meaning.specs.Answers.{Whole, SheetRead}
 use Rattle.meaning.specs.declared.Emitter.{Emitter}
 use Rattle.meaning.specs.declared.Room.{Room}
 use Rattle.meaning.specs.declared.Sheet.{Sheet}
-use Rattle.meaning.specs.declared.SheetRead.{SheetRead}
 use Rattle.meaning.specs.Refusals.{bad_float, bad_result}
 use Rattle.meaning.specs.Files.{float, Form, end, field, Read, read, refused, values_of, file_of, Judged, good, bad, file_judged}
 use Rattle.meaning.specs.Boxes.{Side, sides_of}
@@ -316,8 +315,8 @@ sheet_judged s = sheet_related (values_of sheet_form s)
 
 -- what a sheet's reader answers; a refused one's sheet is all zeros
 abbrev pub sheet_read_of : Judged Sheet → SheetRead
-sheet_read_of (good h) = record { verdict = Ok tt; sheet = h }
-sheet_read_of (bad r) = record { verdict = Err r; sheet = sheet_of [] }
+sheet_read_of (good h) = Ok h
+sheet_read_of (bad r) = Err r
 
 abbrev pub sheet_read : List ℕ → SheetRead
 sheet_read s = sheet_read_of (sheet_judged s)

@@ -36,13 +36,6 @@ pub struct Outline {
     pub shi: [i64; 4],
 }
 
-// A plant's reader answers both: a refused one's outline is all zeros.
-#[derive(Clone, Copy)]
-pub struct PlantRead {
-    pub verdict: Result<(), Refusal>,
-    pub outline: Outline,
-}
-
 // A pattern tried on a box: it works, an image leaves S at that step, or the last one, of that step, is not in R.
 #[derive(Clone, Copy)]
 pub enum Tried {
@@ -98,12 +91,5 @@ pub struct Sheet {
     pub time: f64,
     pub outside: f64,
     pub rooms: [Room; 4],
-}
-
-// A sheet's reader answers both: a refused one's sheet is all zeros.
-#[derive(Clone, Copy)]
-pub struct SheetRead {
-    pub verdict: Result<(), Refusal>,
-    pub sheet: Sheet,
 }
 

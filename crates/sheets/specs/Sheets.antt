@@ -3,10 +3,9 @@
 use Rattle.std.specs.Prelude.{ℕ, ◌≡◌, refl, Bool, true, false, List, [], ◌∷◌, ◌++◌, map, ℤ, Float, Ok, Err}
 use Rattle.laws.specs.Guards.{guard}
 use Rattle.laws.specs.Lists.{tabs, all, first_false}
-use Rattle.meaning.specs.Answers.{Verdict}
+use Rattle.meaning.specs.Answers.{Verdict, SheetRead}
 use Rattle.meaning.specs.declared.Room.{Room}
 use Rattle.meaning.specs.declared.Sheet.{Sheet}
-use Rattle.meaning.specs.declared.SheetRead.{SheetRead}
 use Rattle.meaning.specs.Refusals.{not_in_safe, narrow}
 use Rattle.meaning.specs.Files.{Form, end, Read, read, refused, values_of, Judged, good, bad}
 use Rattle.meaning.specs.Boxes.{lies}

@@ -1,6 +1,6 @@
 -- `batch_read_plant`: the reader's verdict, shown, and the values of its plant. Assumes nothing.
 use mathlib.Core.Path.{ap, ◌∙◌}
-use Rattle.meaning.specs.declared.PlantRead.{PlantRead}
+use Rattle.meaning.specs.Answers.{PlantRead}
 use Rattle.batch.specs.Values.{plant_header, plant_edges}
 use Rattle.face.proofs.shown.Laws.{of-case}
 use Rattle.batch.proofs.batch_read_plant.Goals as goal

@@ -1,6 +1,6 @@
 -- `batch_read_sheet`: the reader's verdict, shown, and the values of its sheet. Assumes nothing.
 use mathlib.Core.Path.{ap, ◌∙◌}
-use Rattle.meaning.specs.declared.SheetRead.{SheetRead}
+use Rattle.meaning.specs.Answers.{SheetRead}
 use Rattle.batch.specs.Values.{kinds_of, all_floats_of, sheet_header, sheet_edges, sheet_times}
 use Rattle.face.proofs.shown.Laws.{of-case}
 use Rattle.batch.proofs.batch_read_sheet.Goals as goal

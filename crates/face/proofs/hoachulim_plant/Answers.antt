@@ -1,6 +1,6 @@
 -- `hoachulim_plant`: the reader's verdict, shown. Assumes nothing.
 use mathlib.Core.Path.{ap, ◌∙◌}
-use Rattle.meaning.specs.declared.PlantRead.{PlantRead}
+use Rattle.meaning.specs.Answers.{PlantRead}
 use Rattle.face.proofs.shown.Laws.{of-case}
 use Rattle.face.proofs.hoachulim_plant.Goals as goal
 

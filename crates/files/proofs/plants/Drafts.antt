@@ -8,9 +8,9 @@ use native.Mathlib.Omega.{arith}
 use native.Mathlib.Nat.{mul-le-mul}
 use lib.ListN.{length, take, drop, length-append, length-take, length-drop, take-append-drop}
 use lib.IntN.{ℤ}
+use Rattle.meaning.specs.Answers.{PlantRead}
 use Rattle.laws.specs.Lists.{at, tab, tabs}
 use Rattle.laws.specs.Tabs.{length-tab, length-tabs}
-use Rattle.meaning.specs.declared.PlantRead.{PlantRead}
 use Rattle.meaning.specs.Buffers.{left}
 use Rattle.meaning.specs.Files.{Form, end, file_of, Judged, good, bad}
 use Rattle.meaning.specs.Plants.{band_limit, edge_limit, entry_limit, offset_limit, limited, span, times, edges, bands, row, plant_forms, most_modes, own_bands, mode_form, modes_own, modes_alike, modes_form, plant_form, Plant, edges_of, band_of, mode_size, band_numbers, row_numbers, modes_numbers, numbers_of, plant_related, plant_judged, read_of, plant_read, plant_left}

@@ -10,9 +10,8 @@ use lib.ListN.{length, replicate}
 use lib.IntN.{ℤ, pos, nat_abs}
 use Rattle.laws.specs.Lists.{tab, tabs}
 use Rattle.laws.specs.Guards.{guard}
-use Rattle.meaning.specs.Answers.{Verdict}
+use Rattle.meaning.specs.Answers.{Verdict, PlantRead}
 use Rattle.meaning.specs.declared.Refusal.{Refusal}
-use Rattle.meaning.specs.declared.PlantRead.{PlantRead}
 use Rattle.meaning.specs.Refusals.{unfit}
 use Rattle.meaning.specs.Numbers.{number_at}
 use Rattle.meaning.specs.Files.{Taken, taken, none, Field, Form, end, field, read, refused, before, on_taken, taken_as, ended, values_at, values_of, Judged, good, bad}

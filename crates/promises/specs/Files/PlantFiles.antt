@@ -47,7 +47,7 @@ written_read p t buf m e = written-read-zeros p buf m e ∙ ap good (plant-back 
 -- so what a reader answers of it, and leaves in arrays that it is lent
 pub written-answered : (p : Plant) → Tidy p → (buf : List ℕ) (m : ℕ) → (plant_left p buf).answer ≡ Ok m → (bands coef : List ℤ)
     → let s = take m (plant_left p buf).buffer in
-    (plant_read s ≡ record { verdict = Ok tt; outline = outline_of p }) × (bands_left s bands ≡ sets bands 0 p.bands) × (coef_left s coef ≡ sets coef 0 p.coef)
+    (plant_read s ≡ Ok (outline_of p)) × (bands_left s bands ≡ sets bands 0 p.bands) × (coef_left s coef ≡ sets coef 0 p.coef)
 written-answered p t buf m e bands coef = let w = written_read p t buf m e in (rw w refl, rw w refl, rw w refl)
 
 -- ---- reader and writer refuse alike: what the reader says of the file that a plant would be, its writer says of the plant

@@ -1,6 +1,7 @@
 -- The numbers that page Told allows are each told of some input, so that no list there has a number too many. The checker computes each line, from document 01's
 -- plants P and P' and the sheet of its line 13, with one fault each. And where 5 is told: its place is the mode, its step the dimension (request 2026-09). Relies on crates/meaning alone for the answers.
 use Rattle.std.specs.Prelude.{ℕ, ◌≡◌, refl, List, [], ◌∷◌, ℤ, pos, neg_ℤ}
+use Rattle.meaning.specs.Answers.{verdict_in}
 use Rattle.laws.specs.Every as E
 use Rattle.laws.specs.Every.{Every}
 use Rattle.meaning.specs.declared.Sheet.{Sheet}
@@ -68,23 +69,23 @@ long = 0x8_0000_0000
 
 -- some input is told by the number
 pub record EachTold : Type 0 where
-  pub plant : Every (λ n. (s : List ℕ) × ((verdict_shown (plant_read s).verdict).number ≡ n)) plant_numbers
-  pub sheet : Every (λ n. (s : List ℕ) × ((verdict_shown (sheet_read s).verdict).number ≡ n)) sheet_numbers
+  pub plant : Every (λ n. (s : List ℕ) × ((verdict_shown (verdict_in (plant_read s))).number ≡ n)) plant_numbers
+  pub sheet : Every (λ n. (s : List ℕ) × ((verdict_shown (verdict_in (sheet_read s))).number ≡ n)) sheet_numbers
   pub sheet-maker : Every (λ n. (s buf : List ℕ) × ((written_shown (made_left s buf).answer).number ≡ n)) sheet_maker_numbers
   pub maker : Every (λ n. (s : List ℕ) × (form : ℕ) × (buf : List ℕ) × ((written_shown (maker_left s form buf).answer).number ≡ n)) maker_numbers
   pub plant-writer : Every (λ n. (p : Plant) × (buf : List ℕ) × ((written_shown (plant_left p buf).answer).number ≡ n)) plant_writer_numbers
   pub formed-writer : Every (λ n. (p : Plant) × (p.form ≡ 1) × (buf : List ℕ) × ((written_shown (plant_left p buf).answer).number ≡ n)) formed_writer_numbers
   pub sheet-writer : Every (λ n. (h : Sheet) × (buf : List ℕ) × ((written_shown (sheet_left h buf).answer).number ≡ n)) sheet_writer_numbers
   -- of a table, the plants being good
-  pub checker : Every (λ n. (p table : List ℕ) × ((verdict_shown (plant_read p).verdict).number ≡ 0) × ((verdict_shown (checked p table)).number ≡ n)) checker_numbers
+  pub checker : Every (λ n. (p table : List ℕ) × ((verdict_shown (verdict_in (plant_read p))).number ≡ 0) × ((verdict_shown (checked p table)).number ≡ n)) checker_numbers
   pub controller : Every (λ n. (table : List ℕ) × (st : State) × (x : List ℤ) × ((answer_shown (controlled P table st x)).number ≡ n)) controller_numbers
   -- 2: a good plant and a form that the maker does not know, before 9 and 10
   pub unknown-form : (written_shown (maker_left P 4 []).answer ≡ shows 2 0 0 []) × (written_shown (maker_left (plant_with 0 190 230 4) 0 []).answer ≡ shows 2 0 0 [])
   -- 5: line 12's plant; the second mode of a plant of form 2; the second dimension; a sheet
-  pub narrow-first : verdict_shown (plant_read (plant_with 1 190 230 3)).verdict ≡ shows 5 0 0 []
-  pub narrow-mode : verdict_shown (plant_read (own_with 4 3)).verdict ≡ shows 5 1 0 []
-  pub narrow-dimension : verdict_shown (plant_read (rooms_with 4 3)).verdict ≡ shows 5 0 1 []
-  pub narrow-sheet : verdict_shown (sheet_read (sheet_with 190 2 one eight)).verdict ≡ shows 5 0 0 []
+  pub narrow-first : verdict_shown (verdict_in (plant_read (plant_with 1 190 230 3))) ≡ shows 5 0 0 []
+  pub narrow-mode : verdict_shown (verdict_in (plant_read (own_with 4 3))) ≡ shows 5 1 0 []
+  pub narrow-dimension : verdict_shown (verdict_in (plant_read (rooms_with 4 3))) ≡ shows 5 0 1 []
+  pub narrow-sheet : verdict_shown (verdict_in (sheet_read (sheet_with 190 2 one eight))) ≡ shows 5 0 0 []
 
 pub each-told : EachTold
 unfolding computing E.Every

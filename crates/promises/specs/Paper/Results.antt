@@ -7,7 +7,7 @@ use Rattle.std.proofs.Math.Logic.Iff
 use Rattle.laws.specs.Guards.{guard}
 use Rattle.laws.specs.Lists.{all, first_false}
 use Rattle.laws.specs.Tests.{never}
-use Rattle.meaning.specs.Answers.{Whole, Verdict}
+use Rattle.meaning.specs.Answers.{Whole, Verdict, verdict_in}
 use Rattle.meaning.specs.declared.Refusal.{Refusal}
 use Rattle.meaning.specs.declared.Sheet.{Sheet}
 use Rattle.meaning.specs.Refusals.{whole_shown, verdict_shown, not_in_safe, narrow, bad_result}
@@ -59,10 +59,10 @@ first_out l k = Iff.trans (first-exactly is_near None l k) (
     out (Some v) e = never (sym e)
 
 -- the sheet's reader
-pub fourteen-shown : (sheet : List ℕ) (k : ℕ) → (verdict_shown (sheet_read sheet).verdict ≡ shows 14 k 0 []) ↔ BadResult sheet k
+pub fourteen-shown : (sheet : List ℕ) (k : ℕ) → (verdict_shown (verdict_in (sheet_read sheet)) ≡ shows 14 k 0 []) ↔ BadResult sheet k
 unfolding S.sheet_judged P.wide_modes
 fourteen-shown sheet k =
-    Iff.trans (verdict-exactly (sheet_read sheet).verdict (Err (bad_result k)) (sheet-some sheet) (refused-some (bad_result k) (λ q. omega arith))) (
+    Iff.trans (verdict-exactly (verdict_in (sheet_read sheet)) (Err (bad_result k)) (sheet-some sheet) (refused-some (bad_result k) (λ q. omega arith))) (
       λ e. there (values_of sheet_form sheet) refl e,
       λ b. back b,
     )
@@ -70,7 +70,7 @@ fourteen-shown sheet k =
     other : (e : Refusal) → (e.number ≡ 14 → ⊥) → ◌≡◌ {A = Verdict} (Err e) (Err (bad_result k)) → BadResult sheet k
     other e h a = let z : e ≡ bad_result k = cc in absurd (h (ap (λ (f : Refusal). f.number) z))
 
-    there : (t : Read (List ℤ)) → values_of sheet_form sheet ≡ t → (sheet_read_of (sheet_related t)).verdict ≡ Err (bad_result k) → BadResult sheet k
+    there : (t : Read (List ℤ)) → values_of sheet_form sheet ≡ t → verdict_in (sheet_read_of (sheet_related t)) ≡ Err (bad_result k) → BadResult sheet k
     there (refused e) q a = let z : e.number ≡ 14 = cc in absurd (not-told (sheet-values-told sheet e q) 14 refl z)
     there (read vs next) q a = go (all (lies (root_sheet h) (safe_sheet h))) refl (all (map (wide h.q) (bands_sheet h))) refl (all (map is_near (made_numbers h))) refl a
       where
@@ -81,9 +81,9 @@ fourteen-shown sheet k =
         at_place a = let z : bad_result (first_false (map is_near (made_numbers h))) ≡ bad_result k = cc in ap (λ (f : Refusal). f.place) z
 
         go : (a : Bool) → within (root_sheet h) (safe_sheet h) ≡ a → (b : Bool) → all (map (wide h.q) (bands_sheet h)) ≡ b → (c : Bool) → all (map is_near (made_numbers h)) ≡ c
-            → (sheet_read_of (guard a (bad (not_in_safe (first_false (lies (root_sheet h) (safe_sheet h))))) λ _.
+            → verdict_in (sheet_read_of (guard a (bad (not_in_safe (first_false (lies (root_sheet h) (safe_sheet h))))) λ _.
             guard b (bad (narrow 0 (first_false (map (wide h.q) (bands_sheet h))))) λ _.
-            guard c (bad (bad_result (first_false (map is_near (made_numbers h))))) λ _. good h)).verdict ≡ Err (bad_result k)
+            guard c (bad (bad_result (first_false (map is_near (made_numbers h))))) λ _. good h)) ≡ Err (bad_result k)
             → BadResult sheet k
         go false p b r c u e = other (not_in_safe (first_false (lies (root_sheet h) (safe_sheet h)))) (λ z. omega arith) e
         go true p false r c u e = other (narrow 0 (first_false (map (wide h.q) (bands_sheet h)))) (λ z. omega arith) e
@@ -91,7 +91,7 @@ fourteen-shown sheet k =
         go true p true r false u e =
             record { values = vs; next = next; was_read = q; root-safe = p; bands-wide = r; first = (first_out (made_numbers h) k).0 (u, at_place e) }
 
-    back : BadResult sheet k → (sheet_read sheet).verdict ≡ Err (bad_result k)
+    back : BadResult sheet k → verdict_in (sheet_read sheet) ≡ Err (bad_result k)
     back b =
         let w = (first_out (made_numbers (sheet_of b.values)) k).1 b.first in
         rw b.was_read (rw (b.root-safe, b.bands-wide, w.0, w.1) refl)

@@ -12,7 +12,7 @@ use Rattle.laws.specs.Guards.{guard}
 use Rattle.laws.specs.Lists.{at}
 use Rattle.laws.specs.Tabs.{length-tab}
 use Rattle.laws.specs.Tests.{never}
-use Rattle.meaning.specs.Answers.{Verdict, Written, Answer}
+use Rattle.meaning.specs.Answers.{Verdict, Written, Answer, verdict_in}
 use Rattle.meaning.specs.declared.Sheet.{Sheet}
 use Rattle.meaning.specs.declared.Refusal.{Refusal}
 use Rattle.meaning.specs.declared.State.{State}
@@ -220,26 +220,26 @@ told-some plant table numbers h e (of-table p q t) = not-told t 0 h
 pub checker-some : (plant table : List ℕ) (e : Refusal) → checked plant table ≡ Err e → Numbered e
 checker-some plant table e q = told-some plant table checker_numbers refl e (checker-told plant table e q)
 
-pub plant-shows : (plant : List ℕ) → Showing ((plant_read plant).verdict ≡ Ok tt) (Telling plant_numbers (length plant)) [] (verdict_shown (plant_read plant).verdict)
-plant-shows plant = verdict-shows (Telling plant_numbers (length plant)) (telling-some plant_numbers (length plant) refl) (plant_read plant).verdict (go (plant_judged plant) refl)
+pub plant-shows : (plant : List ℕ) → Showing (verdict_in (plant_read plant) ≡ Ok tt) (Telling plant_numbers (length plant)) [] (verdict_shown (verdict_in (plant_read plant)))
+plant-shows plant = verdict-shows (Telling plant_numbers (length plant)) (telling-some plant_numbers (length plant) refl) (verdict_in (plant_read plant)) (go (plant_judged plant) refl)
   where
-    go : (j : Judged Plant) → plant_judged plant ≡ j → (e : Refusal) → (read_of j).verdict ≡ Err e → Telling plant_numbers (length plant) e
+    go : (j : Judged Plant) → plant_judged plant ≡ j → (e : Refusal) → verdict_in (read_of j) ≡ Err e → Telling plant_numbers (length plant) e
     go (good p) q e a = never cc
     go (bad f) q e a = let z : f ≡ e = cc in plant-told plant e (rw z at q)
 
 -- a sheet that is refused by its reader is judged so
-sheet-refused : (sheet : List ℕ) (e : Refusal) → (sheet_read sheet).verdict ≡ Err e → SheetTelling sheet_numbers (length sheet) e
+sheet-refused : (sheet : List ℕ) (e : Refusal) → verdict_in (sheet_read sheet) ≡ Err e → SheetTelling sheet_numbers (length sheet) e
 sheet-refused sheet e = go (sheet_judged sheet) refl
   where
-    go : (j : Judged Sheet) → sheet_judged sheet ≡ j → (sheet_read_of j).verdict ≡ Err e → SheetTelling sheet_numbers (length sheet) e
+    go : (j : Judged Sheet) → sheet_judged sheet ≡ j → verdict_in (sheet_read_of j) ≡ Err e → SheetTelling sheet_numbers (length sheet) e
     go (good h) q a = never cc
     go (bad f) q a = let z : f ≡ e = cc in sheet-told sheet e (rw z at q)
 
-pub sheet-some : (sheet : List ℕ) (e : Refusal) → (sheet_read sheet).verdict ≡ Err e → Numbered e
+pub sheet-some : (sheet : List ℕ) (e : Refusal) → verdict_in (sheet_read sheet) ≡ Err e → Numbered e
 sheet-some sheet e q = telling-some sheet_numbers (length sheet) refl e (sheet-refused sheet e q)
 
-pub sheet-shows : (sheet : List ℕ) → Showing ((sheet_read sheet).verdict ≡ Ok tt) (SheetTelling sheet_numbers (length sheet)) [] (verdict_shown (sheet_read sheet).verdict)
-sheet-shows sheet = verdict-shows (SheetTelling sheet_numbers (length sheet)) (telling-some sheet_numbers (length sheet) refl) (sheet_read sheet).verdict (sheet-refused sheet)
+pub sheet-shows : (sheet : List ℕ) → Showing (verdict_in (sheet_read sheet) ≡ Ok tt) (SheetTelling sheet_numbers (length sheet)) [] (verdict_shown (verdict_in (sheet_read sheet)))
+sheet-shows sheet = verdict-shows (SheetTelling sheet_numbers (length sheet)) (telling-some sheet_numbers (length sheet) refl) (verdict_in (sheet_read sheet)) (sheet-refused sheet)
 
 pub sheet-maker-shows : (sheet buf : List ℕ)
     → Showing ((m : ℕ) × ((made_left sheet buf).answer ≡ Ok m)) (SheetTelling sheet_maker_numbers (length sheet)) [] (written_shown (made_left sheet buf).answer)

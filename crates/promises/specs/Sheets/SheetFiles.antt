@@ -3,9 +3,9 @@
 -- Where a file's bytes have to give a sheet's floats back, the floats are asked to be f64s (`HeldSheet`), as every float of a running program is.
 use Rattle.std.specs.Prelude.{ℕ, ◌≤◌, ◌<◌, ◌≡◌, List, length, take, Ok}
 use Rattle.std.proofs.Common.{sym, ap, ◌∙◌, subst}
+use Rattle.meaning.specs.Answers.{SheetRead}
 use Rattle.meaning.specs.declared.Refusal.{Refusal}
 use Rattle.meaning.specs.declared.Sheet.{Sheet}
-use Rattle.meaning.specs.declared.SheetRead.{SheetRead}
 use Rattle.meaning.specs.Refusals.{short}
 use Rattle.meaning.specs.Buffers.{refused_with}
 use Rattle.meaning.specs.Files.{values_of, good, bad, file_of}
@@ -34,21 +34,18 @@ judged-itself h h' f e =
     let g = good-sheet (judged_values sheet_form (sheet_values h) 0) h' (sym (judged-by-values h f) ∙ e) in
     ap sheet_of (sym (judged-back sheet_form (sheet_values h) 0 (sheet-shaped h f) g.was).0) ∙ g.sheet
 
-abbrev accepted : Sheet → SheetRead
-accepted h = record { verdict = Ok tt; sheet = h }
-
 -- of any sheet of f64s, what its arrays hold beyond n rooms is read back as zeros and rooms without an emitter
 pub written-read-zeros : (h : Sheet) → HeldSheet h → (buf : List ℕ) (m : ℕ) → (sheet_left h buf).answer ≡ Ok m
-    → sheet_read (take m (sheet_left h buf).buffer) ≡ accepted (sheet_of (sheet_values h))
+    → sheet_read (take m (sheet_left h buf).buffer) ≡ Ok (sheet_of (sheet_values h))
 unfolding sheet_left
 written-read-zeros h f buf m e =
     let w = was-written sheet_judged (sheet_file h) buf m e in
-    ap sheet_read w.2 ∙ ap sheet_read_of w.1 ∙ ap accepted (sym (judged-itself h w.0 f w.1))
+    ap sheet_read w.2 ∙ ap sheet_read_of w.1 ∙ ap Ok (sym (judged-itself h w.0 f w.1))
 
 -- and a sheet that holds just that there is read back as itself
 pub written_read : (h : Sheet) → HeldSheet h → TidySheet h → (buf : List ℕ) (m : ℕ) → (sheet_left h buf).answer ≡ Ok m
-    → sheet_read (take m (sheet_left h buf).buffer) ≡ accepted h
-written_read h f t buf m e = written-read-zeros h f buf m e ∙ ap accepted (sheet-back h t f)
+    → sheet_read (take m (sheet_left h buf).buffer) ≡ Ok h
+written_read h f t buf m e = written-read-zeros h f buf m e ∙ ap Ok (sheet-back h t f)
 
 -- ---- reader and writer refuse alike: what the reader says of the file that a sheet would be, its writer says of the sheet
 

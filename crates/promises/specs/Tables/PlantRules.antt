@@ -4,10 +4,10 @@
 use Rattle.std.specs.Prelude.{ℕ, ◌+◌, ◌≤◌, ◌≡◌, true, false, List, ◌++◌, length, ℤ, Ok, Err}
 use Rattle.std.proofs.Math.Path.{refl}
 use Rattle.std.proofs.Common.{ap, arith, length-append}
+use Rattle.meaning.specs.Answers.{PlantRead}
 use Rattle.laws.specs.Tabs.{length-tab}
 use Rattle.laws.specs.Tests.{never}
 use Rattle.meaning.specs.declared.Outline.{Outline}
-use Rattle.meaning.specs.declared.PlantRead.{PlantRead}
 use Rattle.meaning.specs.declared.Refusal.{Refusal}
 use Rattle.meaning.specs.declared.State.{State}
 use Rattle.meaning.specs.Boxes.{Side, side_at}
@@ -89,14 +89,14 @@ pub record Taken (j : Judged Plant) (o : Outline) : Type 0 where
 
 -- the reader's answer x says how the plant was judged
 module _ (j : Judged Plant) (x : PlantRead) (q : x ≡ read_of j) where
-  pub read-good : x.verdict ≡ Ok tt → Taken j x.outline
-  read-good h = go j q
+  pub read-good : (o : Outline) → x ≡ Ok o → Taken j o
+  read-good o h = go j q
     where
-      go : (j : Judged Plant) → x ≡ read_of j → Taken j x.outline
-      go (good p) e = record { plant = p; was = refl; outline = rw e refl }
+      go : (j : Judged Plant) → x ≡ read_of j → Taken j o
+      go (good p) e = let same : o ≡ outline_of p = cc in record { plant = p; was = refl; outline = same }
       go (bad r) e = never cc
 
-  pub read-bad : (e : Refusal) → x.verdict ≡ Err e → j ≡ bad e
+  pub read-bad : (e : Refusal) → x ≡ Err e → j ≡ bad e
   read-bad e h = go j q
     where
       go : (j : Judged Plant) → x ≡ read_of j → j ≡ bad e

@@ -8,13 +8,13 @@ use native.Mathlib.Nat.{mul-suc}
 use lib.ListN.{length, get_or, replicate, length-append}
 use lib.IntN.{ℤ}
 use lib.Ieee.{Float}
+use Rattle.meaning.specs.Answers.{SheetRead}
 use Rattle.laws.specs.Columns.{tab-tabs}
 use Rattle.laws.specs.Lists.{tab, tabs}
 use Rattle.laws.specs.Writing.{Put}
 use Rattle.meaning.specs.declared.Emitter.{Emitter}
 use Rattle.meaning.specs.declared.Room.{Room}
 use Rattle.meaning.specs.declared.Sheet.{Sheet}
-use Rattle.meaning.specs.declared.SheetRead.{SheetRead}
 use Rattle.meaning.specs.Numbers.{groups_of}
 use Rattle.meaning.specs.Buffers.{left}
 use Rattle.meaning.specs.Files.{low_first, Form, end, file_of, Judged, good, bad}

@@ -5,11 +5,11 @@ use Prim.Native.Nat.{ℕ}
 use mathlib.Core.Path.{◌≡◌, refl, sym, ap, ◌∙◌}
 use mathlib.Core.Bool.{true, false}
 use mathlib.Core.List.{List, map}
+use Rattle.meaning.specs.Answers.{SheetRead}
 use Rattle.laws.specs.Lists.{all}
 use Rattle.laws.specs.Tests.{never}
 use Rattle.meaning.specs.declared.Refusal.{Refusal}
 use Rattle.meaning.specs.declared.Sheet.{Sheet}
-use Rattle.meaning.specs.declared.SheetRead.{SheetRead}
 use Rattle.meaning.specs.Refusals.{bad_result}
 use Rattle.meaning.specs.Buffers.{refused_with}
 use Rattle.meaning.specs.Files.{Judged, good, bad, values_of}

@@ -8,11 +8,10 @@ use lib.ListN.{length}
 use lib.IntN.{ℤ}
 use lib.Ieee.{Float}
 use Rattle.laws.specs.Lists.{tabs}
-use Rattle.meaning.specs.Answers.{Verdict}
+use Rattle.meaning.specs.Answers.{Verdict, SheetRead}
 use Rattle.meaning.specs.declared.Refusal.{Refusal}
 use Rattle.meaning.specs.declared.Room.{Room}
 use Rattle.meaning.specs.declared.Sheet.{Sheet}
-use Rattle.meaning.specs.declared.SheetRead.{SheetRead}
 use Rattle.meaning.specs.Refusals.{unfit}
 use Rattle.meaning.specs.Files.{Form, end, read, refused, values_at, good, bad}
 use Rattle.meaning.specs.Plants.{times, related}

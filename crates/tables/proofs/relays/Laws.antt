@@ -9,8 +9,8 @@ use mathlib.Core.List.{List}
 use borrow.Author.Tests.{eqb-true, eq-eqb, ne_eqb}
 use lib.Dec.{eqb}
 use lib.ListN.{length}
+use Rattle.meaning.specs.Answers.{PlantRead}
 use Rattle.laws.specs.Tests.{never, first, second}
-use Rattle.meaning.specs.declared.PlantRead.{PlantRead}
 use Rattle.meaning.specs.declared.Refusal.{Refusal}
 use Rattle.meaning.specs.Buffers.{refused_with, left}
 use Rattle.meaning.specs.Files.{Judged, good, bad}
