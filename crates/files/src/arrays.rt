@@ -15,19 +15,12 @@ pub fn store(values: &mut [i64], at: usize, v: i64)
 pub fn number(values: &[i64], i: usize) -> i64
     ensures { result ≡ L.at values.now i }
 {
-    if i < values.len() {
-        return values[i];
-    }
-    0
+    values.get(i).copied().unwrap_or(0)
 }
 
 // Zeros the whole array, as a refused read does.
 pub fn clear(values: &mut [i64])
     ensures { values.new ≡ replicate (length values.old) (pos 0) }
 {
-    let mut i: usize = 0;
-    while i < values.len() {
-        values[i] = 0;
-        i += 1;
-    }
+    values.fill(0);
 }

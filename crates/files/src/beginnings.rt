@@ -157,12 +157,6 @@ pub fn put_beginning(buf: &mut [u8], b: Beginning) -> usize
     if 4 < n {
         return past_header;
     }
-    let rlo = b.rlo;
-    let rhi = b.rhi;
-    let slo = b.slo;
-    let shi = b.shi;
-    let past_edges = bounds::put_edges(buf, past_header, n, rlo, rhi, slo, shi);
-    let wlo = b.wlo;
-    let whi = b.whi;
-    bounds::put_bands(buf, past_edges, n, wlo, whi)
+    let past_edges = bounds::put_edges(buf, past_header, n, b.rlo, b.rhi, b.slo, b.shi);
+    bounds::put_bands(buf, past_edges, n, b.wlo, b.whi)
 }

@@ -117,17 +117,12 @@ pub fn first_out(n: usize, alo: [i64; 4], ahi: [i64; 4], blo: [i64; 4], bhi: [i6
     requires { n ≤ 4 }
     ensures { result ≡ first_false (lies (sides_of n alo ahi) (sides_of n blo bhi)) }
 {
-    let mut i: usize = 0;
-    while i < n {
-        if alo[i] < blo[i] {
+    for i in 0..n {
+        if alo[i] < blo[i] || bhi[i] < ahi[i] {
             return i;
         }
-        if bhi[i] < ahi[i] {
-            return i;
-        }
-        i += 1;
     }
-    i
+    n
 }
 
 // The first dimension whose band is narrower than q - 1; n where none is.
@@ -138,14 +133,12 @@ pub fn first_narrow(n: usize, q: usize, wlo: [i64; 4], whi: [i64; 4]) -> usize
     ensures { result ≡ first_false (map (wide q) (sides_of n wlo whi)) }
 {
     let need = q as i64 - 1;
-    let mut i: usize = 0;
-    while i < n {
+    for i in 0..n {
         if whi[i] - wlo[i] < need {
             return i;
         }
-        i += 1;
     }
-    i
+    n
 }
 
 // R and S of n dimensions from `at` on, as far as there is room; the place behind them.
@@ -163,13 +156,11 @@ pub fn put_edges(
     ensures { Put buf.old at (signed_bytes (tabs (edges_of rlo rhi slo shi) n 0)) result buf.new }
 {
     let mut p = at;
-    let mut i: usize = 0;
-    while i < n {
+    for i in 0..n {
         p = numbers::put_signed(buf, p, rlo[i]);
         p = numbers::put_signed(buf, p, rhi[i]);
         p = numbers::put_signed(buf, p, slo[i]);
         p = numbers::put_signed(buf, p, shi[i]);
-        i += 1;
     }
     p
 }
@@ -181,11 +172,9 @@ pub fn put_bands(buf: &mut [u8], at: usize, n: usize, wlo: [i64; 4], whi: [i64; 
     ensures { Put buf.old at (signed_bytes (tabs (band_of wlo whi) n 0)) result buf.new }
 {
     let mut p = at;
-    let mut i: usize = 0;
-    while i < n {
+    for i in 0..n {
         p = numbers::put_signed(buf, p, wlo[i]);
         p = numbers::put_signed(buf, p, whi[i]);
-        i += 1;
     }
     p
 }

@@ -14,11 +14,7 @@ use meaning::Refusal;
 pub fn clear(buf: &mut [u8])
     ensures { buf.new ≡ replicate (length buf.old) 0 }
 {
-    let mut i: usize = 0;
-    while i < buf.len() {
-        buf[i] = 0;
-        i += 1;
-    }
+    buf.fill(0);
 }
 
 // A refused write.
@@ -34,12 +30,7 @@ fn copy(file: &[u8], buf: &mut [u8])
     requires { length file.now ≤ length buf.old }
     ensures { buf.new ≡ sets buf.old 0 file.now }
 {
-    let mut i: usize = 0;
-    while i < file.len() {
-        let byte = file[i];
-        buf[i] = byte;
-        i += 1;
-    }
+    buf[..file.len()].copy_from_slice(file);
 }
 
 // Some bytes at `at`, as far as there is room; the place behind them, or one past the buffer's end where there is not room for all.

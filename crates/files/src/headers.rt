@@ -21,10 +21,7 @@ pub struct Header {
 fn unknown(forms: usize, form: usize) -> bool
     ensures { result ≡ not (from 1 forms form) }
 {
-    if form == 0 {
-        return true;
-    }
-    forms < form
+    form == 0 || forms < form
 }
 
 pub fn read_header(s: &[u8], forms: usize, most: usize) -> Result<(Header, usize), Refusal>

@@ -34,13 +34,9 @@ fn lay(n: usize, u: usize, wlo: [i64; 4], whi: [i64; 4], bands: &mut [i64])
     ensures { bands.new ≡ sets bands.old (2 * n * u) (tabs (band_of wlo whi) n 0) }
 {
     let from = 2 * n * u;
-    let mut i: usize = 0;
-    while i < n {
-        let lo = wlo[i];
-        let hi = whi[i];
-        arrays::store(bands, from + 2 * i, lo);
-        arrays::store(bands, from + 2 * i + 1, hi);
-        i += 1;
+    for i in 0..n {
+        arrays::store(bands, from + 2 * i, wlo[i]);
+        arrays::store(bands, from + 2 * i + 1, whi[i]);
     }
 }
 
@@ -49,13 +45,11 @@ fn lay_alike(n: usize, modes: usize, wlo: [i64; 4], whi: [i64; 4], bands: &mut [
     requires { (n ≤ 4) × (modes ≤ most_modes) }
     ensures { bands.new ≡ sets bands.old 0 (ends_alike n wlo whi modes) }
 {
-    let mut u: usize = 0;
-    while u < modes {
+    for u in 0..modes {
         if bands.len() <= 2 * n * u {
             return;
         }
         lay(n, u, wlo, whi, bands);
-        u += 1;
     }
 }
 
@@ -213,11 +207,9 @@ pub fn put_modes(
         return rows::put_some(buf, at, coef, 0, size * modes);
     }
     let mut p = rows::put_some(buf, at, coef, 0, size);
-    let mut u: usize = 1;
-    while u < modes {
+    for u in 1..modes {
         p = rows::put_some(buf, p, bands, 2 * n * u, 2 * n);
         p = rows::put_some(buf, p, coef, size * u, size);
-        u += 1;
     }
     p
 }

@@ -68,14 +68,9 @@ pub fn put_number(buf: &mut [u8], at: usize, v: usize) -> usize
 {
     let mut p = at;
     let mut x = v;
-    let mut k: usize = 0;
-    while k < 9 {
-        if x < 128 {
-            return put_byte(buf, p, x as u8);
-        }
+    while 128 <= x {
         p = put_byte(buf, p, (x % 128 + 128) as u8);
         x /= 128;
-        k += 1;
     }
     put_byte(buf, p, x as u8)
 }

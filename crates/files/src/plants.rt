@@ -130,11 +130,12 @@ fn ends(bands: &[i64], from: usize) -> [i64; 4]
     requires { from ≤ 1 }
     ensures { result ≡ L.at bands.now from ∷ L.at bands.now (from + 2) ∷ L.at bands.now (from + 4) ∷ L.at bands.now (from + 6) ∷ [] }
 {
-    let a = arrays::number(bands, from);
-    let b = arrays::number(bands, from + 2);
-    let c = arrays::number(bands, from + 4);
-    let d = arrays::number(bands, from + 6);
-    [a, b, c, d]
+    [
+        arrays::number(bands, from),
+        arrays::number(bands, from + 2),
+        arrays::number(bands, from + 4),
+        arrays::number(bands, from + 6),
+    ]
 }
 
 // The file that the values would be, as far as there is room; the place behind it. Where n or N is out of range what follows is left out: the header is refused first.

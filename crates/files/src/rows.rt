@@ -64,11 +64,8 @@ pub fn put_some(buf: &mut [u8], at: usize, values: &[i64], from: usize, count: u
     ensures { Put buf.old at (signed_bytes (tab (Lists.at values.now) count from)) result buf.new }
 {
     let mut p = at;
-    let mut c: usize = 0;
-    while c < count {
-        let v = arrays::number(values, from + c);
-        p = numbers::put_signed(buf, p, v);
-        c += 1;
+    for i in from..from + count {
+        p = numbers::put_signed(buf, p, arrays::number(values, i));
     }
     p
 }

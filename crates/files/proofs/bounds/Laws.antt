@@ -187,12 +187,12 @@ unfolding broad
 wide-tab q wlo whi n = map-tab (wide q) (side_at wlo whi) n 0
 
 -- the machine's q − 1 and w hi − w lo
-pub need-fits : (q : ℕ) → q ≤ 10000 → SFits w64 (to_z w64 q -ℤ pos 1)
+need-fits : (q : ℕ) → q ≤ 10000 → SFits w64 (to_z w64 q -ℤ pos 1)
 need-fits q h =
     let e : to_z w64 q ≡ pos q = to_z_pos w64 (omega arith) in
     rw e (omega (zarith, abs-sub (pos q) (pos 1)))
 
-pub width_fits : (lo hi : ℤ) → nat_abs lo ≤ band_limit → nat_abs hi ≤ band_limit → SFits w64 (hi -ℤ lo)
+width_fits : (lo hi : ℤ) → nat_abs lo ≤ band_limit → nat_abs hi ≤ band_limit → SFits w64 (hi -ℤ lo)
 width_fits lo hi h l = omega (zarith, abs-sub hi lo)
 
 module _ (q : ℕ) (wlo whi : List ℤ) (i : ℕ) (h : q ≤ 10000) (l : nat_abs (at wlo i) ≤ band_limit) (g : nat_abs (at whi i) ≤ band_limit) where

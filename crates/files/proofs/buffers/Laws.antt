@@ -17,7 +17,7 @@ module _ (buf : List ℕ) (at : ℕ) (inside : at ≤ length buf) where
   whole : behind ≡ drop at buf
   whole = take_all (length buf - at) (drop at buf) (omega (arith, length-drop at buf))
 
-  pub long : length behind ≡ length buf - at
+  long : length behind ≡ length buf - at
   long = ap length whole ∙ length-drop at buf
 
   -- all of it fits

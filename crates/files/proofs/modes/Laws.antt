@@ -9,7 +9,7 @@ use native.Mathlib.Omega.{arith}
 use native.Mathlib.Decide.{dec_lt}
 use native.Mathlib.Nat.{mul-le-mul, le_refl, zero-add}
 use native.Mathlib.Numerals.{add-one}
-use lib.ListN.{length, set, length-append, length-map, length-set}
+use lib.ListN.{length, set, length-append, length-map}
 use lib.Seq.{sets, length-sets}
 use borrow.Author.Tests.{lt-ltb, le-ltb}
 use lib.IntN.{ℤ, pos}
@@ -23,18 +23,14 @@ use Rattle.meaning.specs.Answers.{Verdict}
 use Rattle.meaning.specs.Refusals.{narrow}
 use Rattle.meaning.specs.Files.{good, bad}
 use Rattle.meaning.specs.Boxes.{Side, side_at, sides_of}
-use Rattle.meaning.specs.Plants.{most_modes, most_bands, most_coefs, band_of, band_numbers, band_start, band_side, wide, wide_modes}
+use Rattle.meaning.specs.Plants.{most_modes, most_coefs, band_of, band_numbers, band_start, band_side, wide, wide_modes}
 use Rattle.promises.specs.Files.Related.{modes-pass}
 use Rattle.files.specs.Beginnings.{verdict_of}
 use Rattle.files.specs.Modes.{ends_alike, Numbers, Stored, bands_from, after_mode}
 
 -- ---- sizes
 
--- the bands of mode u end within the array
-pub ends-few : (n u : ℕ) → n ≤ 4 → u < most_modes → 2 * n * (u + 1) ≤ most_bands
-ends-few n u few h = let a : n * suc u ≤ 4 * most_modes = mul-le-mul few h in omega arith
-
--- and its rows
+-- the rows of mode u end within the array
 pub rows_few : (n u : ℕ) → n ≤ 4 → u < most_modes → n * (n + 1) * (u + 1) ≤ most_coefs
 rows_few n u few h =
     let c : n + 1 ≤ 5 = omega arith in
@@ -42,22 +38,15 @@ rows_few n u few h =
     let b : n * (n + 1) * suc u ≤ 20 * most_modes = mul-le-mul a h in
     omega arith
 
--- of one mode, and of all
+-- of one mode
 pub size_few : (n : ℕ) → n ≤ 4 → n * (n + 1) ≤ 20
 size_few n few = let c : n + 1 ≤ 5 = omega arith in let a : n * (n + 1) ≤ 4 * 5 = mul-le-mul few c in omega arith
-
-pub all-few : (n modes : ℕ) → n ≤ 4 → modes ≤ most_modes → n * (n + 1) * modes ≤ most_coefs
-all-few n modes few many = let a = mul-le-mul (size_few n few) many in omega arith
 
 -- ---- laid: i dimensions are done, and whoever lays the others has laid all
 
 module _ (n u : ℕ) (wlo whi bands₀ : List ℤ) where
   pub record LaidTo (i : ℕ) (bands : List ℤ) : Type 0 where
-    pub long : length bands ≡ length bands₀
     pub rest : sets bands (2 * n * u + 2 * i) (tabs (band_of wlo whi) (n - i) i) ≡ sets bands₀ (2 * n * u) (tabs (band_of wlo whi) n 0)
-
-  pub laid_none : LaidTo 0 bands₀
-  laid_none = record { long = refl; rest = let z : 2 * n * u + 2 * 0 ≡ 2 * n * u = omega arith in let o : n - 0 ≡ n = omega arith in rw (z, o) refl }
 
   module _ {i : ℕ} {bands : List ℤ} (w : LaidTo i bands) where
     pub laid_more : i < n → LaidTo (i + 1) (set (set bands (2 * n * u + 2 * i) (at wlo i)) (2 * n * u + 2 * i + 1) (at whi i))
@@ -67,7 +56,6 @@ module _ (n u : ℕ) (wlo whi bands₀ : List ℤ) where
         let d : 2 * n * u + 2 * (i + 1) ≡ suc (suc from) = omega arith in
         let e : from + 1 ≡ suc from = add-one from in
         record {
-          long = length-set (set bands from (at wlo i)) (from + 1) (at whi i) ∙ length-set bands from (at wlo i) ∙ w.long;
           rest = rw (d, e) (ap (λ (vs : List ℤ). sets bands from vs) (sym (tabs-step (band_of wlo whi) n i h)) ∙ w.rest);
         }
 
@@ -83,11 +71,7 @@ module _ (n modes : ℕ) (wlo whi bands₀ : List ℤ) where
   one = λ _. tabs (band_of wlo whi) n 0
 
   pub record AlikeTo (u : ℕ) (bands : List ℤ) : Type 0 where
-    pub long : length bands ≡ length bands₀
     pub rest : sets bands (2 * n * u) (tabs one (modes - u) u) ≡ sets bands₀ 0 (ends_alike n wlo whi modes)
-
-  pub alike-none : AlikeTo 0 bands₀
-  alike-none = record { long = refl; rest = let z : 2 * n * 0 ≡ 0 = omega arith in let o : modes - 0 ≡ modes = omega arith in rw (z, o) refl }
 
   module _ {u : ℕ} {bands : List ℤ} (w : AlikeTo u bands) where
     pub alike-more : {more : List ℤ} → u < modes → more ≡ sets bands (2 * n * u) (tabs (band_of wlo whi) n 0) → AlikeTo (u + 1) more
@@ -95,7 +79,6 @@ module _ (n modes : ℕ) (wlo whi bands₀ : List ℤ) where
         let others = tabs one (modes - (u + 1)) (u + 1) in
         let d : 2 * n * (u + 1) ≡ 2 * n * u + length (tabs (band_of wlo whi) n 0) = omega (arith, bands-long n wlo whi) in
         record {
-          long = ap length e ∙ length-sets bands (2 * n * u) (tabs (band_of wlo whi) n 0) ∙ w.long;
           rest = rw (d, e) (sym (sets-append (tabs (band_of wlo whi) n 0) others bands (2 * n * u)) ∙ ap (λ (vs : List ℤ). sets bands (2 * n * u) vs) (sym (tabs-step one modes u h)) ∙ w.rest);
         }
 

@@ -17,7 +17,7 @@ use Rattle.laws.specs.Integers.{zarith, sub}
 use mir.Syntax.{w64}
 use mir.Val.{SFits, to_z, of_z}
 use mir.Facts.{to_z_pos, to_z-of_z}
-use Rattle.meaning.specs.Numbers.{groups_at, last_group, groups_of, stored, as_signed}
+use Rattle.meaning.specs.Numbers.{groups_at, last_group, groups_of, bytes_of, stored, as_signed}
 
 -- ---- the reader: one law for each way out of a turn, after k of at most 5 bytes. The weight of group k is 2 ^ (7 * k)
 pub weight-le : (k w : ℕ) → w ≡ 2 ^ (7 * k) → k < 5 → w ≤ 2 ^ 28
@@ -79,28 +79,23 @@ odd-half v next h n =
     rw (to_z-of_z (odd-fits v h), half-fits v h, below-zero (v / 2))
     (simp (ne_eqb _ _ n))
 
--- ---- the writer, after k of at most 9 groups with more behind them
+-- ---- the writer: the last group, and one with more behind it. Which bound there is on the groups makes no difference while there are enough
 
-pub fewer-bits : (k x : ℕ) → k < 9 → x < 2 ^ (7 * (10 - k)) → x / 128 < 2 ^ (7 * (10 - (k + 1)))
-fewer-bits k x h l =
-    let q : 7 * (10 - k) ≡ 7 * (10 - (k + 1)) + 7 = omega arith in
-    let m : x < 2 ^ (7 * (10 - (k + 1))) * 2 ^ 7 = rw (q, pow-add 2 (7 * (10 - (k + 1))) 7) at l in
-    omega arith
-
-pub last-bits : (k x : ℕ) → 9 ≤ k → x < 2 ^ (7 * (10 - k)) → x < 128
-last-bits k x h l = let m : 2 ^ (7 * (10 - k)) ≤ 2 ^ 7 = pow_mono {i = 7 * (10 - k)} {j = 7} (omega arith) in omega arith
-
-pub small-group : (k x : ℕ) → k < 9 → x < 128 → groups_of (9 - k) x ≡ x ∷ []
+enough : (f x : ℕ) → x < 2 ^ (7 * (f + 1)) → groups_of (suc f) x ≡ groups_of f x
 unfolding groups_of
-small-group k x h l = let q : 9 - k ≡ suc (9 - (k + 1)) = omega arith in rw q (simp (lt-ltb _ _ l))
+enough zero x h = simp (lt-ltb x 128 (omega arith))
+enough (suc f) x h =
+    let q : 7 * (suc f + 1) ≡ 7 * (f + 1) + 7 = omega arith in
+    let m : x < 2 ^ (7 * (f + 1)) * 2 ^ 7 = rw (q, pow-add 2 (7 * (f + 1)) 7) at h in
+    rw (enough f (x / 128) (omega arith)) refl
 
-pub last-of-all : (k x : ℕ) → 9 ≤ k → groups_of (9 - k) x ≡ x ∷ []
+pub last-byte : (x : ℕ) → x < 128 → bytes_of x ≡ x ∷ []
 unfolding groups_of
-last-of-all k x h = let q : 9 - k ≡ 0 = omega arith in rw q refl
+last-byte x h = simp (lt-ltb _ _ h)
 
-pub more-groups : (k x : ℕ) → k < 9 → 128 ≤ x → groups_of (9 - k) x ≡ (x % 128 + 128) ∷ groups_of (9 - (k + 1)) (x / 128)
+pub more-bytes : (x : ℕ) → 128 ≤ x → x < 2 ^ 64 → bytes_of x ≡ (x % 128 + 128) ∷ bytes_of (x / 128)
 unfolding groups_of
-more-groups k x h l = let q : 9 - k ≡ suc (9 - (k + 1)) = omega arith in rw q (simp (le-ltb _ _ l))
+more-bytes x h l = simp (le-ltb _ _ h, enough 8 (x / 128) (omega arith))
 
 -- ---- a signed number's stored form, as the machine makes it
 

@@ -8,6 +8,7 @@ use lib.ListN.{length, set, length-append}
 use lib.Seq.{sets}
 use lib.IntN.{ℤ, pos, neg_ℤ}
 use Rattle.laws.specs.Lists.{at, tab}
+use Rattle.laws.specs.Tabs.{tab-step, tab-done}
 use Rattle.laws.specs.Writing.{sets-append}
 use Rattle.meaning.specs.Files.{Form, refused, values_at}
 use Rattle.meaning.specs.Plants.{limited, times, row}
@@ -83,11 +84,10 @@ module _ {s : List ℕ} {start n : ℕ} (rows : ℕ) {from c column p : ℕ} {co
 
 -- ---- written: one number more, or none
 
-pub some-step : (l : List ℤ) (from count c : ℕ) → c < count
-    → signed_bytes (tab (at l) (count - c) (from + c)) ≡ bytes_of (stored (at l (from + c))) ++ signed_bytes (tab (at l) (count - (c + 1)) (from + (c + 1)))
-unfolding signed_bytes tab
-some-step l from count c h = let q : count - c ≡ suc (count - (c + 1)) = omega arith in let e : from + c + 1 ≡ from + (c + 1) = omega arith in rw (q, e) refl
+pub some-step : (l : List ℤ) (n i : ℕ) → i < n → signed_bytes (tab (at l) (n - i) i) ≡ bytes_of (stored (at l i)) ++ signed_bytes (tab (at l) (n - (i + 1)) (i + 1))
+unfolding signed_bytes
+some-step l n i h = ap signed_bytes (tab-step (at l) n i h)
 
-pub some-over : (l : List ℤ) (from count c : ℕ) → count ≤ c → signed_bytes (tab (at l) (count - c) (from + c)) ≡ []
-unfolding signed_bytes tab
-some-over l from count c h = let q : count - c ≡ 0 = omega arith in rw q refl
+pub some-over : (l : List ℤ) (n i : ℕ) → n ≤ i → signed_bytes (tab (at l) (n - i) i) ≡ []
+unfolding signed_bytes
+some-over l n i h = ap signed_bytes (tab-done (at l) n i h)

@@ -1,5 +1,5 @@
 -- `bounds::put_edges`: what is left to write is the definition's rest. Assumes nothing.
-use Prim.Native.Nat.{◌-◌, ◌≤◌}
+use Prim.Native.Nat.{◌-◌}
 use Rattle.laws.specs.Lists.{tabs}
 use Rattle.meaning.specs.Plants.{edges_of}
 use Rattle.laws.specs.Writing.{Under}
@@ -7,7 +7,4 @@ use Rattle.files.specs.Signed.{signed_bytes}
 use Rattle.files.proofs.bounds.put_edges.Given as goal
 
 abbrev pub invariant-loop-i : goal.invariant-loop-i
-invariant-loop-i l = (l.i ≤ l.n) × Under l.initial.buf l.at (signed_bytes (tabs (edges_of l.rlo l.rhi l.slo l.shi) l.n 0)) (signed_bytes (tabs (edges_of l.rlo l.rhi l.slo l.shi) (l.n - l.i) l.i)) l.p l.buf
-
-abbrev pub decreases-loop-i : goal.decreases-loop-i
-decreases-loop-i l = l.n - l.i
+invariant-loop-i l = Under l.initial.buf l.at (signed_bytes (tabs (edges_of l.rlo l.rhi l.slo l.shi) l.n 0)) (signed_bytes (tabs (edges_of l.rlo l.rhi l.slo l.shi) (l.n - l.i) l.i)) l.p l.buf

@@ -1,11 +1,8 @@
 -- `buffers::put_bytes`: all of it, or as much as there is room for, is copied into the part behind the place. Assumes nothing.
-use Prim.Native.Nat.{◌-◌}
 use mathlib.Core.Path.{sym}
 use native.Mathlib.Omega.{arith}
-use lib.ListN.{length}
-use lib.Seq.{length-take-le}
 use Rattle.laws.specs.Writing.{sets-out}
-use Rattle.files.proofs.buffers.Laws.{long, put-part, put_front}
+use Rattle.files.proofs.buffers.Laws.{put-part, put_front}
 use Rattle.files.proofs.buffers.put_bytes.Goals as goal
 
 pub returns-then-long-at : goal.returns-then-long-at
@@ -19,16 +16,6 @@ returns-then-size-room c =
     let a = c.args in
     let w = c.copy in
     put-part a.buf.now a.at (omega arith) a.bytes.now w.new.buf (omega arith) w.ensures
-
-pub slice_bounds-copy-end-2 : goal.slice_bounds-copy-end-2
-slice_bounds-copy-end-2 c =
-    let a = c.args in
-    sym (length-take-le (length a.buf.now - a.at) a.bytes.now (omega arith))
-
-pub copy-requires-2 : goal.copy-requires-2
-copy-requires-2 c =
-    let a = c.args in
-    omega (arith, long a.buf.now a.at (omega arith), length-take-le (length a.buf.now - a.at) a.bytes.now (omega arith))
 
 pub returns : goal.returns
 returns c =

@@ -1,10 +1,6 @@
 -- `modes::lay`: the ends of a band one behind the other. Assumes nothing.
-use Prim.Native.Nat.{◌-◌}
 use Rattle.files.proofs.modes.Laws.{LaidTo}
 use Rattle.files.proofs.modes.lay.Given as goal
 
 abbrev pub invariant-loop-i : goal.invariant-loop-i
 invariant-loop-i l = LaidTo l.n l.u l.wlo l.whi l.initial.bands l.i l.bands
-
-abbrev pub decreases-loop-i : goal.decreases-loop-i
-decreases-loop-i l = l.n - l.i

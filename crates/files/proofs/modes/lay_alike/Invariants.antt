@@ -1,10 +1,6 @@
 -- `modes::lay_alike`: mode by mode, as long as there is room. Assumes nothing.
-use Prim.Native.Nat.{◌-◌}
 use Rattle.files.proofs.modes.Laws.{AlikeTo}
 use Rattle.files.proofs.modes.lay_alike.Given as goal
 
 abbrev pub invariant-loop-u : goal.invariant-loop-u
 invariant-loop-u l = AlikeTo l.n l.modes l.wlo l.whi l.initial.bands l.u l.bands
-
-abbrev pub decreases-loop-u : goal.decreases-loop-u
-decreases-loop-u l = l.modes - l.u

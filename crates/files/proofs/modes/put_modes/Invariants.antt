@@ -1,5 +1,5 @@
 -- `modes::put_modes`: what is left to write is the definition's rest. Assumes nothing.
-use Prim.Native.Nat.{◌-◌, ◌≤◌}
+use Prim.Native.Nat.{◌-◌}
 use Rattle.laws.specs.Lists.{tabs}
 use Rattle.laws.specs.Writing.{Under}
 use Rattle.files.specs.Signed.{signed_bytes}
@@ -7,7 +7,4 @@ use Rattle.files.specs.Modes.{mode_numbers}
 use Rattle.files.proofs.modes.put_modes.Given as goal
 
 abbrev pub invariant-loop-u : goal.invariant-loop-u
-invariant-loop-u l = (1 ≤ l.u) × Under l.initial.buf l.initial.p (signed_bytes (tabs (mode_numbers l.n l.bands l.coef) (l.modes - 1) 1)) (signed_bytes (tabs (mode_numbers l.n l.bands l.coef) (l.modes - l.u) l.u)) l.p l.buf
-
-abbrev pub decreases-loop-u : goal.decreases-loop-u
-decreases-loop-u l = l.modes - l.u
+invariant-loop-u l = Under l.initial.buf l.initial.p (signed_bytes (tabs (mode_numbers l.n l.bands l.coef) (l.modes - 1) 1)) (signed_bytes (tabs (mode_numbers l.n l.bands l.coef) (l.modes - l.u) l.u)) l.p l.buf
