@@ -3,6 +3,7 @@
 ghost use Rattle.std.specs.Prelude.{◌≤◌, ◌≡◌, length, replicate};
 ghost use Rattle.std.proofs.lemmas.List.Edits.{sets};
 ghost use Rattle.laws.specs.Writing.{Put};
+ghost use Rattle.meaning.specs.Answers.{verdict_in};
 ghost use Rattle.meaning.specs.Buffers.{refused_with, left};
 ghost use Rattle.meaning.specs.Files.{good};
 ghost use Rattle.files.specs.Beginnings.{by_verdict};
@@ -52,13 +53,17 @@ pub fn put_bytes(buf: &mut [u8], at: usize, bytes: &[u8]) -> usize
 }
 
 // A write of a file that was drafted and judged: what the verdict refuses, then 10. Finished, only the file's bytes are changed.
-pub fn leave(verdict: Result<(), Refusal>, file: &[u8], buf: &mut [u8]) -> Result<usize, Refusal>
-    ensures answer { result ≡ (left (by_verdict verdict λ _. good file.now) buf.old).answer }
-    ensures bytes { buf.new ≡ (left (by_verdict verdict λ _. good file.now) buf.old).buffer }
+pub fn leave<T: Copy>(
+    judged: Result<T, Refusal>,
+    file: &[u8],
+    buf: &mut [u8],
+) -> Result<usize, Refusal>
+    ensures answer { result ≡ (left (by_verdict (verdict_in judged) λ _. good file.now) buf.old).answer }
+    ensures bytes { buf.new ≡ (left (by_verdict (verdict_in judged) λ _. good file.now) buf.old).buffer }
 {
-    match verdict {
+    match judged {
         Err(e) => refuse(e, buf),
-        Ok(()) => {
+        Ok(_) => {
             if buf.len() < file.len() {
                 return refuse(refusals::short(), buf);
             }

@@ -188,7 +188,7 @@ fn write_by(
 {
     let drafted = put_plant(p, bands, coef, draft);
     let file = &draft[..drafted];
-    buffers::leave(judge_plant(file).map(|_| ()), file, buf)
+    buffers::leave(judge_plant(file), file, buf)
 }
 
 // In a draft for any plant.

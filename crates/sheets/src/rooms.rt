@@ -51,9 +51,7 @@ fn read_heater(s: &[u8], at: usize) -> Result<(Emitter, usize), Refusal>
 {
     match floats::read_two(s, at, Asked::NotBelow) {
         Err(e) => Err(e),
-        Ok((coefficient, water, next)) => {
-            Ok((Emitter::Heater { coefficient, water }, next))
-        }
+        Ok((coefficient, water, next)) => { Ok((Emitter::Heater { coefficient, water }, next)) }
     }
 }
 

@@ -12,13 +12,12 @@ use crate::floats::Asked;
 use crate::{floats, made, refusals, rooms};
 use files::beginnings::Beginning;
 use files::{beginnings, buffers, plants};
-use meaning::{Refusal, Room, Sheet, SheetRead};
+use meaning::{Refusal, Room, Sheet};
 
 // The writer's draft: more than the 503 bytes that any values of a sheet take, right or not.
 const DRAFT: usize = 512;
 
-// A refused sheet is all zeros.
-fn refused(e: Refusal) -> SheetRead
+fn refused(e: Refusal) -> Result<Sheet, Refusal>
     ensures { result ≡ sheet_read_of (bad e) }
 {
     let none = rooms::no_room();
@@ -45,7 +44,7 @@ fn refused(e: Refusal) -> SheetRead
 }
 
 // A beginning and what stands behind it, put together.
-fn accepted(b: Beginning, time: f64, outside: f64, rooms: [Room; 4]) -> SheetRead
+fn accepted(b: Beginning, time: f64, outside: f64, rooms: [Room; 4]) -> Result<Sheet, Refusal>
     ensures { result ≡ sheet_read_of (good (sheet_with b time outside rooms)) }
 {
     let rlo = b.rlo;
@@ -54,29 +53,31 @@ fn accepted(b: Beginning, time: f64, outside: f64, rooms: [Room; 4]) -> SheetRea
     let shi = b.shi;
     let wlo = b.wlo;
     let whi = b.whi;
-    SheetRead {
-        verdict: Ok(()),
-        sheet: Sheet {
-            n: b.n,
-            r: b.m,
-            q: b.q,
-            k: b.k,
-            d: b.d,
-            rlo,
-            rhi,
-            slo,
-            shi,
-            wlo,
-            whi,
-            time,
-            outside,
-            rooms,
-        },
-    }
+    Ok(Sheet {
+        n: b.n,
+        r: b.m,
+        q: b.q,
+        k: b.k,
+        d: b.d,
+        rlo,
+        rhi,
+        slo,
+        shi,
+        wlo,
+        whi,
+        time,
+        outside,
+        rooms,
+    })
 }
 
 // What stands behind a beginning: two floats and the rooms, then what is asked of the whole.
-fn read_body(s: &[u8], b: Beginning, related: Result<(), Refusal>, at: usize) -> SheetRead
+fn read_body(
+    s: &[u8],
+    b: Beginning,
+    related: Result<(), Refusal>,
+    at: usize,
+) -> Result<Sheet, Refusal>
     requires fact_1 { Begun 1 1000 s.now b at }
     requires fact_2 { related ≡ relation b }
     ensures value { result ≡ body_read s.now b at }
@@ -108,7 +109,7 @@ fn read_body(s: &[u8], b: Beginning, related: Result<(), Refusal>, at: usize) ->
 }
 
 // A sheet's file, judged in order up to and with 5. The numbers of one that is taken are in range, which what is made of them relies on.
-fn read_values(s: &[u8]) -> SheetRead
+fn read_values(s: &[u8]) -> Result<Sheet, Refusal>
     ensures value { result ≡ unfitted s.now }
     ensures sized { TakenSized result }
 {
@@ -125,32 +126,24 @@ fn read_values(s: &[u8]) -> SheetRead
 }
 
 // 14, told of the plant that a sheet makes.
-fn fitted(h: Sheet) -> SheetRead
+fn fitted(h: Sheet) -> Result<Sheet, Refusal>
     requires { Sized h }
     ensures { result ≡ sheet_read_of (then_fitting (good h)) }
 {
     let made = made::make(h);
     if made.fits {
-        return SheetRead {
-            verdict: Ok(()),
-            sheet: h,
-        };
+        return Ok(h);
     }
     refused(refusals::bad_result(made.place))
 }
 
 // A sheet's file, judged in order: number, place and step of the first fault, or the sheet.
-pub fn read_sheet(s: &[u8]) -> SheetRead
+pub fn read_sheet(s: &[u8]) -> Result<Sheet, Refusal>
     ensures { result ≡ sheet_read s.now }
 {
-    let read = read_values(s);
-    let verdict = read.verdict;
-    match verdict {
+    match read_values(s) {
         Err(e) => refused(e),
-        Ok(()) => {
-            let h = read.sheet;
-            fitted(h)
-        }
+        Ok(h) => fitted(h),
     }
 }
 
@@ -201,9 +194,7 @@ pub fn write_sheet(h: Sheet, buf: &mut [u8]) -> Result<usize, Refusal>
     let mut draft = [0u8; DRAFT];
     let drafted = put_sheet(h, &mut draft);
     let file = &draft[..drafted];
-    let read = read_sheet(file);
-    let verdict = read.verdict;
-    buffers::leave(verdict, file, buf)
+    buffers::leave(read_sheet(file), file, buf)
 }
 
 // The plant file of a sheet's file, judged as the sheet, then 10. Finished, only the file's bytes are changed; refused, the buffer is all zeros.
@@ -211,12 +202,10 @@ pub fn make_plant(sheet: &[u8], buf: &mut [u8]) -> Result<usize, Refusal>
     ensures answer { result ≡ (made_left sheet.now buf.old).answer }
     ensures bytes { buf.new ≡ (made_left sheet.now buf.old).buffer }
 {
-    let read = read_values(sheet);
-    let verdict = read.verdict;
-    match verdict {
+    match read_values(sheet) {
         Err(e) => buffers::refuse(e, buf),
-        Ok(()) => {
-            let made = made::make(read.sheet);
+        Ok(h) => {
+            let made = made::make(h);
             if made.fits {
                 let outline = made.outline;
                 return plants::write_plant(outline, &made.ends, &made.coef, buf);

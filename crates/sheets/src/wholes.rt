@@ -5,7 +5,6 @@ ghost use Rattle.meaning.specs.Sheets.{signed_by, limited_to, whole_of, near_val
 ghost use Rattle.sheets.specs.Wholes as W;
 ghost use Rattle.sheets.specs.Wholes.{near};
 
-
 // A size with its sign, where it is within the limit.
 fn limited(limit: usize, negative: bool, size: u64) -> Option<i64>
     requires { limit ≤ 10000000000 }

@@ -36,7 +36,12 @@ fn end_by(f: Frame, bands: &[i64], coef: &[i64], table: &[u8]) -> Result<usize, 
 }
 
 // By the form that the table says.
-pub(crate) fn table_end(f: Frame, bands: &[i64], coef: &[i64], table: &[u8]) -> Result<usize, Refusal>
+pub(crate) fn table_end(
+    f: Frame,
+    bands: &[i64],
+    coef: &[i64],
+    table: &[u8],
+) -> Result<usize, Refusal>
     requires { PlantSound f bands.now coef.now }
     ensures { result ≡ table_end (rules_by f bands.now coef.now (form_of table.now)) table.now }
 {
@@ -70,11 +75,9 @@ fn check_in(plant: &[u8], bands: &mut [i64], coef: &mut [i64], table: &[u8]) -> 
     requires { RoomFor plant.now bands.old coef.old }
     ensures { result ≡ checked plant.now table.now }
 {
-    let read = plants::read_plant(plant, bands, coef);
-    let verdict = read.verdict;
-    match verdict {
+    match plants::read_plant(plant, bands, coef) {
         Err(e) => Err(e),
-        Ok(()) => judge(frames::framed(read.outline), bands, coef, table),
+        Ok(outline) => judge(frames::framed(outline), bands, coef, table),
     }
 }
 

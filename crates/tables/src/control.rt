@@ -34,7 +34,13 @@ pub(crate) fn admit(can: bool, n: usize, b: Bx, x: [i64; 4]) -> Result<(), Refus
 }
 
 // Idle: the reading must be in R; its tile is found, its first mode answered.
-fn idle_call(f: Frame, table: &[u8], at: usize, place: usize, x: [i64; 4]) -> Result<(usize, State), Refusal>
+fn idle_call(
+    f: Frame,
+    table: &[u8],
+    at: usize,
+    place: usize,
+    x: [i64; 4],
+) -> Result<(usize, State), Refusal>
     requires { FrameSound f }
     ensures { result ≡ idle_call (rules_in f [] []) table.now at place x }
 {
@@ -52,7 +58,13 @@ fn idle_call(f: Frame, table: &[u8], at: usize, place: usize, x: [i64; 4]) -> Re
 }
 
 // Running: the reading must be in S; the mode at the place is answered.
-fn running_call(f: Frame, table: &[u8], place: usize, left: usize, x: [i64; 4]) -> Result<(usize, State), Refusal>
+fn running_call(
+    f: Frame,
+    table: &[u8],
+    place: usize,
+    left: usize,
+    x: [i64; 4],
+) -> Result<(usize, State), Refusal>
     requires { FrameSound f }
     ensures { result ≡ running_call (rules_in f [] []) table.now place left x }
 {
@@ -64,7 +76,12 @@ fn running_call(f: Frame, table: &[u8], place: usize, left: usize, x: [i64; 4]) 
 }
 
 // A call on a plant that was read, by the form that the table says. A running call hangs on no form.
-pub(crate) fn call(f: Frame, table: &[u8], st: State, x: [i64; 4]) -> Result<(usize, State), Refusal>
+pub(crate) fn call(
+    f: Frame,
+    table: &[u8],
+    st: State,
+    x: [i64; 4],
+) -> Result<(usize, State), Refusal>
     requires { FrameSound f }
     ensures { result ≡ call (rules_by f [] [] (form_of table.now)) table.now st x }
 {
@@ -82,13 +99,16 @@ pub(crate) fn call(f: Frame, table: &[u8], st: State, x: [i64; 4]) -> Result<(us
 }
 
 // What the controller answers to a reading, for every plant, table, state and reading. Numbers of the reading beyond n are ignored.
-pub fn control(plant: &[u8], table: &[u8], st: State, x: [i64; 4]) -> Result<(usize, State), Refusal>
+pub fn control(
+    plant: &[u8],
+    table: &[u8],
+    st: State,
+    x: [i64; 4],
+) -> Result<(usize, State), Refusal>
     ensures { result ≡ controlled plant.now table.now st x }
 {
-    let read = plants::judge_plant(plant);
-    let verdict = read.verdict;
-    match verdict {
+    match plants::judge_plant(plant) {
         Err(e) => Err(e),
-        Ok(()) => { call(frames::framed(read.outline), table, st, x) }
+        Ok(outline) => { call(frames::framed(outline), table, st, x) }
     }
 }

@@ -40,7 +40,12 @@ fn write_table<'a>(
 }
 
 // In a draft for any table.
-fn write_most<'a>(f: Frame, bands: &'a [i64], coef: &'a [i64], buf: &mut [u8]) -> Result<usize, Refusal>
+fn write_most<'a>(
+    f: Frame,
+    bands: &'a [i64],
+    coef: &'a [i64],
+    buf: &mut [u8],
+) -> Result<usize, Refusal>
     requires { PlantSound f bands.now coef.now }
     ensures answer { result ≡ (defined_left (rules_in f bands.now coef.now) buf.old).answer }
     ensures bytes { buf.new ≡ (defined_left (rules_in f bands.now coef.now) buf.old).buffer }
@@ -50,7 +55,12 @@ fn write_most<'a>(f: Frame, bands: &'a [i64], coef: &'a [i64], buf: &mut [u8]) -
 }
 
 // In the smallest draft that is sure to have room.
-fn write_own<'a>(f: Frame, bands: &'a [i64], coef: &'a [i64], buf: &mut [u8]) -> Result<usize, Refusal>
+fn write_own<'a>(
+    f: Frame,
+    bands: &'a [i64],
+    coef: &'a [i64],
+    buf: &mut [u8],
+) -> Result<usize, Refusal>
     requires { PlantSound f bands.now coef.now }
     ensures answer { result ≡ (defined_left (rules_in f bands.now coef.now) buf.old).answer }
     ensures bytes { buf.new ≡ (defined_left (rules_in f bands.now coef.now) buf.old).buffer }
@@ -78,13 +88,11 @@ fn make_in(
     ensures answer { result ≡ (maker_left plant.now form buf.old).answer }
     ensures bytes { buf.new ≡ (maker_left plant.now form buf.old).buffer }
 {
-    let read = plants::read_plant(plant, bands, coef);
-    let verdict = read.verdict;
-    match verdict {
+    match plants::read_plant(plant, bands, coef) {
         Err(e) => buffers::refuse(e, buf),
-        Ok(()) => {
+        Ok(outline) => {
             if headers::known(form) {
-                let f = frames::formed(frames::framed(read.outline), form);
+                let f = frames::formed(frames::framed(outline), form);
                 return write_own(f, bands, coef, buf);
             }
             buffers::refuse(files::refusals::wrong_form(), buf)

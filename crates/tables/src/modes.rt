@@ -41,8 +41,5 @@ pub fn read_modes(modes: usize, k: usize, table: &[u8], at: usize) -> ModesRead
         w = next;
         i += 1;
     }
-    ModesRead {
-        answer: Ok(w),
-        us,
-    }
+    ModesRead { answer: Ok(w), us }
 }

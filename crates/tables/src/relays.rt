@@ -38,8 +38,10 @@ fn lay(plant: &[u8], table: &[u8], form: usize, buf: &mut [u8]) -> Result<usize,
     }
     let can = turns_into(own, form);
     if can {
-        let read = plants::judge_plant(plant);
-        let f = frames::formed(frames::framed(read.outline), own);
+        let Ok(outline) = plants::judge_plant(plant) else {
+            unreachable!();
+        };
+        let f = frames::formed(frames::framed(outline), own);
         return turns::leave(f, own == 2, form, table, buf);
     }
     buffers::refuse(files::refusals::wrong_form(), buf)

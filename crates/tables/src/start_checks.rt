@@ -16,7 +16,13 @@ use files::plants;
 use meaning::{BANDS, COEFFICIENTS, Refusal};
 
 // The place behind the table whose length stands at `at`. What is told of the table is told at its place in the file.
-fn table_at(f: Frame, bands: &[i64], coef: &[i64], start: &[u8], at: usize) -> Result<usize, Refusal>
+fn table_at(
+    f: Frame,
+    bands: &[i64],
+    coef: &[i64],
+    start: &[u8],
+    at: usize,
+) -> Result<usize, Refusal>
     requires { PlantSound f bands.now coef.now }
     ensures { result ≡ table_at (rules_by f bands.now coef.now) start.now at }
 {
@@ -72,23 +78,24 @@ fn tables_at<'a>(
 }
 
 // The verdict on a start file for a plant's file, the plant being read into arrays that have room for it.
-fn start_check_in(plant: &[u8], bands: &mut [i64], coef: &mut [i64], start: &[u8]) -> Result<(), Refusal>
+fn start_check_in(
+    plant: &[u8],
+    bands: &mut [i64],
+    coef: &mut [i64],
+    start: &[u8],
+) -> Result<(), Refusal>
     requires { RoomFor plant.now bands.old coef.old }
     ensures { result ≡ start_checked plant.now start.now }
 {
-    let read = plants::read_plant(plant, bands, coef);
-    let verdict = read.verdict;
-    match verdict {
+    match plants::read_plant(plant, bands, coef) {
         Err(e) => Err(e),
-        Ok(()) => {
-            let f = frames::framed(read.outline);
+        Ok(outline) => {
+            let f = frames::framed(outline);
             let chain = chains::read_chain(f, false, start);
             let kept = chain.verdict;
             match kept {
                 Err(e) => Err(e),
-                Ok(()) => {
-                    tables_at(f, &chain.edges, bands, coef, start, chain.m, chain.next)
-                }
+                Ok(()) => { tables_at(f, &chain.edges, bands, coef, start, chain.m, chain.next) }
             }
         }
     }

@@ -41,7 +41,14 @@ fn lowest(n: usize, root: Bx, edges: &[i64; EDGES], m: usize, x: [i64; 4]) -> us
 }
 
 // Idle: no index may be kept, and the reading must be in Rm; of the boxes that hold it the lowest index.
-fn idle_choice(n: usize, root: Bx, edges: &[i64; EDGES], m: usize, i: usize, x: [i64; 4]) -> Result<usize, Refusal>
+fn idle_choice(
+    n: usize,
+    root: Bx,
+    edges: &[i64; EDGES],
+    m: usize,
+    i: usize,
+    x: [i64; 4],
+) -> Result<usize, Refusal>
     requires { (n ≤ 4) × (m ≤ most_above) }
     ensures { result ≡ idle_choice n (box_of n root) (values_in m edges.now) i x }
 {
@@ -92,7 +99,14 @@ fn state_in(i: usize, st: State) -> StartState
 }
 
 // The call on table i, the first length being at `at`. What is told of the table is told at its place in the file.
-fn call_behind(f: Frame, start: &[u8], at: usize, i: usize, st: State, x: [i64; 4]) -> Result<(usize, StartState), Refusal>
+fn call_behind(
+    f: Frame,
+    start: &[u8],
+    at: usize,
+    i: usize,
+    st: State,
+    x: [i64; 4],
+) -> Result<(usize, StartState), Refusal>
     requires { FrameSound f }
     ensures { result ≡ call_behind f start.now at i st x }
 {
@@ -130,22 +144,23 @@ fn start_call(
 }
 
 // What the controller answers to a reading, for every plant, start file, state and reading. Numbers of the reading beyond n are ignored.
-pub fn start_control(plant: &[u8], start: &[u8], st: StartState, x: [i64; 4]) -> Result<(usize, StartState), Refusal>
+pub fn start_control(
+    plant: &[u8],
+    start: &[u8],
+    st: StartState,
+    x: [i64; 4],
+) -> Result<(usize, StartState), Refusal>
     ensures { result ≡ start_controlled plant.now start.now st x }
 {
-    let read = plants::judge_plant(plant);
-    let verdict = read.verdict;
-    match verdict {
+    match plants::judge_plant(plant) {
         Err(e) => Err(e),
-        Ok(()) => {
-            let f = frames::framed(read.outline);
+        Ok(outline) => {
+            let f = frames::framed(outline);
             let chain = chains::read_chain(f, false, start);
             let kept = chain.verdict;
             match kept {
                 Err(e) => Err(e),
-                Ok(()) => {
-                    start_call(f, &chain.edges, start, chain.m, chain.next, st, x)
-                }
+                Ok(()) => { start_call(f, &chain.edges, start, chain.m, chain.next, st, x) }
             }
         }
     }

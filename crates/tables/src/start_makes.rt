@@ -191,18 +191,19 @@ fn start_make_in(
     ensures answer { result ≡ (start_left plant.now chain.now form buf.old).answer }
     ensures bytes { buf.new ≡ (start_left plant.now chain.now form buf.old).buffer }
 {
-    let read = plants::read_plant(plant, bands, coef);
-    let verdict = read.verdict;
-    match verdict {
+    match plants::read_plant(plant, bands, coef) {
         Err(e) => buffers::refuse(e, buf),
-        Ok(()) => {
-            make_start(frames::framed(read.outline), bands, coef, chain, form, buf)
-        }
+        Ok(outline) => { make_start(frames::framed(outline), bands, coef, chain, form, buf) }
     }
 }
 
 // In arrays for any plant.
-fn start_make_many(plant: &[u8], chain: &[u8], form: usize, buf: &mut [u8]) -> Result<usize, Refusal>
+fn start_make_many(
+    plant: &[u8],
+    chain: &[u8],
+    form: usize,
+    buf: &mut [u8],
+) -> Result<usize, Refusal>
     ensures answer { result ≡ (start_left plant.now chain.now form buf.old).answer }
     ensures bytes { buf.new ≡ (start_left plant.now chain.now form buf.old).buffer }
 {

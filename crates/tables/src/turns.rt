@@ -235,7 +235,13 @@ pub fn table_size(f: Frame, table: &[u8]) -> usize
 }
 
 // That table as a writer leaves it: 10.
-pub fn leave(f: Frame, told: bool, form: usize, table: &[u8], buf: &mut [u8]) -> Result<usize, Refusal>
+pub fn leave(
+    f: Frame,
+    told: bool,
+    form: usize,
+    table: &[u8],
+    buf: &mut [u8],
+) -> Result<usize, Refusal>
     requires { FrameSound f × SomeTable f told table.now }
     ensures { TableLeft f told form table.now buf.old result buf.new }
 {

@@ -8,7 +8,7 @@ use native.Mathlib.Omega.{arith}
 use native.Mathlib.Nat.{mul-le-mul}
 use lib.ListN.{length, take, drop, length-append, length-take, length-drop, take-append-drop}
 use lib.IntN.{ℤ}
-use Rattle.meaning.specs.Answers.{PlantRead}
+use Rattle.meaning.specs.Answers.{PlantRead, verdict_in}
 use Rattle.laws.specs.Lists.{at, tab, tabs}
 use Rattle.laws.specs.Tabs.{length-tab, length-tabs}
 use Rattle.meaning.specs.Buffers.{left}
@@ -158,12 +158,12 @@ module _ (p : Plant) where
 
   -- ---- what the writer leaves, s being the draft and x what was read of it
 
-  pub plant-left : (s : List ℕ) (x : PlantRead) → s ≡ plant_draft p → x ≡ plant_read s → (buf : List ℕ) → left (by_verdict x.verdict λ _. good s) buf ≡ plant_left p buf
+  pub plant-left : (s : List ℕ) (x : PlantRead) → s ≡ plant_draft p → x ≡ plant_read s → (buf : List ℕ) → left (by_verdict (verdict_in x) λ _. good s) buf ≡ plant_left p buf
   unfolding plant_draft plant_left plant_judged plant_form numbers_of
   plant-left s x e q buf =
       draft-left plant_forms most_modes (omega arith) (omega arith) (plant_beginning p) (signed_bytes (rest_of p)) plant_related (λ e. refl) (λ form n modes. edges n (modes_form form n modes))
-      (edges_in (plant_beginning p) ++ modes_numbers p.form p.n p.modes p.bands p.coef) says s x.verdict e (ap (λ (y : PlantRead). y.verdict) q ∙ told (plant_judged s)) buf
+      (edges_in (plant_beginning p) ++ modes_numbers p.form p.n p.modes p.bands p.coef) says s (verdict_in x) e (ap (λ (y : PlantRead). verdict_in y) q ∙ told (plant_judged s)) buf
     where
-      told : (j : Judged Plant) → (read_of j).verdict ≡ verdict_of j
+      told : (j : Judged Plant) → verdict_in (read_of j) ≡ verdict_of j
       told (good y) = refl
       told (bad r) = refl

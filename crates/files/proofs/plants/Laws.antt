@@ -145,7 +145,7 @@ module _ (s : List ℕ) (b : Beginning) (from' : ℕ) where
       pub thin-told : (e : Refusal) → told ≡ Err e → body_of s b from' ≡ bad e
       thin-told e g = by-verdict (Err e) g
 
-      pub all_told : told ≡ Ok tt → Answered (body_of s b from') bands₀ coef₀ bands coef (record { verdict = Ok tt; outline = outline_in b })
+      pub all_told : told ≡ Ok tt → Answered (body_of s b from') bands₀ coef₀ bands coef (Ok (outline_in b))
       all_told g =
           let z : 2 * b.n * 0 ≡ 0 = omega arith in
           let o : b.n * (b.n + 1) * 0 ≡ 0 = omega arith in

@@ -24,12 +24,6 @@ slice_bounds-file-end-2 c =
     let drafted : InDraft (plant_draft plant) c.put_plant-drafted.result c.put_plant-drafted.new.buf = in_buffer c.args.draft.now (plant_draft plant) c.put_plant-drafted.result c.put_plant-drafted.new.buf c.requires c.put_plant-drafted.ensures in
     sym (length-take-le c.put_plant-drafted.result c.put_plant-drafted.new.buf drafted.fits)
 
-pub judge_plant-read-requires : goal.judge_plant-read-requires
-judge_plant-read-requires c = tt
-
-pub leave-requires : goal.leave-requires
-leave-requires c = tt
-
 pub shape_of-draft : goal.shape_of-draft
 shape_of-draft c = c.put_plant-drafted.auto.buf
 
@@ -41,7 +35,7 @@ returns c =
     let plant : Plant = plant_from c.args.p c.args.bands.now c.args.coef.now in
     let drafted : InDraft (plant_draft plant) c.put_plant-drafted.result c.put_plant-drafted.new.buf = in_buffer c.args.draft.now (plant_draft plant) c.put_plant-drafted.result c.put_plant-drafted.new.buf c.requires c.put_plant-drafted.ensures in
     let z = c.args in
-    let x = c.judge_plant-read in
+    let x = c.judge_plant in
     let w = c.leave in
     let e = plant-left plant (take c.put_plant-drafted.result c.put_plant-drafted.new.buf) x.result drafted.front x.ensures z.buf.now in
     record { answer = w.ensures.answer ∙ ap (λ (l : Left). l.answer) e; bytes = w.ensures.bytes ∙ ap (λ (l : Left). l.buffer) e }
