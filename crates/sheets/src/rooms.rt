@@ -206,10 +206,8 @@ fn put_exchanges(buf: &mut [u8], at: usize, exchange: [f64; 3], m: usize) -> usi
     ensures { Put buf.old at (tabs (exchange_bytes exchange) m 0) result buf.new }
 {
     let mut p = at;
-    let mut j: usize = 0;
-    while j < m {
+    for j in 0..m {
         p = floats::put_float(buf, p, exchange[j]);
-        j += 1;
     }
     p
 }
@@ -254,11 +252,8 @@ pub fn put_rooms(buf: &mut [u8], at: usize, n: usize, rooms: [Room; 4]) -> usize
     ensures { Put buf.old at (tabs (bytes_of_room n rooms) n 0) result buf.new }
 {
     let mut p = at;
-    let mut i: usize = 0;
-    while i < n {
-        let room = rooms[i];
-        p = put_room(buf, p, n, room);
-        i += 1;
+    for i in 0..n {
+        p = put_room(buf, p, n, rooms[i]);
     }
     p
 }
