@@ -31,8 +31,8 @@ fn loss_sum(n: usize, loss: f64, room: Room) -> f64
     ensures { result ≡ sum_from loss (tab (exchange_at room) (n - 1) 0) }
 {
     let mut s = loss;
-    for j in 0..n - 1 {
-        s += exchange(room, j);
+    for g in &room.exchange[..n - 1] {
+        s += *g;
     }
     s
 }
@@ -70,8 +70,7 @@ pub fn emitters(h: Sheet, m: usize) -> usize
     ensures { result ≡ S.emitters h m }
 {
     let mut t: usize = 0;
-    for i in 0..m {
-        let room = room_of(h, i);
+    for room in &h.rooms[..m] {
         t += has_emitter(room.emitter);
     }
     t

@@ -206,8 +206,8 @@ fn put_exchanges(buf: &mut [u8], at: usize, exchange: [f64; 3], m: usize) -> usi
     ensures { Put buf.old at (tabs (exchange_bytes exchange) m 0) result buf.new }
 {
     let mut p = at;
-    for j in 0..m {
-        p = floats::put_float(buf, p, exchange[j]);
+    for g in &exchange[..m] {
+        p = floats::put_float(buf, p, *g);
     }
     p
 }
@@ -252,8 +252,8 @@ pub fn put_rooms(buf: &mut [u8], at: usize, n: usize, rooms: [Room; 4]) -> usize
     ensures { Put buf.old at (tabs (bytes_of_room n rooms) n 0) result buf.new }
 {
     let mut p = at;
-    for i in 0..n {
-        p = put_room(buf, p, n, rooms[i]);
+    for room in &rooms[..n] {
+        p = put_room(buf, p, n, *room);
     }
     p
 }

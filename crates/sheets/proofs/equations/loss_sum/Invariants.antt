@@ -5,5 +5,7 @@ use Rattle.laws.specs.Lists.{tab}
 use Rattle.meaning.specs.Sheets.{exchange_at, sum_from}
 use Rattle.sheets.proofs.equations.loss_sum.Given as goal
 
-abbrev pub invariant-loop-j : goal.invariant-loop-j
-invariant-loop-j l = sum_from l.s (tab (exchange_at l.room) (l.n - 1 - l.j) l.j) ≡ sum_from l.loss (tab (exchange_at l.room) (l.n - 1) 0)
+abbrev pub invariant-loop-g : goal.invariant-loop-g
+invariant-loop-g l =
+    let g = exchange_at l.fn.room in
+    sum_from l.s (tab g (l.n - 1 - l.g-index) l.g-index) ≡ sum_from l.loss (tab g (l.n - 1) 0)
