@@ -28,7 +28,7 @@ fn widening(h: Sheet) -> usize
     requires { Sized h }
     ensures { result ≡ S.widening h }
 {
-    (h.n * largest_edge(h) + 2) / 2
+    (h.n * largest_edge(h) + 1).div_ceil(2)
 }
 
 // An end of a band, where the plant can hold it.

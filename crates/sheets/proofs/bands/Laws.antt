@@ -12,6 +12,7 @@ use lib.Signed.{◌≤ℤ◌, ◌<ℤ◌}
 use mir.Syntax.{w64}
 use mir.Val.{SFits, to_z}
 use mir.Facts.{to_z-of_z}
+use Rattle.std.specs.Int.{div_ceil}
 use Rattle.laws.specs.Integers.{zarith, abs, apart, within, fits}
 use Rattle.laws.specs.Expressions as E
 use Rattle.laws.specs.Expressions.{Ex}
@@ -52,9 +53,12 @@ module _ (h : Sheet) (s : Sized h) where
   unfolding widening
   widening-small = let p = product_small in omega arith
 
-pub widening-is : (h : Sheet) → (h.n * largest_edge h h.n + 2) / 2 ≡ widening h
+rounded-up : (v : ℕ) → div_ceil (v + 1) 2 ≡ (v + 2) / 2
+rounded-up v = omega arith
+
+pub widening-is : (h : Sheet) → div_ceil (h.n * largest_edge h h.n + 1) 2 ≡ widening h
 unfolding widening
-widening-is h = refl
+widening-is h = rounded-up (h.n * largest_edge h h.n)
 
 -- the widening as the machine holds it
 module _ (h : Sheet) (s : Sized h) (w : ℕ) (e : w ≡ widening h) where
