@@ -106,7 +106,7 @@ pub fn read_two(s: &[u8], at: usize, asked: Asked) -> TwoFloats
 fn bits(x: f64) -> u64
     ensures { result ≡ to_bits binary64 x }
 {
-    if x != x {
+    if x.is_nan() {
         return 0x7ff8_0000_0000_0000;
     }
     f64::to_bits(x)

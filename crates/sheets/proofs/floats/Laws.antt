@@ -1,7 +1,7 @@
 -- A float of a sheet against its definition: its bytes, its exponent's field, what is asked of it; and its bytes written.
 -- Relies on promises' pages Floats and SheetRooms, and on wholes' page Fields.
 use Prim.Native.Nat.{ℕ, zero, suc, ◌+◌, ◌*◌, ◌≤◌, ◌<◌}
-use mathlib.Core.Path.{◌≡◌, refl, sym, ap, subst}
+use mathlib.Core.Path.{◌≡◌, refl, ap}
 use mathlib.Core.Bool.{Bool, true, false, not, ◌&&◌}
 use mathlib.Core.List.{List, [], ◌∷◌, map}
 use native.Mathlib.Omega.{arith}
@@ -10,10 +10,9 @@ use lib.ListN.{length, get_or, take, drop, length-take, length-drop}
 use lib.Seq.{drop-cons}
 use lib.Dec.{T, ltb, eqb, eqb→eq, not_T}
 use lib.IntN.{pos}
-use lib.Ieee.{Float, binary64, odd, of_fields, of_bits, to_bits, nan_bits, ne}
+use lib.Ieee.{Float, binary64, odd, of_fields, of_bits, to_bits, nan_bits, nan, inf, fin, is_nan}
 use lib.Ieee.Fits.{and_l}
 use lib.Ieee.Bits.{to_bits-of_bits}
-use lib.Ieee.Compare.{differs_from_itself}
 use borrow.Author.Tests.{lt-ltb, eq-eqb, ne_eqb}
 use Rattle.std.specs.Int.{w64, from_le_bytes, to_le_bytes}
 use Rattle.std.proofs.lemmas.List.{get_or-drop, drop_all}
@@ -113,9 +112,11 @@ module _ (ok : Float → Bool) (s : List ℕ) (start : ℕ) where
 
 -- ---- a float written
 
-pub nan-bits : (x : Float) → ne x x ≡ true → 0x7ff8_0000_0000_0000 ≡ to_bits binary64 x
-unfolding to_bits
-nan-bits x h = rw (differs_from_itself x (subst T (sym h) tt)) refl
+pub nan-bits : (x : Float) → is_nan x ≡ true → 0x7ff8_0000_0000_0000 ≡ to_bits binary64 x
+unfolding to_bits is_nan
+nan-bits nan h = refl
+nan-bits (inf s) h = cc
+nan-bits (fin s m e) h = cc
 
 -- its bytes, as the machine gives them
 pub low-bytes : (v : ℕ) → to_le_bytes w64 v ≡ low_first 8 v
