@@ -239,10 +239,8 @@ fn put_room(buf: &mut [u8], at: usize, n: usize, room: Room) -> usize
     ensures { Put buf.old at (room_bytes n room) result buf.new }
 {
     let past_loss = floats::put_float(buf, at, room.loss);
-    let exchange = room.exchange;
-    let past_exchanges = put_exchanges(buf, past_loss, exchange, n - 1);
-    let emitter = room.emitter;
-    put_emitter(buf, past_exchanges, emitter)
+    let past_exchanges = put_exchanges(buf, past_loss, room.exchange, n - 1);
+    put_emitter(buf, past_exchanges, room.emitter)
 }
 
 // The first n rooms, likewise.
