@@ -6,7 +6,6 @@ use borrow.Author.Rules.{rules}
 use lib.ListN.{length}
 use Rattle.std.proofs.lemmas.List.{length-take, get_or-take, get_or_default}
 use Rattle.meaning.specs.declared.Room.{Room}
-use Rattle.meaning.specs.Sheets as S
 use Rattle.meaning.specs.Sheets.{no_room, room_at, has_emitter}
 use Rattle.promises.specs.Sheets.SheetPlants.{has_one}
 use Rattle.sheets.proofs.equations.Laws.{none_before, one_more}
@@ -25,9 +24,3 @@ loop-room-preserved c =
     let one = e ∙ ap (λ (room : Room). has_emitter room.emitter) (get_or_default h.rooms i _ no_room (omega arith)) in
     let most = has_one (room_at h i).emitter in
     (omega arith, omega (arith, one_more h i, c.loop-room.invariant.1))
-
-pub returns : goal.returns
-returns c =
-    let h = c.args.h in
-    let long : length h.rooms ≡ 4 = search rules in
-    c.loop-room.invariant.1 ∙ ap (S.emitters h) (omega (arith, length-take c.args.m h.rooms))

@@ -5,8 +5,7 @@ use native.Mathlib.Numerals.{add-one}
 use lib.ListN.{length}
 use lib.Seq.{drop-cons}
 use lib.Ieee.{binary64, to_bits}
-use Rattle.std.proofs.lemmas.List.{drop_all}
-use Rattle.laws.specs.Writing.{under_none, under_more, under-done}
+use Rattle.laws.specs.Writing.{under_none, under_more}
 use Rattle.meaning.specs.Files.{low_first}
 use Rattle.sheets.proofs.floats.Laws.{low-bytes}
 use Rattle.sheets.proofs.floats.put_float.Goals as goal
@@ -22,9 +21,3 @@ loop-b-preserved c =
     let i = c.loop-b.b-index in
     let long : length bs ≡ 8 = ap length c.to_le_bytes-b-items.ensures in
     rw add-one (under_more (rw (drop-cons bs i 0 (omega arith)) at c.loop-b.invariant) c.put_byte-p.ensures)
-
-pub returns : goal.returns
-returns c =
-    let bs = c.to_le_bytes-b-items.result in
-    let long : length bs ≡ 8 = ap length c.to_le_bytes-b-items.ensures in
-    under-done (rw (drop_all c.loop-b.b-index bs (omega arith)) at c.loop-b.invariant)
