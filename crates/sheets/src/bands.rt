@@ -1,7 +1,7 @@
 // Each dimension's band, widened at each end by what rounding the coefficients can add (document 01, "The sheet"), one for all modes. Relies on wholes.
 // Leaves out the coefficients (made).
-ghost use Rattle.std.specs.Prelude.{◌≡◌, ◌≤◌, ◌<◌, max, nat_abs};
-ghost use Rattle.meaning.specs.Plants.{edge_limit, band_limit};
+ghost use Rattle.std.specs.Prelude.{◌≡◌, ◌<◌};
+ghost use Rattle.meaning.specs.Plants.{band_limit};
 ghost use Rattle.meaning.specs.Sheets as S;
 ghost use Rattle.meaning.specs.Sheets.{limited_to, largest_edge};
 ghost use Rattle.sheets.specs.Sizes.{Sized};
@@ -10,35 +10,15 @@ ghost use Rattle.sheets.specs.Bands.{low_end, high_end, bands_of};
 use crate::wholes;
 use meaning::Sheet;
 
-fn size(v: i64) -> usize
-    requires { nat_abs v ≤ edge_limit }
-    ensures { result ≡ nat_abs v }
-{
-    if v < 0 {
-        return (0 - v) as usize;
-    }
-    v as usize
-}
-
-fn larger(a: usize, b: usize) -> usize
-    ensures { result ≡ max a b }
-{
-    if a < b {
-        return b;
-    }
-    a
-}
-
 // M, the largest absolute edge of S.
 fn largest_edge(h: Sheet) -> usize
     requires { Sized h }
     ensures { result ≡ largest_edge h h.n }
 {
     let mut most: usize = 0;
-    let mut i: usize = 0;
-    while i < h.n {
-        most = larger(most, larger(size(h.slo[i]), size(h.shi[i])));
-        i += 1;
+    for i in 0..h.n {
+        let edge = h.slo[i].unsigned_abs().max(h.shi[i].unsigned_abs());
+        most = most.max(edge as usize);
     }
     most
 }
@@ -48,7 +28,7 @@ fn widening(h: Sheet) -> usize
     requires { Sized h }
     ensures { result ≡ S.widening h }
 {
-    (h.n * largest_edge(h) + 2) / 2
+    (h.n * largest_edge(h) + 1).div_ceil(2)
 }
 
 // An end of a band, where the plant can hold it.
@@ -99,15 +79,13 @@ pub fn widened(h: Sheet) -> Bands
 {
     let mut ends = [0i64; ENDS];
     let mut first: usize = 0;
-    let mut i: usize = 0;
-    while i < h.n {
+    for i in 0..h.n {
         let lo = low_end(h, i);
         let hi = high_end(h, i);
         ends[2 * i] = wholes::value(lo);
         ends[2 * i + 1] = wholes::value(hi);
         first = wholes::joined_one(first, 2 * i, lo);
         first = wholes::joined_one(first, 2 * i + 1, hi);
-        i += 1;
     }
     Bands { first, ends }
 }

@@ -13,8 +13,7 @@ fn room_of(h: Sheet, i: usize) -> Room
     requires { i < 4 }
     ensures { result ≡ room_at h i }
 {
-    let rooms = h.rooms;
-    rooms[i]
+    h.rooms[i]
 }
 
 // A room's exchange with the j-th of the other rooms.
@@ -22,8 +21,7 @@ fn exchange(room: Room, j: usize) -> f64
     requires { j < 3 }
     ensures { result ≡ exchange_at room j }
 {
-    let g = room.exchange;
-    g[j]
+    room.exchange[j]
 }
 
 // The loss, then each exchange added, j ascending.
@@ -32,12 +30,9 @@ fn loss_sum(n: usize, loss: f64, room: Room) -> f64
     requires fact_2 { n ≤ 4 }
     ensures { result ≡ sum_from loss (tab (exchange_at room) (n - 1) 0) }
 {
-    let others = n - 1;
     let mut s = loss;
-    let mut j: usize = 0;
-    while j < others {
-        s = s + exchange(room, j);
-        j += 1;
+    for g in &room.exchange[..n - 1] {
+        s += *g;
     }
     s
 }
@@ -49,12 +44,9 @@ pub fn loss_sums(h: Sheet) -> [f64; 4]
     ensures { result ≡ sums_of h }
 {
     let mut sums = [0.0f64; 4];
-    let mut i: usize = 0;
-    while i < h.n {
+    for i in 0..h.n {
         let room = room_of(h, i);
-        let loss = room.loss;
-        sums[i] = loss_sum(h.n, loss, room);
-        i += 1;
+        sums[i] = loss_sum(h.n, room.loss, room);
     }
     sums
 }
@@ -78,12 +70,8 @@ pub fn emitters(h: Sheet, m: usize) -> usize
     ensures { result ≡ S.emitters h m }
 {
     let mut t: usize = 0;
-    let mut i: usize = 0;
-    while i < m {
-        let room = room_of(h, i);
-        let e = room.emitter;
-        t = t + has_emitter(e);
-        i += 1;
+    for room in &h.rooms[..m] {
+        t += has_emitter(room.emitter);
     }
     t
 }
@@ -94,10 +82,8 @@ pub fn bits(h: Sheet) -> [usize; 4]
     ensures { result ≡ bits_of h }
 {
     let mut bits = [0usize; 4];
-    let mut i: usize = 0;
-    while i < h.n {
+    for i in 0..h.n {
         bits[i] = emitters(h, i);
-        i += 1;
     }
     bits
 }
@@ -138,8 +124,7 @@ pub fn coefficient(h: Sheet, sum: f64, bit: usize, u: usize, i: usize, j: usize)
     let time = h.time;
     if i == j {
         if switched(u, bit) {
-            let e = room.emitter;
-            return 1.0 - time * gained(sum, e);
+            return 1.0 - time * gained(sum, room.emitter);
         }
         return 1.0 - time * sum;
     }
@@ -169,8 +154,7 @@ pub fn offset(h: Sheet, bit: usize, u: usize, i: usize) -> f64
     let room = room_of(h, i);
     let c = h.time * (room.loss * h.outside);
     if switched(u, bit) {
-        let e = room.emitter;
-        return pushed(c, h.time, e);
+        return pushed(c, h.time, room.emitter);
     }
     c
 }

@@ -1,6 +1,6 @@
 // Floats of a sheet, 8 bytes low first, read with what is asked of them, and written. Relies on files' numbers for a byte written.
 // Leaves out what a float is for: that is its room's or its sheet's.
-ghost use Rattle.std.specs.Prelude.{◌≡◌, ◌+◌, ◌<◌, ◌≤◌, pos, length};
+ghost use Rattle.std.specs.Prelude.{◌≡◌, ◌+◌, ◌≤◌, pos, length};
 ghost use Rattle.std.specs.Float.{binary64};
 ghost use Rattle.std.specs.Float.Ieee.{to_bits};
 ghost use Rattle.laws.specs.Writing.{Put};
@@ -19,25 +19,14 @@ pub enum Asked {
     Above,
 }
 
-// A byte with its size known.
-fn wide(x: u8) -> u64
-    ensures { (result ≡ x) × (result < 256) }
-{
-    x as u64
-}
-
-// The value of eight bytes that are there, low byte first; taken from the highest down.
+// The value of eight bytes that are there, low byte first.
 fn low_first(s: &[u8], at: usize) -> u64
     requires { at + 8 ≤ length s.now }
     ensures { float_at s.now at ≡ taken (pos result) (at + 8) }
 {
-    let mut v: u64 = 0;
-    let mut k: usize = 8;
-    while 0 < k {
-        k -= 1;
-        v = wide(s[at + k]) + 256 * v;
-    }
-    v
+    let mut bytes = [0u8; 8];
+    bytes.copy_from_slice(&s[at..at + 8]);
+    u64::from_le_bytes(bytes)
 }
 
 fn read_bits(s: &[u8], at: usize) -> Option<(u64, usize)>
@@ -96,7 +85,7 @@ pub fn read_two(s: &[u8], at: usize, asked: Asked) -> Result<(f64, f64, usize), 
 fn bits(x: f64) -> u64
     ensures { result ≡ to_bits binary64 x }
 {
-    if x != x {
+    if x.is_nan() {
         return 0x7ff8_0000_0000_0000;
     }
     f64::to_bits(x)
@@ -108,12 +97,8 @@ pub fn put_float(buf: &mut [u8], at: usize, x: f64) -> usize
     ensures { Put buf.old at (float_bytes x) result buf.new }
 {
     let mut p = at;
-    let mut v = bits(x);
-    let mut k: usize = 0;
-    while k < 8 {
-        p = numbers::put_byte(buf, p, (v % 256) as u8);
-        v /= 256;
-        k += 1;
+    for b in bits(x).to_le_bytes() {
+        p = numbers::put_byte(buf, p, b);
     }
     p
 }

@@ -52,12 +52,10 @@ fn coefficients(h: Sheet, count: usize) -> Entries
     let bits = equations::bits(h);
     let mut coef = [0i64; ENTRIES];
     let mut first: usize = 0;
-    let mut p: usize = 0;
-    while p < count {
+    for p in 0..count {
         let w = entry(h, sums, bits, p);
         coef[p] = wholes::value(w);
         first = wholes::joined_one(first, p, w);
-        p += 1;
     }
     Entries { first, coef }
 }

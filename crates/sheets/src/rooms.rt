@@ -196,10 +196,8 @@ fn put_exchanges(buf: &mut [u8], at: usize, exchange: [f64; 3], m: usize) -> usi
     ensures { Put buf.old at (tabs (exchange_bytes exchange) m 0) result buf.new }
 {
     let mut p = at;
-    let mut j: usize = 0;
-    while j < m {
-        p = floats::put_float(buf, p, exchange[j]);
-        j += 1;
+    for g in &exchange[..m] {
+        p = floats::put_float(buf, p, *g);
     }
     p
 }
@@ -231,10 +229,8 @@ fn put_room(buf: &mut [u8], at: usize, n: usize, room: Room) -> usize
     ensures { Put buf.old at (room_bytes n room) result buf.new }
 {
     let past_loss = floats::put_float(buf, at, room.loss);
-    let exchange = room.exchange;
-    let past_exchanges = put_exchanges(buf, past_loss, exchange, n - 1);
-    let emitter = room.emitter;
-    put_emitter(buf, past_exchanges, emitter)
+    let past_exchanges = put_exchanges(buf, past_loss, room.exchange, n - 1);
+    put_emitter(buf, past_exchanges, room.emitter)
 }
 
 // The first n rooms, likewise.
@@ -244,11 +240,8 @@ pub fn put_rooms(buf: &mut [u8], at: usize, n: usize, rooms: [Room; 4]) -> usize
     ensures { Put buf.old at (tabs (bytes_of_room n rooms) n 0) result buf.new }
 {
     let mut p = at;
-    let mut i: usize = 0;
-    while i < n {
-        let room = rooms[i];
-        p = put_room(buf, p, n, room);
-        i += 1;
+    for room in &rooms[..n] {
+        p = put_room(buf, p, n, *room);
     }
     p
 }

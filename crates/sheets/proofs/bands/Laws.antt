@@ -1,4 +1,4 @@
--- The widening, and the ends of a band: sizes, and what the code's tests say; the ends of all bands. Assumes nothing.
+-- M, the widening and the ends of a band: sizes, and what the code's tests say; the ends of all bands. Assumes nothing.
 use Rattle.std.specs.Prelude.{Some, None}
 use Prim.Native.Nat.{ℕ, zero, suc, ◌+◌, ◌*◌, ◌/◌, ◌%◌, ◌≤◌, ◌<◌, max}
 use mathlib.Core.Path.{◌≡◌, refl, sym, ap, ◌∙◌}
@@ -7,14 +7,14 @@ use native.Mathlib.Omega.{arith}
 use native.Mathlib.Numerals.{add-one}
 use native.Mathlib.Nat.{mul-le-mul, zero-add}
 use borrow.Author.Tests.{le-leb, lt-leb}
-use lib.Dec.{T}
 use lib.ListN.{length, set, replicate, length-append}
-use lib.IntN.{ℤ, pos, negsuc, nat_abs, ◌-ℤ◌}
-use lib.Signed.{non_neg, ◌≤ℤ◌, ◌<ℤ◌}
+use lib.IntN.{ℤ, pos, negsuc, nat_abs}
+use lib.Signed.{◌≤ℤ◌, ◌<ℤ◌}
 use mir.Syntax.{w64}
 use mir.Val.{SFits, to_z}
 use mir.Facts.{to_z-of_z}
-use Rattle.laws.specs.Integers.{zarith, sub, abs, apart, within, fits}
+use Rattle.std.specs.Int.{div_ceil}
+use Rattle.laws.specs.Integers.{zarith, abs, apart, within, fits}
 use Rattle.laws.specs.Expressions as E
 use Rattle.laws.specs.Expressions.{Ex}
 use Rattle.laws.specs.Lists.{at, tabs, first_false}
@@ -28,18 +28,6 @@ use Rattle.sheets.specs.Sizes.{Sized}
 use Rattle.sheets.specs.Wholes.{first_out, joined, near, held}
 use Rattle.sheets.specs.Bands.{low_end, high_end, end_at, most_ends, bands_of}
 use Rattle.sheets.proofs.wholes.Counts.{joined-one, Holding, holding-none, holding-more, holding-all}
-
--- ---- the size of a number below 0
-
-pub turned : (v : ℤ) → v <ℤ pos 0 → pos 0 -ℤ v ≡ pos (nat_abs v)
-turned v h = omega (zarith, sub (pos 0) v, abs v, apart v)
-
-pub above : (v : ℤ) → pos 0 ≤ℤ v → T (non_neg v)
-above (pos v) h = tt
-above (negsuc v) h = absurd (none h)
-  where
-    none : {n : ℕ} → pos 0 ≤ℤ negsuc n → ⊥
-    none {n} h = omega zarith
 
 -- ---- M
 
@@ -66,9 +54,12 @@ module _ (h : Sheet) (s : Sized h) where
   unfolding widening
   widening-small = let p = product_small in omega arith
 
-pub widening-is : (h : Sheet) → (h.n * largest_edge h h.n + 2) / 2 ≡ widening h
+rounded-up : (v : ℕ) → div_ceil (v + 1) 2 ≡ (v + 2) / 2
+rounded-up v = omega arith
+
+pub widening-is : (h : Sheet) → div_ceil (h.n * largest_edge h h.n + 1) 2 ≡ widening h
 unfolding widening
-widening-is h = refl
+widening-is h = rounded-up (h.n * largest_edge h h.n)
 
 -- the widening as the machine holds it
 module _ (h : Sheet) (s : Sized h) (w : ℕ) (e : w ≡ widening h) where

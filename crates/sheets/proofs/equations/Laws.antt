@@ -11,8 +11,9 @@ use lib.Dec.{eqb}
 use lib.ListN.{get_or, set, replicate}
 use lib.Seq.{get_or-set_same}
 use lib.Ieee.{Float, binary64, add, sub, mul}
+use Rattle.std.proofs.lemmas.List.{get_or_default}
 use Rattle.laws.specs.Lists.{tab, padded}
-use Rattle.laws.specs.Tabs.{tab-step, tab-done, tab-same, padding-size, padding-at, any-default, FilledBy, filling-none, filling-more, filling-padded, get_d-below}
+use Rattle.laws.specs.Tabs.{tab-step, tab-done, tab-same, padding-size, padding-at, FilledBy, filling-none, filling-more, filling-padded, get_d-below}
 use Rattle.meaning.specs.declared.Sheet.{Sheet}
 use Rattle.meaning.specs.Sheets.{one_f, zero_f, room_at, exchange_at, sum_from, loss_sum, gained, coefficient, pushed, has_emitter, emitters, offset}
 use Rattle.promises.specs.Sheets.SheetPlants.{emitters-few}
@@ -55,7 +56,7 @@ module _ {A : Type 0} (z : A) (f : ℕ → A) (m : ℕ) where
 stored-read : {A : Type 0} (z d : A) (f : ℕ → A) (m n i : ℕ) (l : List A) → l ≡ padded m z (tab f n 0) → n ≤ m → i < n → get_or l i d ≡ f i
 stored-read z d f m n i l e few h =
     let long = padding-size z f m n few in
-    rw e (any-default (padded m z (tab f n 0)) i d z (omega (arith, long)) ∙ padding-at z f m n i h)
+    rw e (get_or_default (padded m z (tab f n 0)) i d z (omega (arith, long)) ∙ padding-at z f m n i h)
 
 module _ (h : Sheet) (few : h.n ≤ 4) (i : ℕ) (inside : i < h.n) where
   pub sum-read : (sums : List Float) → sums ≡ sums_of h → (d : Float) → get_or sums i d ≡ loss_sum h.n (room_at h i)

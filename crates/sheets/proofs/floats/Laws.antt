@@ -1,21 +1,21 @@
 -- A float of a sheet against its definition: its bytes, its exponent's field, what is asked of it; and its bytes written.
 -- Relies on promises' pages Floats and SheetRooms, and on wholes' page Fields.
-use Prim.Native.Nat.{ℕ, suc, ◌+◌, ◌-◌, ◌*◌, ◌/◌, ◌%◌, ◌^◌, ◌≤◌, ◌<◌}
-use mathlib.Core.Path.{◌≡◌, refl, sym, subst}
+use Prim.Native.Nat.{ℕ, zero, suc, ◌+◌, ◌*◌, ◌≤◌, ◌<◌}
+use mathlib.Core.Path.{◌≡◌, refl, ap}
 use mathlib.Core.Bool.{Bool, true, false, not, ◌&&◌}
-use mathlib.Core.List.{List, [], ◌∷◌, ◌++◌, map}
+use mathlib.Core.List.{List, [], ◌∷◌, map}
 use native.Mathlib.Omega.{arith}
-use native.Mathlib.Nat.{add-zero}
+use native.Mathlib.Nat.{div-div-eq-div-mul}
 use lib.ListN.{length, get_or, take, drop, length-take, length-drop}
 use lib.Seq.{drop-cons}
-use lib.Pow.{pow_mono, pow-add}
 use lib.Dec.{T, ltb, eqb, eqb→eq, not_T}
 use lib.IntN.{pos}
-use lib.Ieee.{Float, binary64, odd, of_fields, of_bits, to_bits, nan_bits, ne}
+use lib.Ieee.{Float, binary64, odd, of_fields, of_bits, to_bits, nan_bits, nan, inf, fin, is_nan}
 use lib.Ieee.Fits.{and_l}
 use lib.Ieee.Bits.{to_bits-of_bits}
-use lib.Ieee.Compare.{differs_from_itself}
 use borrow.Author.Tests.{lt-ltb, eq-eqb, ne_eqb}
+use Rattle.std.specs.Int.{w64, from_le_bytes, to_le_bytes}
+use Rattle.std.proofs.lemmas.List.{get_or-drop, drop_all}
 use Rattle.laws.specs.Lists.{all}
 use Rattle.meaning.specs.declared.Refusal.{Refusal}
 use Rattle.meaning.specs.Files.{taken, none, little, low_first, float_at, values_at}
@@ -27,58 +27,32 @@ use Rattle.files.specs.Parts.{behind, Fails, holds_then, holds-fails, fails-then
 use Rattle.sheets.specs.Floats.{Floated, two_part, TwoFloated}
 use Rattle.sheets.proofs.wholes.Fields.{exponent, digits, finite-good, finite-bad}
 
--- ---- eight bytes, of which those from k on are read
+-- ---- eight bytes, as the machine reads them
 
-abbrev window : List ℕ → ℕ → ℕ → List ℕ
-window s from k = take (8 - k) (drop (from + k) s)
+-- a list's number is that of its first entry and of the rest
+little-step : (s : List ℕ) (i : ℕ) → i < length s → little (drop i s) ≡ get_or s i 0 + 256 * little (drop (suc i) s)
+unfolding little
+little-step s i h = rw (drop-cons s i 0 h) refl
 
-abbrev Bytes : List ℕ → Type 0
-Bytes cs = all (map (λ c. ltb c 256) cs) ≡ true
+little-eight : (s : List ℕ) → length s ≡ 8 → little s ≡ from_le_bytes w64 s
+unfolding little
+little-eight s e =
+    let step = λ (i : ℕ) (h : i < 8). little-step s i (omega arith) in
+    let end = ap little (drop_all 8 s (omega arith)) in
+    omega (arith, step 0 (omega arith), step 1 (omega arith), step 2 (omega arith), step 3 (omega arith), step 4 (omega arith), step 5 (omega arith), step 6 (omega arith), step 7 (omega arith), end)
 
-pub record LowUpTo (s : List ℕ) (from k v : ℕ) : Type 0 where
-  pub few : k ≤ 8
-  pub value : little (window s from k) ≡ v
-  pub bytes : Bytes (window s from k)
-  pub small : v < 2 ^ (8 * (8 - k))
+small-bytes : (k : ℕ) (s : List ℕ) → ((i : ℕ) → get_or s i 0 < 256) → all (map (λ c. ltb c 256) (take k s)) ≡ true
+unfolding all
+small-bytes zero s h = refl
+small-bytes (suc k) [] h = refl
+small-bytes (suc k) (c ∷ s) h = simp (lt-ltb c 256 (h 0)) (small-bytes k s (λ i. h (suc i)))
 
-pub low-none : (s : List ℕ) (from : ℕ) → LowUpTo s from 8 0
-unfolding little all
-low-none s from = record { few = omega arith; value = refl; bytes = refl; small = omega arith }
-
--- there is room for one byte more
-pub low-room : {s : List ℕ} {from k v : ℕ} → LowUpTo s from k v → 0 < k → 255 + 256 * v < 2 ^ 64
-low-room {s} {from} {k} {v} w h =
-    let e : 8 * (8 - k) ≤ 56 = omega arith in
-    let p : 2 ^ (8 * (8 - k)) ≤ 2 ^ 56 = pow_mono e in
-    omega (arith, w.small)
-
-module _ {s : List ℕ} {from k v : ℕ} (w : LowUpTo s from k v) (h : 0 < k) (fits : from + 8 ≤ length s) where
-  one_more : window s from (k - 1) ≡ get_or s (from + (k - 1)) 0 ∷ window s from k
-  one_more =
-      let e : 8 - (k - 1) ≡ suc (8 - k) = omega (arith, w.few) in
-      let j : suc (from + (k - 1)) ≡ from + k = omega (arith, w.few) in
-      let l : from + (k - 1) < length s = omega (arith, w.few) in
-      rw (e, drop-cons s (from + (k - 1)) 0 l, j) refl
-
-  pub low-more : (c : ℕ) → c ≡ get_or s (from + (k - 1)) 0 → c < 256 → LowUpTo s from (k - 1) (c + 256 * v)
-  unfolding little all
-  low-more c e b =
-      let q : 8 * (8 - (k - 1)) ≡ 8 + 8 * (8 - k) = omega (arith, w.few) in
-      record {
-        few = omega (arith, w.few);
-        value = rw (one_more, ← e, w.value) refl;
-        bytes = rw (one_more, ← e) (simp (lt-ltb _ _ b) w.bytes);
-        small = rw (q, pow-add 2 8 (8 * (8 - k))) (omega (arith, w.small));
-      }
-
-pub low-all : {s : List ℕ} {from k v : ℕ} → LowUpTo s from k v → k ≤ 0 → from + 8 ≤ length s → float_at s from ≡ taken (pos v) (from + 8)
-low-all {s} {from} {k} {v} w h l =
-    let q : k ≡ 0 = omega arith in
-    let z : from + 0 ≡ from = add-zero from in
-    let a : little (take 8 (drop from s)) ≡ v = rw (q, z) at w.value in
-    let b : Bytes (take 8 (drop from s)) = rw (q, z) at w.bytes in
-    let long : length (take 8 (drop from s)) ≡ 8 = omega (arith, length-take 8 (drop from s), length-drop from s) in
-    simp (eq-eqb _ _ long, b, a)
+pub low-read : (s : List ℕ) (from : ℕ) → from + 8 ≤ length s → ((i : ℕ) → get_or s i 0 < 256) → float_at s from ≡ taken (pos (from_le_bytes w64 (take 8 (drop from s)))) (from + 8)
+low-read s from h b =
+    let cs = take 8 (drop from s) in
+    let long : length cs ≡ 8 = omega (arith, length-take 8 (drop from s), length-drop from s) in
+    let bytes = small-bytes 8 (drop from s) (λ i. rw (get_or-drop from s i 0) (b (from + i))) in
+    simp (eq-eqb (length cs) 8 long, bytes, little-eight cs long)
 
 -- fewer than eight
 pub cut_short : (s : List ℕ) (from : ℕ) → length s < from + 8 → float_at s from ≡ none
@@ -138,18 +112,16 @@ module _ (ok : Float → Bool) (s : List ℕ) (start : ℕ) where
 
 -- ---- a float written
 
-pub nan-bits : (x : Float) → ne x x ≡ true → 0x7ff8_0000_0000_0000 ≡ to_bits binary64 x
-unfolding to_bits
-nan-bits x h = rw (differs_from_itself x (subst T (sym h) tt)) refl
+pub nan-bits : (x : Float) → is_nan x ≡ true → 0x7ff8_0000_0000_0000 ≡ to_bits binary64 x
+unfolding to_bits is_nan
+nan-bits nan h = refl
+nan-bits (inf s) h = cc
+nan-bits (fin s m e) h = cc
 
--- k of eight bytes are written, one more, or none
-pub low_step : (k v : ℕ) → k < 8 → low_first (8 - k) v ≡ (v % 256 ∷ []) ++ low_first (8 - (k + 1)) (v / 256)
+-- its bytes, as the machine gives them
+pub low-bytes : (v : ℕ) → to_le_bytes w64 v ≡ low_first 8 v
 unfolding low_first
-low_step k v h = let q : 8 - k ≡ suc (8 - (k + 1)) = omega arith in rw q refl
-
-pub low-over : (k v : ℕ) → 8 ≤ k → low_first (8 - k) v ≡ []
-unfolding low_first
-low-over k v h = let q : 8 - k ≡ 0 = omega arith in rw q refl
+low-bytes v = simp div-div-eq-div-mul
 
 -- the machine's 0.0
 pub zero_is : of_bits binary64 0 ≡ zero_f

@@ -12,8 +12,9 @@ use lib.Seq.{get_or-set_same}
 use lib.IntN.{pos}
 use lib.Ieee.{Float}
 use borrow.Author.Tests.{le-leb, lt-leb}
+use Rattle.std.proofs.lemmas.List.{get_or_default}
 use Rattle.laws.specs.Columns.{tab-tabs}
-use Rattle.laws.specs.Tabs.{any-default, FilledBy, filling-none, filling-more, get_d-below}
+use Rattle.laws.specs.Tabs.{FilledBy, filling-none, filling-more, get_d-below}
 use Rattle.laws.specs.Writing.{Put}
 use Rattle.meaning.specs.Answers.{Walk}
 use Rattle.meaning.specs.declared.Refusal.{Refusal}
@@ -200,4 +201,4 @@ module _ {s : List ℕ} {start n i p : ℕ} {rooms : List Room} (w : RoomsUpTo s
 -- ---- the room that is read out of the array and written
 
 pub put-there : (n : ℕ) (rooms : List Room) (i : ℕ) (d : Room) {buf : List ℕ} {p r : ℕ} {out : List ℕ} → i < length rooms → Put buf p (room_bytes n (get_or rooms i d)) r out → Put buf p (bytes_of_room n rooms i) r out
-put-there n rooms i d h t = rw (any-default rooms i no_room d h) t
+put-there n rooms i d h t = rw (get_or_default rooms i no_room d h) t

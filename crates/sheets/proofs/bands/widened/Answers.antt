@@ -14,60 +14,6 @@ use Rattle.sheets.proofs.bands.widened.Goals as goal
 pub loop-i-init : goal.loop-i-init
 loop-i-init c = bands-none c.args.h
 
-pub low_end-lo-requires : goal.low_end-lo-requires
-low_end-lo-requires c = record { fact_1 = c.requires; fact_2 = omega arith }
-
-pub high_end-hi-requires : goal.high_end-hi-requires
-high_end-hi-requires c = record { fact_1 = c.requires; fact_2 = omega arith }
-
-pub value-requires : goal.value-requires
-value-requires c = tt
-
-pub overflow_mul-ends : goal.overflow_mul-ends
-overflow_mul-ends c = let s = c.requires in omega (arith, s.few)
-
-pub offset_bounds-ends-i : goal.offset_bounds-ends-i
-offset_bounds-ends-i c = let s = c.requires in omega (arith, s.few)
-
-pub bounds-ends-i : goal.bounds-ends-i
-bounds-ends-i c = let s = c.requires in omega (arith, s.few)
-
-pub value-requires-in-loop-i : goal.value-requires-in-loop-i
-value-requires-in-loop-i c = tt
-
-pub overflow_mul-ends-in-loop-i : goal.overflow_mul-ends-in-loop-i
-overflow_mul-ends-in-loop-i c = let s = c.requires in omega (arith, s.few)
-
-pub overflow_add-ends : goal.overflow_add-ends
-overflow_add-ends c = let s = c.requires in omega (arith, s.few)
-
-pub offset_bounds-ends-i-in-loop-i : goal.offset_bounds-ends-i-in-loop-i
-offset_bounds-ends-i-in-loop-i c = let s = c.requires in omega (arith, s.few)
-
-pub bounds-ends-i-in-loop-i : goal.bounds-ends-i-in-loop-i
-bounds-ends-i-in-loop-i c = let s = c.requires in omega (arith, s.few)
-
-pub overflow_mul-i : goal.overflow_mul-i
-overflow_mul-i c = let s = c.requires in omega (arith, s.few)
-
-pub joined_one-first-requires : goal.joined_one-first-requires
-joined_one-first-requires c = let s = c.requires in omega (arith, s.few)
-
-pub overflow_mul-i-in-loop-i : goal.overflow_mul-i-in-loop-i
-overflow_mul-i-in-loop-i c = let s = c.requires in omega (arith, s.few)
-
-pub overflow_add-i : goal.overflow_add-i
-overflow_add-i c = let s = c.requires in omega (arith, s.few)
-
-pub joined_one-first-requires-in-loop-i : goal.joined_one-first-requires-in-loop-i
-joined_one-first-requires-in-loop-i c = let s = c.requires in omega (arith, s.few)
-
-pub overflow_add-i-in-loop-i : goal.overflow_add-i-in-loop-i
-overflow_add-i-in-loop-i c = let s = c.requires in omega (arith, s.few)
-
-pub loop-i-smaller : goal.loop-i-smaller
-loop-i-smaller c = omega arith
-
 pub loop-i-preserved : goal.loop-i-preserved
 loop-i-preserved c =
     let h = c.args.h in

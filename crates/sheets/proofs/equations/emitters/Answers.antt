@@ -1,38 +1,26 @@
--- `equations::emitters`: so far, those of the first i rooms. Assumes nothing.
-use mathlib.Core.Path.{sym, ap, ◌∙◌}
+-- `equations::emitters`: so far, those of the first rooms. Assumes nothing.
+use Prim.Native.Nat.{◌<◌}
+use mathlib.Core.Path.{◌≡◌, sym, ap, ◌∙◌}
 use native.Mathlib.Omega.{arith}
-use Rattle.meaning.specs.Sheets as S
+use borrow.Author.Rules.{rules}
+use lib.ListN.{length}
+use Rattle.std.proofs.lemmas.List.{length-take, get_or-take, get_or_default}
 use Rattle.meaning.specs.declared.Room.{Room}
-use Rattle.meaning.specs.Sheets.{room_at, has_emitter}
+use Rattle.meaning.specs.Sheets.{no_room, room_at, has_emitter}
 use Rattle.promises.specs.Sheets.SheetPlants.{has_one}
 use Rattle.sheets.proofs.equations.Laws.{none_before, one_more}
 use Rattle.sheets.proofs.equations.emitters.Goals as goal
 
-pub loop-i-init : goal.loop-i-init
-loop-i-init c = (omega arith, omega arith, sym (none_before c.args.h))
+pub loop-room-init : goal.loop-room-init
+loop-room-init c = (omega arith, sym (none_before c.args.h))
 
-pub room_of-room-requires : goal.room_of-room-requires
-room_of-room-requires c = omega arith
-
-pub has_emitter-t-requires : goal.has_emitter-t-requires
-has_emitter-t-requires c = tt
-
-pub overflow_add-t : goal.overflow_add-t
-overflow_add-t c = omega (arith, c.has_emitter-t.ensures, has_one c.room_of-room.result.emitter)
-
-pub overflow_add-i : goal.overflow_add-i
-overflow_add-i c = omega arith
-
-pub loop-i-smaller : goal.loop-i-smaller
-loop-i-smaller c = omega arith
-
-pub loop-i-preserved : goal.loop-i-preserved
-loop-i-preserved c =
+pub loop-room-preserved : goal.loop-room-preserved
+loop-room-preserved c =
     let h = c.args.h in
-    let i = c.loop-i.i in
-    let e = c.has_emitter-t.ensures ∙ ap (λ (room : Room). has_emitter room.emitter) c.room_of-room.ensures in
-    let few = has_one (room_at h i).emitter in
-    (omega arith, omega arith, omega (arith, one_more h i, c.loop-i.invariant.2))
-
-pub returns : goal.returns
-returns c = let l = c.loop-i in l.invariant.2 ∙ ap (S.emitters c.args.h) (omega arith)
+    let i = c.loop-room.room-index in
+    let long : length h.rooms ≡ 4 = search rules in
+    let few : i < c.args.m = omega (arith, length-take c.args.m h.rooms) in
+    let e = rw get_or-take at c.has_emitter-t.ensures in
+    let one = e ∙ ap (λ (room : Room). has_emitter room.emitter) (get_or_default h.rooms i _ no_room (omega arith)) in
+    let most = has_one (room_at h i).emitter in
+    (omega arith, omega (arith, one_more h i, c.loop-room.invariant.1))

@@ -1,12 +1,8 @@
--- `equations::emitters`: so far, those of the first i rooms. Assumes nothing.
-use Prim.Native.Nat.{◌-◌, ◌≤◌}
+-- `equations::emitters`: so far, those of the first rooms. Assumes nothing.
+use Prim.Native.Nat.{◌≤◌}
 use mathlib.Core.Path.{◌≡◌}
 use Rattle.meaning.specs.Sheets as S
-use Rattle.meaning.specs.Sheets.{room_at, has_emitter}
 use Rattle.sheets.proofs.equations.emitters.Given as goal
 
-abbrev pub invariant-loop-i : goal.invariant-loop-i
-invariant-loop-i l = (l.i ≤ l.m) × (l.t ≤ l.i) × (l.t ≡ S.emitters l.h l.i)
-
-abbrev pub decreases-loop-i : goal.decreases-loop-i
-decreases-loop-i l = l.m - l.i
+abbrev pub invariant-loop-room : goal.invariant-loop-room
+invariant-loop-room l = (l.t ≤ l.room-index) × (l.t ≡ S.emitters l.fn.h l.room-index)

@@ -1,34 +1,28 @@
 -- `equations::loss_sum`: what is summed so far and what is left give the whole sum. Assumes nothing.
-use Prim.Native.Nat.{◌-◌}
-use mathlib.Core.Path.{sym, ap, ◌∙◌}
+use Prim.Native.Nat.{◌-◌, ◌<◌}
+use mathlib.Core.Path.{◌≡◌, sym, ◌∙◌}
 use native.Mathlib.Omega.{arith}
-use Rattle.laws.specs.Tabs.{tab-all}
-use Rattle.meaning.specs.Sheets.{exchange_at, sum_from}
+use borrow.Author.Rules.{rules}
+use lib.ListN.{length}
+use lib.Ieee.{nan}
+use Rattle.std.proofs.lemmas.List.{length-take, get_or-take, get_or_default}
+use Rattle.meaning.specs.Sheets.{zero_f, exchange_at}
 use Rattle.sheets.proofs.equations.Laws.{sum_step, sum_done}
 use Rattle.sheets.proofs.equations.loss_sum.Goals as goal
 
-pub overflow_sub-others : goal.overflow_sub-others
-overflow_sub-others c = omega arith
-
-pub loop-j-init : goal.loop-j-init
-loop-j-init c = let a = c.args in (omega arith, ap (sum_from a.loss) (tab-all (exchange_at a.room) (a.n - 1)))
-
-pub exchange-s-requires : goal.exchange-s-requires
-exchange-s-requires c = omega arith
-
-pub overflow_add-j : goal.overflow_add-j
-overflow_add-j c = omega arith
-
-pub loop-j-smaller : goal.loop-j-smaller
-loop-j-smaller c = omega arith
-
-pub loop-j-preserved : goal.loop-j-preserved
-loop-j-preserved c =
+pub loop-g-preserved : goal.loop-g-preserved
+loop-g-preserved c =
     let a = c.args in
-    let g = exchange_at a.room in
-    (omega arith, rw c.exchange-s.ensures (sym (sum_step g c.loop-j.s (a.n - 1) c.loop-j.j (omega arith)) ∙ c.loop-j.invariant.1))
+    let gs = a.room.exchange in
+    let j = c.loop-g.g-index in
+    let long : length gs ≡ 3 = search rules in
+    let few : j < a.n - 1 = omega (arith, length-take (a.n - 1) gs) in
+    let same = get_or-take (a.n - 1) gs j nan few ∙ get_or_default gs j nan zero_f (omega arith) in
+    rw same (sym (sum_step (exchange_at a.room) c.loop-g.s (a.n - 1) j few) ∙ c.loop-g.invariant)
 
 pub returns : goal.returns
 returns c =
     let a = c.args in
-    sym (sum_done (exchange_at a.room) c.loop-j.s (a.n - 1) c.loop-j.j (omega arith)) ∙ c.loop-j.invariant.1
+    let gs = a.room.exchange in
+    let long : length gs ≡ 3 = search rules in
+    sym (sum_done (exchange_at a.room) c.loop-g.s (a.n - 1) c.loop-g.g-index (omega (arith, length-take (a.n - 1) gs))) ∙ c.loop-g.invariant

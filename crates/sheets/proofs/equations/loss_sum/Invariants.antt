@@ -1,12 +1,11 @@
 -- `equations::loss_sum`: what is summed so far and what is left give the whole sum. Assumes nothing.
-use Prim.Native.Nat.{◌-◌, ◌≤◌}
+use Prim.Native.Nat.{◌-◌}
 use mathlib.Core.Path.{◌≡◌}
 use Rattle.laws.specs.Lists.{tab}
 use Rattle.meaning.specs.Sheets.{exchange_at, sum_from}
 use Rattle.sheets.proofs.equations.loss_sum.Given as goal
 
-abbrev pub invariant-loop-j : goal.invariant-loop-j
-invariant-loop-j l = (l.j ≤ l.n) × (sum_from l.s (tab (exchange_at l.room) (l.others - l.j) l.j) ≡ sum_from l.loss (tab (exchange_at l.room) (l.n - 1) 0))
-
-abbrev pub decreases-loop-j : goal.decreases-loop-j
-decreases-loop-j l = l.others - l.j
+abbrev pub invariant-loop-g : goal.invariant-loop-g
+invariant-loop-g l =
+    let g = exchange_at l.fn.room in
+    sum_from l.s (tab g (l.n - 1 - l.g-index) l.g-index) ≡ sum_from l.loss (tab g (l.n - 1) 0)

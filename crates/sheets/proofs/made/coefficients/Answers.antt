@@ -9,35 +9,8 @@ use Rattle.sheets.specs.Wholes.{joined, near}
 use Rattle.sheets.proofs.made.Laws.{entries_none, entries-more, entries-all}
 use Rattle.sheets.proofs.made.coefficients.Goals as goal
 
-pub loss_sums-sums-requires : goal.loss_sums-sums-requires
-loss_sums-sums-requires c = let s = c.requires.fact_1 in record { fact_1 = s.some; fact_2 = s.few }
-
-pub bits-bits-requires : goal.bits-bits-requires
-bits-bits-requires c = c.requires.fact_1.few
-
 pub loop-p-init : goal.loop-p-init
 loop-p-init c = let a = c.args in entries_none a.h a.count
-
-pub entry-w-requires : goal.entry-w-requires
-entry-w-requires c = record { fact_1 = c.requires.fact_1; fact_2 = c.loss_sums-sums.ensures; fact_3 = c.bits-bits.ensures }
-
-pub value-requires : goal.value-requires
-value-requires c = tt
-
-pub offset_bounds-coef-p : goal.offset_bounds-coef-p
-offset_bounds-coef-p c = omega arith
-
-pub bounds-coef-p : goal.bounds-coef-p
-bounds-coef-p c = omega arith
-
-pub joined_one-first-requires : goal.joined_one-first-requires
-joined_one-first-requires c = omega arith
-
-pub overflow_add-p : goal.overflow_add-p
-overflow_add-p c = omega arith
-
-pub loop-p-smaller : goal.loop-p-smaller
-loop-p-smaller c = omega arith
 
 pub loop-p-preserved : goal.loop-p-preserved
 loop-p-preserved c =

@@ -53,9 +53,6 @@ overflow_mul-count c = rw c.modes-modes.ensures (record { fits = omega (arith, r
 pub overflow_mul-count-2 : goal.overflow_mul-count-2
 overflow_mul-count-2 c = rw c.modes-modes.ensures (record { fits = omega (arith, count-few c.args.h c.requires) })
 
-pub widened-b-requires : goal.widened-b-requires
-widened-b-requires c = c.requires
-
 pub coefficients-c-requires : goal.coefficients-c-requires
 coefficients-c-requires c = record { fact_1 = c.requires; fact_2 = rw c.modes-modes.ensures (count-few c.args.h c.requires) }
 

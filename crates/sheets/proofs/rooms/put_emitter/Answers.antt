@@ -2,9 +2,6 @@
 use Rattle.laws.specs.Writing.{put-append}
 use Rattle.sheets.proofs.rooms.put_emitter.Goals as goal
 
-pub returns-in-None : goal.returns-in-None
-returns-in-None c = rw c.in-None.is c.put_number.ensures
-
 pub returns-in-Heater : goal.returns-in-Heater
 returns-in-Heater c = rw c.in-Heater.is (put-append c.put_number-past_kind.ensures (put-append c.put_float-past_coefficient.ensures c.put_float.ensures))
 

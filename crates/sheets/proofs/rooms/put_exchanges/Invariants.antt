@@ -1,12 +1,11 @@
 -- `rooms::put_exchanges`: what is left to write is the definition's rest. Assumes nothing.
-use Prim.Native.Nat.{◌-◌, ◌≤◌}
+use Prim.Native.Nat.{◌-◌}
 use Rattle.laws.specs.Lists.{tabs}
 use Rattle.laws.specs.Writing.{Under}
 use Rattle.sheets.specs.Rooms.{exchange_bytes}
 use Rattle.sheets.proofs.rooms.put_exchanges.Given as goal
 
-abbrev pub invariant-loop-j : goal.invariant-loop-j
-invariant-loop-j l = (l.j ≤ l.m) × Under l.initial.buf l.at (tabs (exchange_bytes l.exchange) l.m 0) (tabs (exchange_bytes l.exchange) (l.m - l.j) l.j) l.p l.buf
-
-abbrev pub decreases-loop-j : goal.decreases-loop-j
-decreases-loop-j l = l.m - l.j
+abbrev pub invariant-loop-g : goal.invariant-loop-g
+invariant-loop-g l =
+    let bytes = exchange_bytes l.fn.exchange in
+    Under l.initial.buf l.at (tabs bytes l.m 0) (tabs bytes (l.m - l.g-index) l.g-index) l.p l.buf

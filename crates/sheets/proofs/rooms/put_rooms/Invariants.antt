@@ -1,12 +1,11 @@
 -- `rooms::put_rooms`: what is left to write is the definition's rest. Assumes nothing.
-use Prim.Native.Nat.{◌-◌, ◌≤◌}
+use Prim.Native.Nat.{◌-◌}
 use Rattle.laws.specs.Lists.{tabs}
 use Rattle.laws.specs.Writing.{Under}
 use Rattle.sheets.specs.Rooms.{bytes_of_room}
 use Rattle.sheets.proofs.rooms.put_rooms.Given as goal
 
-abbrev pub invariant-loop-i : goal.invariant-loop-i
-invariant-loop-i l = (l.i ≤ l.n) × Under l.initial.buf l.at (tabs (bytes_of_room l.n l.rooms) l.n 0) (tabs (bytes_of_room l.n l.rooms) (l.n - l.i) l.i) l.p l.buf
-
-abbrev pub decreases-loop-i : goal.decreases-loop-i
-decreases-loop-i l = l.n - l.i
+abbrev pub invariant-loop-room : goal.invariant-loop-room
+invariant-loop-room l =
+    let bytes = bytes_of_room l.n l.fn.rooms in
+    Under l.initial.buf l.at (tabs bytes l.n 0) (tabs bytes (l.n - l.room-index) l.room-index) l.p l.buf
