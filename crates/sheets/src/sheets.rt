@@ -17,32 +17,6 @@ use meaning::{Refusal, Room, Sheet};
 // The writer's draft: more than the 503 bytes that any values of a sheet take, right or not.
 const DRAFT: usize = 512;
 
-fn refused(e: Refusal) -> Result<Sheet, Refusal>
-    ensures { result ≡ sheet_read_of (bad e) }
-{
-    let none = rooms::no_room();
-    let rooms = [none; 4];
-    SheetRead {
-        verdict: Err(e),
-        sheet: Sheet {
-            n: 0,
-            r: 0,
-            q: 0,
-            k: 0,
-            d: 0,
-            rlo: [0i64; 4],
-            rhi: [0i64; 4],
-            slo: [0i64; 4],
-            shi: [0i64; 4],
-            wlo: [0i64; 4],
-            whi: [0i64; 4],
-            time: 0.0,
-            outside: 0.0,
-            rooms,
-        },
-    }
-}
-
 // A beginning and what stands behind it, put together.
 fn accepted(b: Beginning, time: f64, outside: f64, rooms: [Room; 4]) -> Result<Sheet, Refusal>
     ensures { result ≡ sheet_read_of (good (sheet_with b time outside rooms)) }
@@ -84,19 +58,19 @@ fn read_body(
     ensures sized { TakenSized result }
 {
     match floats::read_two(s, at, Asked::Above) {
-        Err(e) => refused(e),
+        Err(e) => Err(e),
         Ok((time, outside, mid)) => {
             let n = b.n;
             let read = rooms::read_rooms(s, mid, n);
             let past = read.answer;
             match past {
-                Err(e) => refused(e),
+                Err(e) => Err(e),
                 Ok(next) => {
                     if next != s.len() {
-                        return refused(files::refusals::unfit(next));
+                        return Err(files::refusals::unfit(next));
                     }
                     match related {
-                        Err(e) => refused(e),
+                        Err(e) => Err(e),
                         Ok(()) => {
                             let rooms = read.rooms;
                             accepted(b, time, outside, rooms)
@@ -116,7 +90,7 @@ fn read_values(s: &[u8]) -> Result<Sheet, Refusal>
     let read = beginnings::read_beginning(s, 1, 1_000);
     let past = read.answer;
     match past {
-        Err(e) => refused(e),
+        Err(e) => Err(e),
         Ok(at) => {
             let b = read.beginning;
             let related = read.related;
@@ -134,7 +108,7 @@ fn fitted(h: Sheet) -> Result<Sheet, Refusal>
     if made.fits {
         return Ok(h);
     }
-    refused(refusals::bad_result(made.place))
+    Err(refusals::bad_result(made.place))
 }
 
 // A sheet's file, judged in order: number, place and step of the first fault, or the sheet.
@@ -142,7 +116,7 @@ pub fn read_sheet(s: &[u8]) -> Result<Sheet, Refusal>
     ensures { result ≡ sheet_read s.now }
 {
     match read_values(s) {
-        Err(e) => refused(e),
+        Err(e) => Err(e),
         Ok(h) => fitted(h),
     }
 }
