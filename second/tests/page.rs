@@ -22,14 +22,9 @@ use std::fmt::Write;
 const HEAD: &str = "\
 -- The second program's answers, held against the definitions: each equation is computed by the checker.
 -- Written by second/tests/page.rs, which also tests that this page says what the second program answers.
-use Rattle.std.specs.Prelude.{ℕ, ◌≡◌, refl, List, [], ◌∷◌, replicate, pos, neg_ℤ}
-use Rattle.meaning.specs.declared.Number.{Number}
-use Rattle.meaning.specs.declared.Signed.{Signed}
+use Rattle.std.specs.Prelude.{ℕ, ◌≡◌, refl, List, [], ◌∷◌, replicate, ℤ, pos, neg_ℤ, Some, None, Ok, Err}
+use Rattle.meaning.specs.Answers.{verdict_in, SheetRead}
 use Rattle.meaning.specs.declared.Tried.{Tried}
-use Rattle.meaning.specs.declared.Verdict.{Verdict}
-use Rattle.meaning.specs.declared.Written.{Written}
-use Rattle.meaning.specs.declared.Answer.{Answer}
-use Rattle.meaning.specs.declared.StartAnswer.{StartAnswer}
 use Rattle.meaning.specs.Refusals.{refusal}
 use Rattle.meaning.specs.Numbers.{number_at, signed_at}
 use Rattle.meaning.specs.Boxes.{side, children, longest_halved}
@@ -41,6 +36,11 @@ use Rattle.meaning.specs.Tables.{rules_of, checked, maker_left, controlled}
 use Rattle.meaning.specs.Starts.{start_checked, start_left, start_controlled}
 use Rattle.meaning.specs.Sheets.{sheet_of, sheet_values, sheet_read, sheet_left, made_left}
 use Rattle.meaning.specs.Computing.{computing}
+
+-- a sheet's values; none of a refused one
+abbrev values_in : SheetRead → List ℤ
+values_in (Ok h) = sheet_values h
+values_in (Err e) = []
 
 -- a lent buffer of m bytes, none of them 0
 abbrev lent : ℕ → List ℕ
@@ -69,22 +69,22 @@ fn wholes(values: &[i128]) -> String {
 }
 
 fn refused(refusal: &Refusal) -> String {
-    format!("Refused (refusal {} {} {})", refusal.number, refusal.place, refusal.step)
+    format!("Err (refusal {} {} {})", refusal.number, refusal.place, refusal.step)
 }
 
 fn verdict<T>(answer: &Result<T, Refusal>) -> String {
     match answer {
-        Ok(_) => "Verdict.Accepted".into(),
-        Err(refusal) => format!("Verdict.{}", refused(refusal)),
+        Ok(_) => "Ok tt".into(),
+        Err(refusal) => refused(refusal),
     }
 }
 
 fn left(answer: &Result<usize, Refusal>, buffer: &[u8]) -> String {
     let word = match answer {
-        Ok(length) => format!("Length {length}"),
+        Ok(length) => format!("Ok {length}"),
         Err(refusal) => refused(refusal),
     };
-    format!("record {{ answer = Written.{word}; buffer = {} }}", bytes(buffer))
+    format!("record {{ answer = {word}; buffer = {} }}", bytes(buffer))
 }
 
 fn boxed(of: &Box) -> String {
@@ -166,20 +166,20 @@ impl Page {
 
     fn number(&mut self, file: &[u8], place: usize) {
         let plain = match read_unsigned(file, place) {
-            Ok((value, next)) => format!("Number.Value {value} {next}"),
-            Err(_) => "Number.Broken".into(),
+            Ok((value, next)) => format!("Some ({value}, {next})"),
+            Err(_) => "None".into(),
         };
         self.equation(&format!("number_at ({}) {place}", bytes(file)), &plain);
         let signed = match read_signed(file, place) {
-            Ok((value, next)) => format!("Signed.Value ({}) {next}", whole(value.into())),
-            Err(_) => "Signed.Broken".into(),
+            Ok((value, next)) => format!("Some ({}, {next})", whole(value.into())),
+            Err(_) => "None".into(),
         };
         self.equation(&format!("signed_at ({}) {place}", bytes(file)), &signed);
     }
 
     fn plant(&mut self, file: &[u8]) {
         let answer = read_plant(file);
-        self.equation(&format!("(plant_read ({})).verdict", bytes(file)), &verdict(&answer));
+        self.equation(&format!("verdict_in (plant_read ({}))", bytes(file)), &verdict(&answer));
         if let Ok(plant) = answer {
             self.equation(&format!("plant_judged ({})", bytes(file)), &format!("good (plant_of ({}))", wholes(&plant_numbers(&plant))));
         }
@@ -193,9 +193,9 @@ impl Page {
 
     fn sheet(&mut self, file: &[u8]) {
         let answer = read_sheet(file);
-        self.equation(&format!("(sheet_read ({})).verdict", bytes(file)), &verdict(&answer));
+        self.equation(&format!("verdict_in (sheet_read ({}))", bytes(file)), &verdict(&answer));
         if let Ok(sheet) = answer {
-            self.equation(&format!("sheet_values (sheet_read ({})).sheet", bytes(file)), &wholes(&sheet_numbers(&sheet)));
+            self.equation(&format!("values_in (sheet_read ({}))", bytes(file)), &wholes(&sheet_numbers(&sheet)));
         }
     }
 
@@ -229,8 +229,8 @@ impl Page {
     fn control(&mut self, plant: &[u8], table: &[u8], state: (u64, u64), reading: [i64; 4]) {
         let (place, left) = state;
         let right = match control(plant, table, State { place, left }, reading) {
-            Ok((mode, next)) => format!("Answer.Mode {mode} (record {{ place = {}; left = {} }})", next.place, next.left),
-            Err(refusal) => format!("Answer.{}", refused(&refusal)),
+            Ok((mode, next)) => format!("Ok ({mode}, record {{ place = {}; left = {} }})", next.place, next.left),
+            Err(refusal) => refused(&refusal),
         };
         self.equation(
             &format!(

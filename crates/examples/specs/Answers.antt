@@ -1,6 +1,6 @@
 -- The second program's answers, held against the definitions: each equation is computed by the checker.
 -- Written by second/tests/page.rs, which also tests that this page says what the second program answers.
-use Rattle.std.specs.Prelude.{ℕ, ◌≡◌, refl, List, [], ◌∷◌, replicate, pos, neg_ℤ, Some, None, Ok, Err, ℤ}
+use Rattle.std.specs.Prelude.{ℕ, ◌≡◌, refl, List, [], ◌∷◌, replicate, ℤ, pos, neg_ℤ, Some, None, Ok, Err}
 use Rattle.meaning.specs.Answers.{verdict_in, SheetRead}
 use Rattle.meaning.specs.declared.Tried.{Tried}
 use Rattle.meaning.specs.Refusals.{refusal}

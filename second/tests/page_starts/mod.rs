@@ -49,8 +49,8 @@ fn standing(state: &StartState) -> String {
 fn call(plant: &[u8], start: &[u8], state: StartState, reading: [i64; 4]) -> Said {
     let answer = start_control(plant, start, state, reading);
     let right = match &answer {
-        Ok((mode, next)) => format!("StartAnswer.Mode {mode} ({})", standing(next)),
-        Err(refusal) => format!("StartAnswer.{}", refused(refusal)),
+        Ok((mode, next)) => format!("Ok ({mode}, {})", standing(next)),
+        Err(refusal) => refused(refusal),
     };
     let reading = wholes(&reading.map(i128::from));
     let left = format!("start_controlled ({}) ({}) ({}) ({reading})", bytes(plant), bytes(start), standing(&state));
