@@ -1,6 +1,6 @@
 // Document 01's values and answers, as the code holds them. What they mean stands in specs/, page by page; no code.
-// Counts and places are usize, readings, edges, bands and coefficients i64. An enum cannot hold an array, so where a value
-// with arrays may be refused, a struct holds the verdict beside it.
+// Counts and places are usize, readings, edges, bands and coefficients i64. What may be refused is a Result with a Refusal, and
+// what may be missing an Option; the paper's names of these answers stand in specs/, page Answers.
 
 #![tactic(auto)]
 
