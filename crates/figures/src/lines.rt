@@ -51,3 +51,27 @@ impl Lines {
         self.bytes.extend_from_slice(&digits[..end])
     }
 }
+
+#[cfg(test)]
+mod tests {
+    use super::*;
+    use std::test::Fail;
+
+    #[test]
+    fn says_all(rt: HostRuntime) -> Result<(), Fail> {
+        let mut lines = Lines::new(rt.alloc());
+        lines.text("≤ ")?;
+        lines.number(0)?;
+        lines.text(" ")?;
+        lines.number(usize::MAX)?;
+        lines.text(" ")?;
+        lines.signed(-1)?;
+        lines.text("\n")?;
+        lines.signed(i64::MIN)?;
+        lines.text(" ")?;
+        lines.signed(i64::MAX)?;
+        let wanted = "≤ 0 18446744073709551615 -1\n-9223372036854775808 9223372036854775807";
+        assert_eq!(rt; lines.as_bytes(), wanted.as_bytes());
+        Ok(())
+    }
+}
