@@ -135,13 +135,18 @@ pub fn number(word: &Word) -> Option<usize> {
     Some(digits.parse().unwrap_or(usize::MAX))
 }
 
+// Whether a read failed for want of memory for its bytes, and not in the system.
+fn is_memory(error: &io::Error) -> bool {
+    error.kind() == ErrorKind::OutOfMemory && error.raw_os_error().is_none()
+}
+
 // What can be read of an input, as many bytes at most. It ends where a read fails.
 pub fn read_full(alloc: Global, input: &mut impl Read, most: usize) -> Result<Vec<u8>, AllocError>
     ensures { IfOk result (λ v. vec_len v ≤ most) }
 {
     let mut bytes = Vec::new(alloc);
     if let Err(error) = input.take(most as u64).read_to_end(&mut bytes) {
-        if error.kind() == ErrorKind::OutOfMemory {
+        if is_memory(&error) {
             return Err(AllocError);
         }
     }
@@ -171,7 +176,13 @@ fn read_past<'a>(
     most: usize,
 ) -> Result<Vec<u8>, Fault<'a>> {
     let path = word.as_ref().ok_or(Fault::Word)?.as_slice();
-    read_named(rt, path, (most as u64).saturating_add(1)).map_err(|error| Fault::File(path, error))
+    read_named(rt, path, (most as u64).saturating_add(1)).map_err(|error| {
+        if is_memory(&error) {
+            Fault::Memory(AllocError)
+        } else {
+            Fault::File(path, error)
+        }
+    })
 }
 
 // The file that a word names, as many bytes at most.
