@@ -1,19 +1,20 @@
-// The program's arguments: files that they name, read whole into a lent buffer, and words. Relies on std for input and output, on page tellings for
-// standard error. Leaves out what a file says. What goes wrong is told there: the file's name and why. A buffer is longer than any right file of its kind,
-// by as many bytes as settle what is said of one that goes on behind it; so every file is judged, however long. A start file's lengths may reach as far as
-// they like, so that no number of bytes settles what is said of it: who reads one asks whether it was read whole.
-ghost use Rattle.std.specs.Prelude.{◌≤◌, length};
+// The words that a program is called with: files that they name, read into memory, and numbers. Relies on std for input and output, on page tellings for
+// standard error. Leaves out what a file says. No more of a file is read than a right one of its kind can have, and as many bytes as settle what is said of
+// one that goes on behind that; so every file is judged, however long. A start file's lengths may reach as far as they like, so that no number of bytes
+// settles what is said of it: one that goes on is not judged (read_whole).
+ghost use Rattle.std.specs.Prelude.{◌≡◌, ◌≤◌, ◌↔◌, false, codes, IfOk, IsTrue, MatchOption, vec_len};
 ghost use Rattle.io.specs.Counts.{IsPrefixLen};
 
 use crate::tellings;
+use std::alloc::{AllocError, Global};
 use std::env::{Env, FillError};
 use std::fs::File;
-use std::io::{Cursor, Read, Stderr, Write};
+use std::io::{Read, Stderr};
 use std::rt::Files;
 use std::{io, str};
 
-// Room for a file of each kind. No plant has more than 27,704 bytes, and a byte more settles any file. No table has more than 58,965; its last number
-// begins at 58,963 at most, and five bytes tell what a number is.
+// The bytes of a file of each kind that are judged. No plant has more than 27,704 bytes, and a byte more settles any file. No table has more than 58,965; its
+// last number begins at 58,963 at most, and five bytes tell what a number is.
 pub const PLANT: usize = 27_705;
 
 pub const TABLE: usize = 58_970;
@@ -21,82 +22,118 @@ pub const TABLE: usize = 58_970;
 // More than the 530,810 bytes of the largest.
 pub const START: usize = 535_000;
 
-// Room for an argument: no path has more than 4,095 bytes.
-const ARGUMENT: usize = 4_096;
+// Room for a word: no path has more than 4,095 bytes.
+const WORD: usize = 4_096;
 
-// The system's numbers of two errors: an argument that is not there or can name no file, and one that is too long.
+// A word more than any program takes.
+const WORDS: usize = 5;
+
+// The system's numbers of two errors: a word that can name no file, and one that is too long.
 const INVALID: i32 = 22;
 
 const TOO_LONG: i32 = 36;
 
-// A file that was read, how many of its bytes, and whether that is all of it; or not read, which was told.
-#[derive(Clone, Copy)]
-pub struct Paper {
-    pub is_read: bool,
-    pub length: usize,
-    pub is_whole: bool,
+// A word's bytes, which need not be text; none where it is too long to name a file.
+pub type Word = Option<Vec<u8>>;
+
+// Why a program says nothing of its files.
+#[derive(Drop)]
+pub enum Fault<'a> {
+    // it is called otherwise than in these words
+    Usage(&'static str),
+    // the word is too long
+    Word,
+    // the file of that name cannot be read
+    File(&'a [u8], io::Error),
+    // the file goes on behind what is read of it
+    Length,
+    Memory(AllocError),
 }
 
-const NOT_READ: Paper = Paper {
-    is_read: false,
-    length: 0,
-    is_whole: false,
-};
+impl From<AllocError> for Fault<'_> {
+    fn from(error: AllocError) -> Self {
+        Fault::Memory(error)
+    }
+}
 
-// How many words the program was called with, its own name among them.
-pub fn given(rt: &impl Env) -> usize {
-    let mut byte = [0u8; 1];
-    for i in 0..usize::MAX {
-        if let Err(FillError::NotPresent) = rt.arg(i, &mut byte) {
-            return i;
+impl Fault<'_> {
+    // A line to standard error. Where memory has run out, that is left to the caller.
+    pub fn tell(self, alloc: Global, err: Stderr) -> Result<(), AllocError> {
+        match self {
+            Fault::Usage(words) => {
+                tellings::say(&err, b"usage: ");
+                tellings::say(&err, words.as_bytes());
+                tellings::say(&err, b"\n");
+                Ok(())
+            }
+            Fault::Word => fail(
+                alloc,
+                err,
+                b"argument",
+                io::Error::from_raw_os_error(TOO_LONG),
+            ),
+            Fault::File(path, error) => fail(alloc, err, path, error),
+            Fault::Length => {
+                tellings::say(&err, b"longer than any such file can be\n");
+                Ok(())
+            }
+            Fault::Memory(error) => Err(error),
         }
     }
-    usize::MAX
 }
 
-// Argument i at the start of buf, and its length. One that is not there, or is longer than the buffer, counts as empty.
-fn argument(rt: &impl Env, i: usize, buf: &mut [u8]) -> usize
-    ensures { result ≤ length buf.new }
-{
-    match rt.arg(i, buf) {
-        Ok(length) => length,
-        Err(_) => 0,
-    }
-}
-
-// Why a call failed, in the system's words, at the start of buf, which is all zeros; how many bytes. std puts the error's number behind them in brackets:
-// that is left out, with the blank before it.
-fn reason(error: io::Error, buf: &mut [u8]) -> usize
-    ensures { result ≤ length buf.new }
-{
-    let mut text = Cursor::new(&mut *buf);
-    let _ = write!(text, "{error}");
-    match buf
-        .iter()
-        .position(|letter| *letter == b'(' || *letter == 0)
-    {
-        Some(at) if buf[at] == b'(' => at.saturating_sub(1),
-        Some(at) => at,
-        None => buf.len(),
+// An error in the system's words. std puts its number behind them in brackets: that is left out.
+fn without_number(told: &str) -> &str {
+    match told.split_once(" (") {
+        Some((words, _)) => words,
+        None => told,
     }
 }
 
 // A line to standard error: what failed, as the caller names it, a colon and why.
-fn fail(err: Stderr, what: &[u8], error: io::Error) {
-    let mut text = [0u8; 128];
-    let n = reason(error, &mut text);
-    tellings::warn(err, what);
-    tellings::warn(err, b": ");
-    tellings::warn(err, &text[..n]);
-    tellings::warn(err, b"\n");
+fn fail(alloc: Global, err: Stderr, what: &[u8], error: io::Error) -> Result<(), AllocError> {
+    let told = error.to_string(alloc)?;
+    tellings::say(&err, what);
+    tellings::say(&err, b": ");
+    tellings::say(&err, without_number(told.as_str()).as_bytes());
+    tellings::say(&err, b"\n");
+    Ok(())
 }
 
-// The file of that name. A name is text in std: one that is none names no file.
-fn open<R: Files>(rt: &R, path: &[u8]) -> io::Result<R::File> {
-    match str::from_utf8(path) {
-        Ok(name) => File::open(rt, name),
-        Err(_) => Err(io::Error::from_raw_os_error(INVALID)),
+// The words that the program was called with, its own name first.
+pub fn words(rt: &(impl Env + AllocGlobal)) -> Result<Vec<Word>, AllocError>
+    ensures { IfOk result (λ v. vec_len v ≤ 5) }
+{
+    let mut words = Vec::new(rt.alloc());
+    let mut room = [0u8; WORD];
+    for i in 0..WORDS {
+        match rt.arg(i, &mut room) {
+            Ok(length) => words.push(Some(Vec::from_slice(rt.alloc(), &room[..length])?))?,
+            Err(FillError::TooLong) => words.push(None)?,
+            Err(FillError::NotPresent) => break,
+        }
     }
+    Ok(words)
+}
+
+// Whether a word is "start".
+pub fn says_start(word: &Word) -> bool
+    ensures { MatchOption word.now (result ≡ false) (λ v. IsTrue result ↔ (v.items ≡ codes "start")) }
+{
+    match word {
+        Some(letters) => letters.as_slice() == b"start".as_slice(),
+        None => false,
+    }
+}
+
+// The number that a word of decimal digits says. One too long to hold counts as the largest: it is never taken for a small one.
+pub fn number(word: &Word) -> Option<usize> {
+    let letters = word.as_ref()?;
+    let digits = str::from_utf8(letters.as_slice()).ok()?;
+    if digits.is_empty() || !digits.bytes().all(|digit| digit.is_ascii_digit()) {
+        return None;
+    }
+    Some(digits.parse().unwrap_or(usize::MAX))
 }
 
 // Reads until buf is full, the input ends or a read fails; how many bytes stand at the start of buf.
@@ -114,128 +151,104 @@ pub fn read_full(file: &mut impl Read, buf: &mut [u8]) -> usize
     done
 }
 
-// How many bytes, of one that is asked for, can be read where a file was left; none where it cannot be read, which is told.
-fn more(file: &mut impl Read, err: Stderr, path: &[u8]) -> Option<usize> {
-    let mut byte = [0u8; 1];
-    match file.read(&mut byte) {
-        Ok(got) => Some(got),
-        Err(error) => {
-            fail(err, path, error);
-            None
-        }
+// The file of that name. A name is text in std: one that is none names no file.
+fn open<R: Files>(rt: &R, path: &[u8]) -> io::Result<R::File> {
+    match str::from_utf8(path) {
+        Ok(name) => File::open(rt, name),
+        Err(_) => Err(io::Error::from_raw_os_error(INVALID)),
     }
 }
 
-// A file that was opened, at the start of buf, as far as there is room.
-fn read_opened(file: &mut impl Read, err: Stderr, path: &[u8], buf: &mut [u8]) -> Paper
-    ensures { IsPrefixLen result.length buf.new }
+// The file of that name, as many bytes at most.
+fn read_named(rt: &(impl Files + AllocGlobal), path: &[u8], most: u64) -> io::Result<Vec<u8>> {
+    let mut bytes = Vec::new(rt.alloc());
+    open(rt, path)?.take(most).read_to_end(&mut bytes)?;
+    Ok(bytes)
+}
+
+// The file that a word names, as many bytes and one more, where there are so many.
+fn read_past<'a>(
+    rt: &(impl Files + AllocGlobal),
+    word: &'a Word,
+    most: usize,
+) -> Result<Vec<u8>, Fault<'a>> {
+    let path = word.as_ref().ok_or(Fault::Word)?.as_slice();
+    read_named(rt, path, (most as u64).saturating_add(1)).map_err(|error| Fault::File(path, error))
+}
+
+// The file that a word names, as many bytes at most.
+pub fn read<'a>(
+    rt: &(impl Files + AllocGlobal),
+    word: &'a Word,
+    most: usize,
+) -> Result<Vec<u8>, Fault<'a>>
+    ensures { IfOk result (λ v. vec_len v ≤ most) }
 {
-    let length = read_full(file, buf);
-    let got = more(file, err, path);
-    Paper {
-        is_read: got.is_some(),
-        length,
-        is_whole: got == Some(0),
-    }
+    let mut bytes = read_past(rt, word, most)?;
+    bytes.truncate(most);
+    Ok(bytes)
 }
 
-// The file of that name, at the start of buf, as far as there is room.
-fn read_named(rt: &impl Files, err: Stderr, path: &[u8], buf: &mut [u8]) -> Paper
-    ensures { IsPrefixLen result.length buf.new }
+// The same, of a file that has to be read whole.
+pub fn read_whole<'a>(
+    rt: &(impl Files + AllocGlobal),
+    word: &'a Word,
+    most: usize,
+) -> Result<Vec<u8>, Fault<'a>>
+    ensures { IfOk result (λ v. vec_len v ≤ most) }
 {
-    match open(rt, path) {
-        Ok(mut file) => read_opened(&mut file, err, path, buf),
-        Err(error) => {
-            fail(err, path, error);
-            NOT_READ
-        }
+    let bytes = read_past(rt, word, most)?;
+    if most < bytes.len() {
+        return Err(Fault::Length);
     }
+    Ok(bytes)
 }
 
-// The file that argument i names, at the start of buf, as far as there is room.
-pub fn read(rt: &(impl Env + Files), err: Stderr, i: usize, buf: &mut [u8]) -> Paper
-    ensures { IsPrefixLen result.length buf.new }
-{
-    let mut path = [0u8; ARGUMENT];
-    match rt.arg(i, &mut path) {
-        Ok(n) => read_named(rt, err, &path[..n], buf),
-        Err(FillError::NotPresent) => {
-            fail(err, b"argument", io::Error::from_raw_os_error(INVALID));
-            NOT_READ
-        }
-        Err(FillError::TooLong) => {
-            fail(err, b"argument", io::Error::from_raw_os_error(TOO_LONG));
-            NOT_READ
-        }
+#[cfg(test)]
+mod tests {
+    use super::*;
+    use std::test::Fail;
+
+    fn word(alloc: Global, letters: &str) -> Result<Word, AllocError> {
+        Ok(Some(Vec::from_slice(alloc, letters.as_bytes())?))
     }
-}
 
-// The same, of a file that has to be read whole: one that goes on behind the buffer's end is not read, which is told.
-pub fn read_whole(rt: &(impl Env + Files), err: Stderr, i: usize, buf: &mut [u8]) -> Paper
-    ensures { IsPrefixLen result.length buf.new }
-{
-    let read = read(rt, err, i, buf);
-    if read.is_read && !read.is_whole {
-        tellings::warn(err, b"longer than any such file can be\n");
-        return NOT_READ;
+    #[test]
+    fn reads_no_more(rt: HostRuntime) -> Result<(), Fail> {
+        let mut input = b"a plant".as_slice();
+        let mut front = [0u8; 3];
+        let mut rest = [0u8; 5];
+        assert_eq!(rt; read_full(&mut input, &mut front), 3);
+        assert_eq!(rt; read_full(&mut input, &mut rest), 4);
+        assert_eq!(rt; front.as_slice(), b"a p".as_slice());
+        assert_eq!(rt; rest.as_slice(), b"lant\0".as_slice());
+        Ok(())
     }
-    read
-}
 
-// Whether argument 1 is the word "start".
-pub fn says_start(rt: &impl Env) -> bool {
-    let mut word = [0u8; 6];
-    let length = argument(rt, 1, &mut word);
-    length == 5
-        && word[0] == b's'
-        && word[1] == b't'
-        && word[2] == b'a'
-        && word[3] == b'r'
-        && word[4] == b't'
-}
-
-// A word read as a number: what it says, or that it is none.
-#[derive(Clone, Copy)]
-pub enum Word {
-    Number(usize),
-    Other,
-}
-
-// v with a digit behind it. From 10^18 on it stays as it is: a number too long to hold is never taken for a small one.
-fn longer(v: usize, digit: usize) -> usize
-    requires { digit ≤ 9 }
-{
-    if v < 1_000_000_000_000_000_000 {
-        v * 10 + digit
-    } else {
-        v
+    #[test]
+    fn numbers(rt: HostRuntime) -> Result<(), Fail> {
+        let alloc = rt.alloc();
+        assert_eq!(rt; number(&word(alloc, "0")?), Some(0));
+        assert_eq!(rt; number(&word(alloc, "0012")?), Some(12));
+        assert_eq!(rt;
+            number(&word(alloc, "18446744073709551615")?),
+            Some(usize::MAX)
+        );
+        assert_eq!(rt;
+            number(&word(alloc, "18446744073709551617")?),
+            Some(usize::MAX)
+        );
+        assert_eq!(rt; number(&word(alloc, "99999999999999999999999x")?), None);
+        assert_eq!(rt; number(&word(alloc, "+1")?), None);
+        assert_eq!(rt; number(&word(alloc, "")?), None);
+        assert_eq!(rt; number(&None), None);
+        Ok(())
     }
-}
 
-// The number that a word of decimal digits says.
-fn said(word: &[u8]) -> Word {
-    if word.len() == 0 {
-        return Word::Other;
+    #[test]
+    fn own_name_first(rt: HostRuntime) -> Result<(), Fail> {
+        let words = words(&rt)?;
+        assert!(rt; !words.is_empty());
+        Ok(())
     }
-    let mut v: usize = 0;
-    let mut i: usize = 0;
-    while i < word.len() {
-        let letter = word[i];
-        if letter < b'0' {
-            return Word::Other;
-        }
-        if b'9' < letter {
-            return Word::Other;
-        }
-        v = longer(v, (letter - b'0') as usize);
-        i += 1;
-    }
-    Word::Number(v)
-}
-
-// The number that argument i says. A word that is longer than the buffer counts as empty, and says none.
-pub fn number(rt: &impl Env, i: usize) -> Word {
-    let mut word = [0u8; ARGUMENT];
-    let length = argument(rt, i, &mut word);
-    said(&word[..length])
 }

@@ -9,14 +9,9 @@ use files::numbers;
 pub fn put(buf: &mut [u8], at: usize, text: &[u8]) -> usize
     ensures { Put buf.old at text.now result buf.new }
 {
-    let mut place = at;
-    if buf.len() < at {
-        place = buf.len() + 1;
-    }
-    let mut i: usize = 0;
-    while i < text.len() {
-        place = numbers::put_byte(buf, place, text[i]);
-        i += 1;
+    let mut place = at.min(buf.len() + 1);
+    for letter in text {
+        place = numbers::put_byte(buf, place, *letter);
     }
     place
 }
@@ -34,9 +29,10 @@ pub fn put_decimal(buf: &mut [u8], at: usize, v: usize) -> usize
 pub fn put_signed(buf: &mut [u8], at: usize, v: i64) -> usize
     ensures { Put buf.old at (signed_decimal v) result buf.new }
 {
+    let size = v.unsigned_abs() as usize;
     if 0 <= v {
-        return put_decimal(buf, at, v as usize);
+        return put_decimal(buf, at, size);
     }
     let place = numbers::put_byte(buf, at, b'-');
-    put_decimal(buf, place, (-1 - v) as usize + 1)
+    put_decimal(buf, place, size)
 }

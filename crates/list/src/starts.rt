@@ -1,108 +1,68 @@
 // The listing of a start file (document 02, request 2026-03): for each box a header, its index, edges, tiles and longest pattern, and then the tiles of its table.
 // Relies on crate tables for the verdict, on page listings for a table. Leaves out what the checker refuses: that is told as of a plant.
-use crate::boxes::Bx;
-use crate::{boxes, listings};
+use crate::boxes::{Bx, Side};
+use crate::listings;
+use crate::readers::Reader;
 use desk::tellings;
-use files::{numbers, plants};
+use files::plants;
 use meaning::Outline;
-use std::io::Stdout;
+use std::alloc::{AllocError, Global};
 use tables::start_checks;
 
-// A box of the chain, and the place behind its edges.
-#[derive(Clone, Copy)]
-struct Edges {
-    b: Bx,
-    next: usize,
+// The box of n sides whose edges come next.
+fn read_box(n: usize, start: &mut Reader) -> Option<Bx> {
+    let mut sides = [Side { lo: 0, hi: 0 }; 4];
+    for side in sides.iter_mut().take(n) {
+        *side = Side {
+            lo: start.signed()?,
+            hi: start.signed()?,
+        };
+    }
+    Some(Bx::new(n, sides))
 }
 
-// The box whose edges stand at a place.
-fn read_box(n: usize, start: &[u8], at: usize) -> Edges {
-    let most = boxes::sides(n);
-    let mut lo = [0i64; 4];
-    let mut hi = [0i64; 4];
-    let mut next = at;
-    let mut j: usize = 0;
-    while j < most {
-        let Some((l, past)) = numbers::signed(start, next) else {
+// R, and the boxes of the chain behind it, as many as the file says behind its form.
+fn read_boxes(alloc: Global, p: &Outline, start: &mut Reader) -> Result<Vec<Bx>, AllocError> {
+    let mut boxes = Vec::new(alloc);
+    boxes.push(Bx::from(p))?;
+    let _form = start.number();
+    let m = start.number().unwrap_or(0);
+    for _ in 0..m {
+        let Some(b) = read_box(p.n, start) else {
             break;
         };
-        let Some((h, behind)) = numbers::signed(start, past) else {
+        boxes.push(b)?;
+    }
+    Ok(boxes)
+}
+
+// The table that comes next, its length in front.
+fn read_part<'a>(start: &mut Reader<'a>) -> Option<&'a [u8]> {
+    let length = start.number()?;
+    start.part(length)
+}
+
+// A start file that was judged: its boxes, and then a table of each.
+fn show(rt: &(impl Print + AllocGlobal), p: &Outline, file: &[u8]) -> Result<(), AllocError> {
+    let mut start = Reader::new(file);
+    let boxes = read_boxes(rt.alloc(), p, &mut start)?;
+    for (i, b) in boxes.iter().enumerate() {
+        let Some(table) = read_part(&mut start) else {
             break;
         };
-        lo[j] = l;
-        hi[j] = h;
-        next = behind;
-        j += 1;
+        listings::show_part(rt, p.d, i, table, *b)?;
     }
-    Edges {
-        b: Bx { lo, hi },
-        next,
-    }
-}
-
-// The place behind the edges of m boxes.
-fn past_boxes(n: usize, m: usize, start: &[u8], at: usize) -> usize {
-    let mut next = at;
-    let mut i: usize = 0;
-    while i < m {
-        let edges = read_box(n, start, next);
-        next = edges.next;
-        i += 1;
-    }
-    next
-}
-
-// The table of box i, whose length stands at a place, and the place behind it.
-fn show_part(out: Stdout, p: Outline, i: usize, start: &[u8], at: usize, b: Bx) -> usize {
-    let Some((size, first)) = numbers::number(start, at) else {
-        return at;
-    };
-    if start.len() < first {
-        return at;
-    }
-    let rest = &start[first..];
-    if rest.len() < size {
-        return at;
-    }
-    listings::show_part(out, p.n, p.d, i, &rest[..size], b);
-    first + size
-}
-
-// R's table, and those of the m boxes whose edges stand at a place.
-fn show_parts(out: Stdout, p: Outline, m: usize, start: &[u8], at: usize) {
-    let lo = p.rlo;
-    let hi = p.rhi;
-    let mut edges_at = at;
-    let mut part_at = show_part(
-        out,
-        p,
-        0,
-        start,
-        past_boxes(p.n, m, start, at),
-        Bx { lo, hi },
-    );
-    let mut i: usize = 0;
-    while i < m {
-        let edges = read_box(p.n, start, edges_at);
-        edges_at = edges.next;
-        i += 1;
-        part_at = show_part(out, p, i, start, part_at, edges.b);
-    }
+    Ok(())
 }
 
 // The listing of a start file for a plant's file, or its refusal.
-pub fn list(out: Stdout, plant: &[u8], start: &[u8]) {
-    match start_checks::start_check(plant, start) {
-        Err(e) => tellings::tell_place(out, e),
-        Ok(()) => {
-            let Some((_, past_form)) = numbers::number(start, 0) else {
-                return;
-            };
-            let Some((m, next)) = numbers::number(start, past_form) else {
-                return;
-            };
-            let read = plants::judge_plant(plant);
-            show_parts(out, read.outline, m, start, next);
-        }
+pub fn list(rt: &(impl Print + AllocGlobal), plant: &[u8], start: &[u8]) -> Result<(), AllocError> {
+    if let Err(e) = start_checks::start_check(plant, start) {
+        tellings::tell_place(rt, e);
+        return Ok(());
+    }
+    match plants::judge_plant(plant) {
+        Ok(p) => show(rt, &p, start),
+        Err(_) => Ok(()),
     }
 }

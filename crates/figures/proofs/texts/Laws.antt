@@ -6,17 +6,17 @@ use native.Mathlib.Omega.{arith}
 use native.Mathlib.Numerals.{add-one}
 use native.Mathlib.Nat.{zero-lt-suc, one-le-pow, pow-le-pow_right}
 use native.Mathlib.Decide.{dec_le}
-use lib.ListN.{length, get_or, drop}
-use lib.Seq.{drop-cons}
+use lib.ListN.{length, get_or, take, drop}
+use lib.Seq.{drop-cons, take-append_seam, sets-eq}
+use Rattle.std.proofs.Common.{length-append, le-leb}
 use lib.Pow.{pow-add}
-use lib.Dec.{T}
+use lib.Dec.{T, ltb}
 use lib.IntN.{ℤ, pos, negsuc, nat_abs}
 use lib.Signed.{le_z}
-use mathlib.Core.Bool.{true, false}
+use mathlib.Core.Bool.{Bool, true, false}
 use borrow.Author.Tests.{lt-ltb, le-ltb}
 use Rattle.io.specs.Digits.{last_digits, hex_digit_ascii, IsDigitCount}
-use Rattle.laws.specs.Writing.{Under, put-append}
-use Rattle.meaning.specs.Numbers.{stored}
+use Rattle.laws.specs.Writing.{Put, Under, put-append, put-length}
 use Rattle.figures.specs.Texts.{digits_in, decimal, signed_decimal}
 
 -- a write from where the place stopped is a write from the place itself
@@ -72,14 +72,40 @@ few-digits n k h f = go (dec_le k 20)
         let q : 10 ^ (k - 1) ≤ n = f.2 (omega arith) in
         omega arith
 
--- ---- a signed number's digits are those of its size, as the machine makes it
+-- ---- a signed number's digits are those of its size
 
 pub signed_up : (v : ℤ) → le_z (pos 0) v ≡ true → signed_decimal v ≡ decimal (nat_abs v)
 unfolding signed_decimal decimal
 signed_up (pos n) e = refl
 signed_up (negsuc n) e = absurd (subst T (sym e) tt)
 
-pub signed-down : (v : ℤ) (m : ℕ) → le_z (pos 0) v ≡ false → m * 2 + 1 ≡ stored v → signed_decimal v ≡ (45 ∷ []) ++ decimal (m + 1)
+pub signed-down : (v : ℤ) → le_z (pos 0) v ≡ false → signed_decimal v ≡ (45 ∷ []) ++ decimal (nat_abs v)
 unfolding signed_decimal decimal
-signed-down (pos n) m e h = absurd (omega (arith, h))
-signed-down (negsuc n) m e h = let k : m + 1 ≡ suc n = omega (arith, h) in rw k refl
+signed-down (pos n) e = absurd (subst T (sym (le-leb 0 n (omega arith)) ∙ e) tt)
+signed-down (negsuc n) e = refl
+
+-- ---- a text that was put at the start of a buffer with room for it
+
+digits-few : (most n : ℕ) → length (digits_in most n) ≤ most
+unfolding digits_in
+digits-few zero n = omega arith
+digits-few (suc most) n = go (ltb n 10) refl (digits-few most (n / 10))
+  where
+    go : (b : Bool) → ltb n 10 ≡ b → length (digits_in most (n / 10)) ≤ most → length (digits_in (suc most) n) ≤ suc most
+    go true e h = rw e (omega arith)
+    go false e h = rw (e, length-append (digits_in most (n / 10)) ((48 + n % 10) ∷ [])) (omega arith)
+
+pub decimal-few : (n : ℕ) → length (decimal n) ≤ 20
+unfolding decimal
+decimal-few n = digits-few 20 n
+
+pub signed-few : (v : ℤ) → length (signed_decimal v) ≤ 21
+unfolding signed_decimal
+signed-few (pos n) = let h = decimal-few n in omega arith
+signed-few (negsuc n) = let h = decimal-few (suc n) in omega arith
+
+pub put-whole : {buf xs : List ℕ} {next : ℕ} {out : List ℕ} → length xs ≤ length buf → Put buf 0 xs next out → (next ≡ length xs) × (next ≤ length out) × (take next out ≡ xs)
+put-whole {buf} {xs} {next} {out} h p =
+    let e : next ≡ length xs = omega (arith, p.place) in
+    let l = put-length p in
+    (e, omega arith, rw (e, p.bytes, sets-eq xs buf 0 (omega arith)) (take-append_seam xs (drop (0 + length xs) buf)))

@@ -1,42 +1,22 @@
--- `texts::put`: what is left to put are the bytes from i on. Assumes nothing.
-use native.Mathlib.Omega.{arith}
+-- `texts::put`: what is left to put are the bytes from the index on. Assumes nothing.
 use lib.ListN.{drop_of_length-le}
 use Rattle.laws.specs.Writing.{under_more, under-done}
 use Rattle.figures.proofs.texts.Laws.{under-stopped, next-byte}
 use Rattle.figures.proofs.texts.put.Goals as goal
-use Rattle.figures.proofs.texts.put.Goals.{then-buf-at, else-buf-at}
 
-pub overflow_add-place : goal.overflow_add-place
-overflow_add-place c = omega arith
-
-pub loop-i-init : goal.loop-i-init
-loop-i-init c =
+pub loop-letter-init : goal.loop-letter-init
+loop-letter-init c =
     let a = c.args in
-    (omega arith, under-stopped a.buf.now a.at a.text.now c.if-buf-at.place (elim c.if-buf-at.branch [ then-buf-at w ↦ omega (arith, w.if-buf-at.true, w.place-is) | else-buf-at w ↦ omega (arith, w.if-buf-at.false, w.place-is) ]))
+    under-stopped a.buf.now a.at a.text.now c.min-place.result c.min-place.ensures
 
-pub bounds-text-i : goal.bounds-text-i
-bounds-text-i c = omega arith
-
-pub put_byte-place-requires : goal.put_byte-place-requires
-put_byte-place-requires c = tt
-
-pub overflow_add-i : goal.overflow_add-i
-overflow_add-i c = omega arith
-
-pub loop-i-smaller : goal.loop-i-smaller
-loop-i-smaller c = omega arith
-
-pub loop-i-preserved : goal.loop-i-preserved
-loop-i-preserved c =
-    let l = c.loop-i in
+pub loop-letter-preserved : goal.loop-letter-preserved
+loop-letter-preserved c =
+    let l = c.loop-letter in
     let a = c.args in
-    (omega arith, under_more (rw (next-byte a.text.now l.i (omega arith)) at l.invariant.1) c.put_byte-place.ensures)
-
-pub shape_of-buf : goal.shape_of-buf
-shape_of-buf c = c.loop-i.invariant.1.long
+    under_more (rw (next-byte a.text.now l.letter-index c.loop-letter-test.true) at l.invariant) c.put_byte-place.ensures
 
 pub returns : goal.returns
 returns c =
-    let l = c.loop-i in
+    let l = c.loop-letter in
     let a = c.args in
-    under-done (rw (drop_of_length-le a.text.now c.loop-i-test.false) at l.invariant.1)
+    under-done (rw (drop_of_length-le a.text.now c.loop-letter-test.false) at l.invariant)

@@ -1,11 +1,7 @@
--- `texts::put`: what is left to put are the bytes from i on. Assumes nothing.
-use Prim.Native.Nat.{◌-◌, ◌≤◌}
-use lib.ListN.{length, drop}
+-- `texts::put`: what is left to put are the bytes from the index on. Assumes nothing.
+use lib.ListN.{drop}
 use Rattle.laws.specs.Writing.{Under}
 use Rattle.figures.proofs.texts.put.Given as goal
 
-abbrev pub invariant-loop-i : goal.invariant-loop-i
-invariant-loop-i l = (l.i ≤ length l.text) × Under l.initial.buf l.at l.text (drop l.i l.text) l.place l.buf
-
-abbrev pub decreases-loop-i : goal.decreases-loop-i
-decreases-loop-i l = length l.text - l.i
+abbrev pub invariant-loop-letter : goal.invariant-loop-letter
+invariant-loop-letter l = Under l.initial.buf l.at l.text (drop l.letter-index l.text) l.place l.buf
