@@ -1,11 +1,11 @@
 -- A beginning is what its numbers say, whatever stands behind them; and what is told of one that was read settles it. Relies on promises' page Bodies.
-use Rattle.std.specs.Prelude.{ℕ, ◌+◌, ◌*◌, ◌<◌, ◌≡◌, refl, ℤ, Ok, Err}
+use Rattle.std.specs.Prelude.{ℕ, ◌+◌, ◌*◌, ◌<◌, ◌≡◌, refl, ℤ, Ok, Err, Result}
 use Rattle.std.proofs.Common.{sym, ◌∙◌, arith}
 use Rattle.std.proofs.Math.Path.{ap}
 use mathlib.Core.List.{List, [], ◌++◌, append_assoc}
 use Rattle.laws.specs.Lists.{at}
 use Rattle.laws.specs.Tabs.{Filled}
-use Rattle.meaning.specs.Answers.{Walk, Verdict}
+use Rattle.meaning.specs.declared.Refusal.{Refusal}
 use Rattle.meaning.specs.Files.{end, read, values_at}
 use Rattle.meaning.specs.Plants.{edges_of, band_of, column, edges_and_bands}
 use Rattle.promises.specs.Files.Bodies.{edge_same, band-same}
@@ -13,7 +13,7 @@ use Rattle.files.specs.declared.beginnings.Beginning.{Beginning}
 use Rattle.files.specs.declared.beginnings.BeginningRead.{BeginningRead}
 use Rattle.files.specs.Headers.{Headed}
 use Rattle.files.specs.Parts.{behind, behind-append, behind-read}
-use Rattle.files.specs.Beginnings.{head_numbers, head_of, edges_in, bands_in, beginning_numbers, beginning_of, relation, beginning_from, beginning_read, Begun, BegunAs, BeginningTold, BoundsRead}
+use Rattle.files.specs.Beginnings.{head_numbers, head_of, edges_in, bands_in, beginning_numbers, beginning_of, relation, beginning_from, beginning_read, Begun, BeginningTold, BoundsRead}
 
 -- two beginnings of the same fields
 same : (form n m q k d : ℕ) {rlo rhi slo shi wlo whi rlo' rhi' slo' shi' wlo' whi' : List ℤ}
@@ -53,27 +53,22 @@ module _ {forms most : ℕ} {s : List ℕ} (b : Beginning) {next : ℕ} (t : Beg
 
 -- ---- told is settled
 
-parts : (r : BeginningRead) (w : Walk) (v : Verdict) → r.answer ≡ w → r.related ≡ v → ◌≡◌ {A = BeginningRead} (record { answer = w; related = v; beginning = r.beginning }) r
-parts r w v e g = rw (← e, ← g) refl
-
-pub settled : (forms most : ℕ) (s : List ℕ) (r : BeginningRead) → BeginningTold forms most s r → r ≡ beginning_read forms most s
+pub settled : (forms most : ℕ) (s : List ℕ) (r : Result BeginningRead Refusal) → BeginningTold forms most s r → r ≡ beginning_read forms most s
 unfolding beginning_read values_at
-settled forms most s r t = go r.answer refl t
+settled forms most s (Err e) t = sym (ap beginning_from (t (λ form n m. end)))
+settled forms most s (Ok r) t = sym (ap beginning_from (t.0.holds (λ form n m. end) ∙ ends) ∙ taken)
   where
-    go : (w : Walk) → r.answer ≡ w → BegunAs forms most s r w → r ≡ beginning_read forms most s
-    go (Err e) q u = u.0 ∙ sym (ap beginning_from (u.1 (λ form n m. end)))
-    go (Ok next) q u = sym (ap beginning_from (u.0.holds (λ form n m. end) ∙ ends) ∙ taken)
-      where
-        b : Beginning
-        b = r.beginning
+    b : Beginning
+    b = r.beginning
 
-        ends : behind (beginning_numbers b) (values_at end s next) ≡ read (beginning_numbers b ++ []) next
-        ends = behind-read (beginning_numbers b) [] next
+    ends : behind (beginning_numbers b) (values_at end s r.next) ≡ read (beginning_numbers b ++ []) r.next
+    ends = behind-read (beginning_numbers b) [] r.next
 
-        taken : beginning_from (read (beginning_numbers b ++ []) next) ≡ r
-        taken =
-            ap (λ (x : Beginning). record { answer = Ok next; related = relation x; beginning = x }) (beginning-back b u.0 [])
-            ∙ parts r (Ok next) (relation b) q u.1
+    so : Beginning → Result BeginningRead Refusal
+    so x = Ok (record { beginning = x; related = relation x; next = r.next })
+
+    taken : beginning_from (read (beginning_numbers b ++ []) r.next) ≡ Ok r
+    taken = ap so (beginning-back b t.0 []) ∙ rw (← t.1) refl
 
 -- ---- a header and what stands behind it
 

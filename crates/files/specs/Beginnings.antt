@@ -1,11 +1,11 @@
 -- What plants and sheets begin with alike: a form in 1..forms, n, a number in 1..most, q, K, D, then R and S, then w of each dimension; as the code reads and writes
 -- it, with what is asked of R, S and w. `Begun` is a beginning that was read: the file goes on behind it, its arrays hold zeros beyond n, and those ranges
 -- that the code behind it relies on; all of document 01's are promises' `Sound`. Assumes nothing.
-use Rattle.std.specs.Prelude.{ℕ, ◌+◌, ◌*◌, ◌≤◌, ◌≡◌, refl, Bool, true, false, cond, List, [], ◌∷◌, ◌++◌, map, ltb, ℤ, pos, nat_abs, Ok, Err}
+use Rattle.std.specs.Prelude.{ℕ, ◌+◌, ◌*◌, ◌≤◌, ◌≡◌, refl, Bool, true, false, cond, List, [], ◌∷◌, ◌++◌, map, ltb, ℤ, pos, nat_abs, Ok, Err, Result}
 use Rattle.laws.specs.Guards.{guard}
 use Rattle.laws.specs.Lists.{at, tabs, all, first_false}
 use Rattle.laws.specs.Tabs.{Filled}
-use Rattle.meaning.specs.Answers.{Walk, Verdict}
+use Rattle.meaning.specs.Answers.{Verdict}
 use Rattle.meaning.specs.declared.Refusal.{Refusal}
 use Rattle.meaning.specs.Refusals.{not_in_safe, narrow}
 use Rattle.meaning.specs.Files.{Form, end, Read, read, refused, values_at, Judged, good, bad}
@@ -102,15 +102,12 @@ related-by b rest = related-verdict b.q (sides_of b.n b.rlo b.rhi) (sides_of b.n
 
 -- ---- read
 
--- the definition: the beginning with the place behind it, or the refusal and zeros
-abbrev pub no_beginning : Refusal → BeginningRead
-no_beginning e = record { answer = Err e; related = Ok tt; beginning = beginning_of [] }
+-- the definition: the beginning, what is to be said of it, and the place behind it; or the refusal
+abbrev pub beginning_from : Read (List ℤ) → Result BeginningRead Refusal
+beginning_from (refused e) = Err e
+beginning_from (read vs next) = Ok (record { beginning = beginning_of vs; related = relation (beginning_of vs); next = next })
 
-abbrev pub beginning_from : Read (List ℤ) → BeginningRead
-beginning_from (refused e) = no_beginning e
-beginning_from (read vs next) = record { answer = Ok next; related = relation (beginning_of vs); beginning = beginning_of vs }
-
-unfoldable pub beginning_read : ℕ → ℕ → List ℕ → BeginningRead
+unfoldable pub beginning_read : ℕ → ℕ → List ℕ → Result BeginningRead Refusal
 beginning_read forms most s = beginning_from (values_at (beginning_form forms most λ form n m. end) s 0)
 
 -- what its numbers are and how large they can be, and that its arrays hold zeros beyond n
@@ -133,13 +130,10 @@ pub record Begun (forms most : ℕ) (s : List ℕ) (b : Beginning) (next : ℕ) 
   pub band-sizes : EndsWithin band_limit b.n b.wlo b.whi
   pub holds : (rest : ℕ → ℕ → ℕ → Form) → values_at (beginning_form forms most rest) s 0 ≡ behind (beginning_numbers b) (values_at (rest b.form b.n b.m) s next)
 
-abbrev pub BegunAs : ℕ → ℕ → List ℕ → BeginningRead → Walk → Type 0
-BegunAs forms most s r (Ok next) = Begun forms most s r.beginning next × (r.related ≡ relation r.beginning)
-BegunAs forms most s r (Err e) = (r ≡ no_beginning e) × ((rest : ℕ → ℕ → ℕ → Form) → values_at (beginning_form forms most rest) s 0 ≡ refused e)
-
 -- whatever stands behind it
-abbrev pub BeginningTold : ℕ → ℕ → List ℕ → BeginningRead → Type 0
-BeginningTold forms most s r = BegunAs forms most s r r.answer
+abbrev pub BeginningTold : ℕ → ℕ → List ℕ → Result BeginningRead Refusal → Type 0
+BeginningTold forms most s (Ok r) = Begun forms most s r.beginning r.next × (r.related ≡ relation r.beginning)
+BeginningTold forms most s (Err e) = (rest : ℕ → ℕ → ℕ → Form) → values_at (beginning_form forms most rest) s 0 ≡ refused e
 
 -- the same behind a header that was read
 pub record BoundsRead (s : List ℕ) (h : Header) (from : ℕ) (b : Beginning) (next : ℕ) : Type 0 where
@@ -154,12 +148,9 @@ pub record BoundsRead (s : List ℕ) (h : Header) (from : ℕ) (b : Beginning) (
   pub edge-sizes : EndsWithin edge_limit h.n b.slo b.shi
   pub band-sizes : EndsWithin band_limit h.n b.wlo b.whi
 
-abbrev pub BoundsAs : List ℕ → Header → ℕ → BeginningRead → Walk → Type 0
-BoundsAs s h from r (Ok next) = BoundsRead s h from r.beginning next × (r.related ≡ relation r.beginning)
-BoundsAs s h from r (Err e) = (r ≡ no_beginning e) × Fails (edges_and_bands h.n) s from e
-
-abbrev pub BoundsTold : List ℕ → Header → ℕ → BeginningRead → Type 0
-BoundsTold s h from r = BoundsAs s h from r r.answer
+abbrev pub BoundsTold : List ℕ → Header → ℕ → Result (Beginning × ℕ) Refusal → Type 0
+BoundsTold s h from (Ok (b, next)) = BoundsRead s h from b next
+BoundsTold s h from (Err e) = Fails (edges_and_bands h.n) s from e
 
 -- ---- written: where n is over 4 the header says it all, since it is refused there
 

@@ -1,12 +1,12 @@
 -- R, S and w as the code reads them: the parts of the form that they are, with their values; zeros beyond n. Assumes nothing.
-use Rattle.std.specs.Prelude.{ℕ, ◌≤◌, ◌<◌, List, ℤ, nat_abs, Ok, Err}
+use Rattle.std.specs.Prelude.{ℕ, ◌≤◌, ◌<◌, List, ℤ, nat_abs, Ok, Err, Result}
 use Rattle.laws.specs.Lists.{at, tabs}
 use Rattle.laws.specs.Tabs.{Filled}
-use Rattle.meaning.specs.Answers.{Walk}
+use Rattle.meaning.specs.declared.Refusal.{Refusal}
 use Rattle.meaning.specs.Files.{Form}
 use Rattle.meaning.specs.Plants.{edge_limit, band_limit, span, times, edges_of, band_of}
-use Rattle.files.specs.declared.bounds.EdgeArrays.{EdgeArrays}
-use Rattle.files.specs.declared.bounds.BandArrays.{BandArrays}
+use Rattle.files.specs.declared.bounds.Edges.{Edges}
+use Rattle.files.specs.declared.bounds.Bands.{Bands}
 use Rattle.files.specs.Parts.{Holds, Fails}
 
 -- both ends of each of n sides lie within a limit
@@ -17,7 +17,7 @@ EndsWithin limit n lo hi = (i : ℕ) → i < n → (nat_abs (at lo i) ≤ limit)
 abbrev pub edges_part : Form → Form
 edges_part rest = span edge_limit (span edge_limit rest)
 
-pub record EdgesRead (s : List ℕ) (from n : ℕ) (r : EdgeArrays) (next : ℕ) : Type 0 where
+pub record EdgesRead (s : List ℕ) (from n : ℕ) (r : Edges) (next : ℕ) : Type 0 where
   pub part : Holds (times n edges_part) s from (tabs (edges_of r.rlo r.rhi r.slo r.shi) n 0) next
   pub rlo-filled : Filled 4 n r.rlo
   pub rhi-filled : Filled 4 n r.rhi
@@ -25,26 +25,20 @@ pub record EdgesRead (s : List ℕ) (from n : ℕ) (r : EdgeArrays) (next : ℕ)
   pub shi-filled : Filled 4 n r.shi
   pub sizes : EndsWithin edge_limit n r.slo r.shi
 
-abbrev pub EdgesAs : List ℕ → ℕ → ℕ → EdgeArrays → Walk → Type 0
-EdgesAs s from n r (Ok next) = EdgesRead s from n r next
-EdgesAs s from n r (Err e) = Fails (times n edges_part) s from e
-
-abbrev pub EdgesTold : List ℕ → ℕ → ℕ → EdgeArrays → Type 0
-EdgesTold s from n r = EdgesAs s from n r r.answer
+abbrev pub EdgesTold : List ℕ → ℕ → ℕ → Result (Edges × ℕ) Refusal → Type 0
+EdgesTold s from n (Ok (r, next)) = EdgesRead s from n r next
+EdgesTold s from n (Err e) = Fails (times n edges_part) s from e
 
 abbrev pub BandSizes : ℕ → List ℤ → List ℤ → Type 0
 BandSizes = EndsWithin band_limit
 
 -- the bands, and their sizes
-pub record BandsRead (s : List ℕ) (from n : ℕ) (r : BandArrays) (next : ℕ) : Type 0 where
+pub record BandsRead (s : List ℕ) (from n : ℕ) (r : Bands) (next : ℕ) : Type 0 where
   pub part : Holds (times n (span band_limit)) s from (tabs (band_of r.wlo r.whi) n 0) next
   pub wlo-filled : Filled 4 n r.wlo
   pub whi-filled : Filled 4 n r.whi
   pub sizes : BandSizes n r.wlo r.whi
 
-abbrev pub BandsAs : List ℕ → ℕ → ℕ → BandArrays → Walk → Type 0
-BandsAs s from n r (Ok next) = BandsRead s from n r next
-BandsAs s from n r (Err e) = Fails (times n (span band_limit)) s from e
-
-abbrev pub BandsTold : List ℕ → ℕ → ℕ → BandArrays → Type 0
-BandsTold s from n r = BandsAs s from n r r.answer
+abbrev pub BandsTold : List ℕ → ℕ → ℕ → Result (Bands × ℕ) Refusal → Type 0
+BandsTold s from n (Ok (r, next)) = BandsRead s from n r next
+BandsTold s from n (Err e) = Fails (times n (span band_limit)) s from e

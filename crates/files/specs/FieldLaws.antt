@@ -1,5 +1,5 @@
 -- A field as the code takes it, against the form: taken, the values behind it follow; not taken, the file is refused by the fault. Assumes nothing.
-use Rattle.std.specs.Prelude.{ℕ, ◌≤◌, ◌<◌, ◌≡◌, refl, Bool, true, false, ◌&&◌, cond, List, leb, ltb, ℤ, pos, Some, None}
+use Rattle.std.specs.Prelude.{ℕ, ◌≤◌, ◌<◌, ◌≡◌, refl, Bool, true, false, ◌&&◌, cond, List, leb, ltb, ℤ, pos, Option, Some, None, Result, Ok, Err, ok_or}
 use Rattle.std.proofs.Common.{sym, ap, ◌∙◌, arith, ltb-true, ltb-false, le-leb}
 use Rattle.std.specs.Int.Signed.{le_z, lt_z}
 use Rattle.std.proofs.lemmas.Bool.{lt-leb}
@@ -7,11 +7,22 @@ use Rattle.laws.specs.Pairs.{some-first, some-second}
 use Rattle.laws.specs.Integers.{lt-nle, nlt-le}
 use Rattle.laws.specs.Tests.{never}
 use Rattle.meaning.specs.Answers.{Number, Signed}
+use Rattle.meaning.specs.declared.Refusal.{Refusal}
 use Rattle.meaning.specs.Refusals.{broken, unfit}
 use Rattle.meaning.specs.Numbers.{number_at, signed_at, as_signed, restored}
 use Rattle.meaning.specs.Files.{Form, refused, before, values_at}
 use Rattle.meaning.specs.Plants.{counted, from, ranged}
 use Rattle.files.specs.Fields.{in_range, counted_at, in_span, ranged_at, fault_of, fault_at}
+
+-- ---- what the code answers, taken or not, says what the file has there
+
+pub was-taken : {A : Type 0} (o : Option A) (f : Refusal) (v : A) → ◌≡◌ {A = Result A Refusal} (Ok v) (ok_or o f) → o ≡ Some v
+was-taken None f v e = never cc
+was-taken (Some w) f v e = cc
+
+pub was-refused : {A : Type 0} (o : Option A) (f e : Refusal) → ◌≡◌ {A = Result A Refusal} (Err e) (ok_or o f) → (o ≡ None) × (f ≡ e)
+was-refused None f e q = (refl, cc)
+was-refused (Some w) f e q = never cc
 
 -- ---- a number
 

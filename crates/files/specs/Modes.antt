@@ -1,16 +1,16 @@
 -- The modes of a plant's file as the code reads and writes them: what stands behind the bands of mode 0, in either form; what it is that bands and rows
 -- were read into two lent arrays, as far as these have room: lists of numbers that stand in the file and were stored; and what is to be said of the bands of
 -- all modes. Definitions alone.
-use Rattle.std.specs.Prelude.{ℕ, ◌+◌, ◌-◌, ◌*◌, ◌≤◌, ◌<◌, ◌≡◌, Bool, false, cond, List, ◌++◌, map, ltb, ℤ, length, Ok, Err}
+use Rattle.std.specs.Prelude.{ℕ, ◌+◌, ◌-◌, ◌*◌, ◌≤◌, ◌<◌, ◌≡◌, Bool, false, cond, List, ◌++◌, map, ltb, ℤ, length, Ok, Err, Result}
 use Rattle.std.proofs.lemmas.List.Edits.{sets}
 use Rattle.laws.specs.Lists.{tab, tabs, first_false}
-use Rattle.meaning.specs.Answers.{Walk, Verdict}
+use Rattle.meaning.specs.Answers.{Verdict}
+use Rattle.meaning.specs.declared.Refusal.{Refusal}
 use Rattle.meaning.specs.Refusals.{narrow}
 use Rattle.meaning.specs.Files.{Form, end, read, refused, values_at, Judged, good}
 use Rattle.meaning.specs.Boxes.{Side, sides_of}
 use Rattle.meaning.specs.Plants.{times, row, own_bands, mode_form, band_of, band_numbers, row_numbers, band_side, wide, related}
 use Rattle.files.specs.declared.beginnings.Beginning.{Beginning}
-use Rattle.files.specs.declared.modes.ModeRead.{ModeRead}
 use Rattle.files.specs.declared.modes.ModesRead.{ModesRead}
 use Rattle.files.specs.Parts.{Holds, Fails, Rows}
 use Rattle.files.specs.Beginnings.{bands_in, verdict_of}
@@ -62,12 +62,9 @@ pub record ModeHeld (s : List ℕ) (at n q u : ℕ) (bands₀ coef₀ bands coef
   pub stored : Stored n u ends entries bands₀ coef₀ bands coef
   pub first : thin ≡ first_false (map (wide q) (bands_from n ends 0))
 
-abbrev pub ModeAs : List ℕ → ℕ → ℕ → ℕ → ℕ → List ℤ → List ℤ → List ℤ → List ℤ → ℕ → Walk → Type 0
-ModeAs s at n q u bands₀ coef₀ bands coef thin (Ok next) = ModeHeld s at n q u bands₀ coef₀ bands coef thin next
-ModeAs s at n q u bands₀ coef₀ bands coef thin (Err e) = Fails (mode_form n) s at e
-
-abbrev pub ModeTold : List ℕ → ℕ → ℕ → ℕ → ℕ → List ℤ → List ℤ → List ℤ → List ℤ → ModeRead → Type 0
-ModeTold s at n q u bands₀ coef₀ bands coef r = ModeAs s at n q u bands₀ coef₀ bands coef r.thin r.answer
+abbrev pub ModeTold : List ℕ → ℕ → ℕ → ℕ → ℕ → List ℤ → List ℤ → List ℤ → List ℤ → Result (ℕ × ℕ) Refusal → Type 0
+ModeTold s at n q u bands₀ coef₀ bands coef (Ok (thin, next)) = ModeHeld s at n q u bands₀ coef₀ bands coef thin next
+ModeTold s at n q u bands₀ coef₀ bands coef (Err e) = Fails (mode_form n) s at e
 
 -- what is to be said behind one mode more
 abbrev pub after_mode : Verdict → ℕ → ℕ → ℕ → Verdict
@@ -92,12 +89,9 @@ pub record FurtherTo (s : List ℕ) (b : Beginning) (at u : ℕ) (related told :
   pub stored : Stored b.n 1 ends entries bands₀ coef₀ bands coef
   pub verdict : (first : List ℤ) → length first ≡ 2 * b.n → related ≡ relation_by b first 1 → told ≡ relation_by b (first ++ ends) u
 
-abbrev pub FurtherAs : List ℕ → Beginning → ℕ → Verdict → Verdict → List ℤ → List ℤ → List ℤ → List ℤ → Walk → Type 0
-FurtherAs s b at related told bands₀ coef₀ bands coef (Ok next) = FurtherTo s b at b.m related told bands₀ coef₀ bands coef next
-FurtherAs s b at related told bands₀ coef₀ bands coef (Err e) = Fails (times (b.m - 1) (mode_form b.n)) s at e
-
-abbrev pub FurtherTold : List ℕ → Beginning → Verdict → ℕ → List ℤ → List ℤ → List ℤ → List ℤ → ModesRead → Type 0
-FurtherTold s b related at bands₀ coef₀ bands coef r = FurtherAs s b at related r.related bands₀ coef₀ bands coef r.answer
+abbrev pub FurtherTold : List ℕ → Beginning → Verdict → ℕ → List ℤ → List ℤ → List ℤ → List ℤ → Result ModesRead Refusal → Type 0
+FurtherTold s b related at bands₀ coef₀ bands coef (Ok r) = FurtherTo s b at b.m related r.related bands₀ coef₀ bands coef r.next
+FurtherTold s b related at bands₀ coef₀ bands coef (Err e) = Fails (times (b.m - 1) (mode_form b.n)) s at e
 
 -- all modes were read into the arrays
 pub record ModesHeld (s : List ℕ) (b : Beginning) (at : ℕ) (bands₀ coef₀ bands coef : List ℤ) (told : Verdict) (next : ℕ) : Type 0 where
@@ -110,9 +104,6 @@ pub record ModesHeld (s : List ℕ) (b : Beginning) (at : ℕ) (bands₀ coef₀
   pub stored : Stored b.n 0 ends entries bands₀ coef₀ bands coef
   pub verdict : told ≡ relation_by b ends b.m
 
-abbrev pub ModesAs : List ℕ → Beginning → ℕ → List ℤ → List ℤ → List ℤ → List ℤ → Verdict → Walk → Type 0
-ModesAs s b at bands₀ coef₀ bands coef told (Ok next) = ModesHeld s b at bands₀ coef₀ bands coef told next
-ModesAs s b at bands₀ coef₀ bands coef told (Err e) = values_at (rest_form b.form b.n b.m) s at ≡ refused e
-
-abbrev pub ModesTold : List ℕ → Beginning → ℕ → List ℤ → List ℤ → List ℤ → List ℤ → ModesRead → Type 0
-ModesTold s b at bands₀ coef₀ bands coef r = ModesAs s b at bands₀ coef₀ bands coef r.related r.answer
+abbrev pub ModesTold : List ℕ → Beginning → ℕ → List ℤ → List ℤ → List ℤ → List ℤ → Result ModesRead Refusal → Type 0
+ModesTold s b at bands₀ coef₀ bands coef (Ok r) = ModesHeld s b at bands₀ coef₀ bands coef r.related r.next
+ModesTold s b at bands₀ coef₀ bands coef (Err e) = values_at (rest_form b.form b.n b.m) s at ≡ refused e

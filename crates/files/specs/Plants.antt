@@ -1,10 +1,10 @@
 -- A plant's file as the code reads it, what stands behind the beginning, and as it drafts it; and how many modes one says it has. Definitions alone.
-use Rattle.std.specs.Prelude.{ℕ, ◌≡◌, List, [], ◌∷◌, ℤ, Some, None}
+use Rattle.std.specs.Prelude.{ℕ, ◌≡◌, List, [], ◌∷◌, ℤ, Some, None, Ok, Err}
 use Rattle.laws.specs.Lists as L
 use Rattle.meaning.specs.Answers.{Number, PlantRead}
 use Rattle.meaning.specs.declared.Outline.{Outline}
 use Rattle.meaning.specs.Numbers.{number_at}
-use Rattle.meaning.specs.Files.{Judged}
+use Rattle.meaning.specs.Files.{Judged, bad}
 use Rattle.meaning.specs.Plants.{most_modes, Plant, plant_from, plant_related, read_of, array_left}
 use Rattle.files.specs.declared.beginnings.Beginning.{Beginning}
 use Rattle.files.specs.Signed.{signed_bytes}
@@ -32,6 +32,11 @@ pub record Answered (j : Judged Plant) (bands₀ coef₀ bands coef : List ℤ) 
   pub answer : r ≡ read_of j
   pub bands-left : bands ≡ array_left (λ p. p.bands) j bands₀
   pub coef-left : coef ≡ array_left (λ p. p.coef) j coef₀
+
+-- what a file is taken for, before a refused one is cleared away: then it is refused so, and the arrays may hold anything
+abbrev pub ValuesTold : Judged Plant → List ℤ → List ℤ → List ℤ → List ℤ → PlantRead → Type 0
+ValuesTold j bands₀ coef₀ bands coef (Ok p) = Answered j bands₀ coef₀ bands coef (Ok p)
+ValuesTold j bands₀ coef₀ bands coef (Err e) = j ≡ bad e
 
 -- the whole file, its beginning having been read
 abbrev pub body_of : List ℕ → Beginning → ℕ → Judged Plant

@@ -3,7 +3,7 @@
 ghost use Rattle.std.specs.Prelude.{◌≡◌, ◌≤◌};
 ghost use Rattle.laws.specs.Writing.{Put};
 ghost use Rattle.files.specs.Bounds.{BandSizes};
-ghost use Rattle.files.specs.Beginnings.{no_beginning, relation, BoundsTold, beginning_read, BeginningTold, beginning_bytes};
+ghost use Rattle.files.specs.Beginnings.{relation, BoundsTold, beginning_read, BeginningTold, beginning_bytes};
 
 use crate::headers::Header;
 use crate::{bounds, headers, refusals};
@@ -26,35 +26,12 @@ pub struct Beginning {
     pub whi: [i64; 4],
 }
 
-// The place behind a beginning, what is to be said of R, S and w, and the beginning; a refused one is all zeros.
+// A beginning that was read, what is to be said of its R, S and w, and the place behind it.
 #[derive(Clone, Copy)]
 pub struct BeginningRead {
-    pub answer: Result<usize, Refusal>,
-    pub related: Result<(), Refusal>,
     pub beginning: Beginning,
-}
-
-fn refused(e: Refusal) -> BeginningRead
-    ensures { result ≡ no_beginning e }
-{
-    BeginningRead {
-        answer: Err(e),
-        related: Ok(()),
-        beginning: Beginning {
-            form: 0,
-            n: 0,
-            m: 0,
-            q: 0,
-            k: 0,
-            d: 0,
-            rlo: [0i64; 4],
-            rhi: [0i64; 4],
-            slo: [0i64; 4],
-            shi: [0i64; 4],
-            wlo: [0i64; 4],
-            whi: [0i64; 4],
-        },
-    }
+    pub related: Result<(), Refusal>,
+    pub next: usize,
 }
 
 // Whether R lies in S, then whether each band is wide enough.
@@ -65,17 +42,11 @@ fn judge(b: Beginning) -> Result<(), Refusal>
     ensures { result ≡ relation b }
 {
     let n = b.n;
-    let rlo = b.rlo;
-    let rhi = b.rhi;
-    let slo = b.slo;
-    let shi = b.shi;
-    let out = bounds::first_out(n, rlo, rhi, slo, shi);
+    let out = bounds::first_out(n, b.rlo, b.rhi, b.slo, b.shi);
     if out < n {
         return Err(refusals::not_in_safe(out));
     }
-    let wlo = b.wlo;
-    let whi = b.whi;
-    let thin = bounds::first_narrow(n, b.q, wlo, whi);
+    let thin = bounds::first_narrow(n, b.q, b.wlo, b.whi);
     if thin < n {
         return Err(refusals::narrow(0, thin));
     }
@@ -83,61 +54,47 @@ fn judge(b: Beginning) -> Result<(), Refusal>
 }
 
 // What stands behind a header.
-fn read_bounds(s: &[u8], h: Header, at: usize) -> BeginningRead
-    requires fact_1 { h.n ≤ 4 }
-    requires fact_2 { h.q ≤ 10000 }
+fn read_bounds(s: &[u8], h: Header, at: usize) -> Result<(Beginning, usize), Refusal>
+    requires { h.n ≤ 4 }
     ensures { BoundsTold s.now h at result }
 {
     let n = h.n;
-    let edges = bounds::read_edges(s, at, n);
-    let past_edges = edges.answer;
-    match past_edges {
-        Err(e) => refused(e),
-        Ok(mid) => {
-            let bands = bounds::read_bands(s, mid, n);
-            let past_bands = bands.answer;
-            match past_bands {
-                Err(e) => refused(e),
-                Ok(next) => {
-                    let rlo = edges.rlo;
-                    let rhi = edges.rhi;
-                    let slo = edges.slo;
-                    let shi = edges.shi;
-                    let wlo = bands.wlo;
-                    let whi = bands.whi;
-                    let beginning = Beginning {
-                        form: h.form,
-                        n,
-                        m: h.m,
-                        q: h.q,
-                        k: h.k,
-                        d: h.d,
-                        rlo,
-                        rhi,
-                        slo,
-                        shi,
-                        wlo,
-                        whi,
-                    };
-                    BeginningRead {
-                        answer: Ok(next),
-                        related: judge(beginning),
-                        beginning,
-                    }
-                }
-            }
-        }
-    }
+    let (edges, mid) = bounds::read_edges(s, at, n)?;
+    let (bands, next) = bounds::read_bands(s, mid, n)?;
+    let rlo = edges.rlo;
+    let rhi = edges.rhi;
+    let slo = edges.slo;
+    let shi = edges.shi;
+    let wlo = bands.wlo;
+    let whi = bands.whi;
+    let beginning = Beginning {
+        form: h.form,
+        n,
+        m: h.m,
+        q: h.q,
+        k: h.k,
+        d: h.d,
+        rlo,
+        rhi,
+        slo,
+        shi,
+        wlo,
+        whi,
+    };
+    Ok((beginning, next))
 }
 
-pub fn read_beginning(s: &[u8], forms: usize, most: usize) -> BeginningRead
+pub fn read_beginning(s: &[u8], forms: usize, most: usize) -> Result<BeginningRead, Refusal>
     ensures value { result ≡ beginning_read forms most s.now }
     ensures told { BeginningTold forms most s.now result }
 {
-    match headers::read_header(s, forms, most) {
-        Err(e) => refused(e),
-        Ok((h, at)) => read_bounds(s, h, at),
-    }
+    let (h, at) = headers::read_header(s, forms, most)?;
+    let (beginning, next) = read_bounds(s, h, at)?;
+    Ok(BeginningRead {
+        beginning,
+        related: judge(beginning),
+        next,
+    })
 }
 
 // The file's bytes at the buffer's beginning, as far as there is room; the place behind them. Where n is out of range the header says it all.

@@ -11,17 +11,16 @@ ghost use Rattle.files.specs.Bounds.{EdgesTold, BandsTold, BandSizes};
 use crate::{numbers, spans};
 use meaning::Refusal;
 
-// The edges of R and S, zeros beyond n, and the place behind them.
+// The edges of R and S, zeros beyond n.
 #[derive(Clone, Copy)]
-pub struct EdgeArrays {
-    pub answer: Result<usize, Refusal>,
+pub struct Edges {
     pub rlo: [i64; 4],
     pub rhi: [i64; 4],
     pub slo: [i64; 4],
     pub shi: [i64; 4],
 }
 
-pub fn read_edges(s: &[u8], at: usize, n: usize) -> EdgeArrays
+pub fn read_edges(s: &[u8], at: usize, n: usize) -> Result<(Edges, usize), Refusal>
     requires { n ≤ 4 }
     ensures { EdgesTold s.now at n result }
 {
@@ -30,86 +29,39 @@ pub fn read_edges(s: &[u8], at: usize, n: usize) -> EdgeArrays
     let mut slo = [0i64; 4];
     let mut shi = [0i64; 4];
     let mut p = at;
-    let mut i: usize = 0;
-    while i < n {
-        match spans::read_span(s, p, -1_000_000, 1_000_000) {
-            Err(e) => {
-                return EdgeArrays {
-                    answer: Err(e),
-                    rlo,
-                    rhi,
-                    slo,
-                    shi,
-                };
-            }
-            Ok((a, b, mid)) => match spans::read_span(s, mid, -1_000_000, 1_000_000) {
-                Err(e) => {
-                    return EdgeArrays {
-                        answer: Err(e),
-                        rlo,
-                        rhi,
-                        slo,
-                        shi,
-                    };
-                }
-                Ok((c, d, next)) => {
-                    rlo[i] = a;
-                    rhi[i] = b;
-                    slo[i] = c;
-                    shi[i] = d;
-                    p = next;
-                }
-            },
-        }
-        i += 1;
+    for i in 0..n {
+        let (root_lo, root_hi, mid) = spans::read_span(s, p, -1_000_000, 1_000_000)?;
+        let (safe_lo, safe_hi, next) = spans::read_span(s, mid, -1_000_000, 1_000_000)?;
+        rlo[i] = root_lo;
+        rhi[i] = root_hi;
+        slo[i] = safe_lo;
+        shi[i] = safe_hi;
+        p = next;
     }
-    EdgeArrays {
-        answer: Ok(p),
-        rlo,
-        rhi,
-        slo,
-        shi,
-    }
+    Ok((Edges { rlo, rhi, slo, shi }, p))
 }
 
-// The bands, zeros beyond n, and the place behind them.
+// The bands, zeros beyond n.
 #[derive(Clone, Copy)]
-pub struct BandArrays {
-    pub answer: Result<usize, Refusal>,
+pub struct Bands {
     pub wlo: [i64; 4],
     pub whi: [i64; 4],
 }
 
-pub fn read_bands(s: &[u8], at: usize, n: usize) -> BandArrays
+pub fn read_bands(s: &[u8], at: usize, n: usize) -> Result<(Bands, usize), Refusal>
     requires { n ≤ 4 }
     ensures { BandsTold s.now at n result }
 {
     let mut wlo = [0i64; 4];
     let mut whi = [0i64; 4];
     let mut p = at;
-    let mut i: usize = 0;
-    while i < n {
-        match spans::read_span(s, p, -1_000_000_000, 1_000_000_000) {
-            Err(e) => {
-                return BandArrays {
-                    answer: Err(e),
-                    wlo,
-                    whi,
-                };
-            }
-            Ok((a, b, next)) => {
-                wlo[i] = a;
-                whi[i] = b;
-                p = next;
-            }
-        }
-        i += 1;
+    for i in 0..n {
+        let (lo, hi, next) = spans::read_span(s, p, -1_000_000_000, 1_000_000_000)?;
+        wlo[i] = lo;
+        whi[i] = hi;
+        p = next;
     }
-    BandArrays {
-        answer: Ok(p),
-        wlo,
-        whi,
-    }
+    Ok((Bands { wlo, whi }, p))
 }
 
 // The first dimension in which the side of the first box does not lie in that of the second; n where all do.

@@ -27,27 +27,15 @@ fn unknown(forms: usize, form: usize) -> bool
 pub fn read_header(s: &[u8], forms: usize, most: usize) -> Result<(Header, usize), Refusal>
     ensures { HeaderTold forms most s.now result }
 {
-    let Some((form, a)) = numbers::number(s, 0) else {
-        return Err(refusals::broken(0));
-    };
+    let (form, a) = numbers::number(s, 0).ok_or(refusals::broken(0))?;
     if unknown(forms, form) {
         return Err(refusals::wrong_form());
     }
-    let Some((n, b)) = fields::counted(s, a, 1, 4) else {
-        return Err(fields::fault(s, a));
-    };
-    let Some((m, c)) = fields::counted(s, b, 1, most) else {
-        return Err(fields::fault(s, b));
-    };
-    let Some((q, e)) = fields::counted(s, c, 1, 10_000) else {
-        return Err(fields::fault(s, c));
-    };
-    let Some((k, f)) = fields::counted(s, e, 1, 6) else {
-        return Err(fields::fault(s, e));
-    };
-    let Some((d, next)) = fields::counted(s, f, 0, 6) else {
-        return Err(fields::fault(s, f));
-    };
+    let (n, b) = fields::counted(s, a, 1, 4)?;
+    let (m, c) = fields::counted(s, b, 1, most)?;
+    let (q, e) = fields::counted(s, c, 1, 10_000)?;
+    let (k, f) = fields::counted(s, e, 1, 6)?;
+    let (d, next) = fields::counted(s, f, 0, 6)?;
     if 12 < n * d {
         return Err(refusals::unfit(f));
     }

@@ -14,18 +14,11 @@ use crate::beginnings::Beginning;
 use crate::{arrays, bounds, refusals, rows};
 use meaning::Refusal;
 
-// The place behind the modes, and what is to be said of R, S and the bands of all modes.
+// What is to be said of R, S and the bands of all modes, and the place behind the modes.
 #[derive(Clone, Copy)]
 pub struct ModesRead {
-    pub answer: Result<usize, Refusal>,
     pub related: Result<(), Refusal>,
-}
-
-// One mode of form 2: the place behind it, and the first dimension whose band is too narrow, n where none is.
-#[derive(Clone, Copy)]
-pub struct ModeRead {
-    pub answer: Result<usize, Refusal>,
-    pub thin: usize,
+    pub next: usize,
 }
 
 // The bands of mode u, laid into the array behind those of the modes before it, as far as there is room.
@@ -53,7 +46,8 @@ fn lay_alike(n: usize, modes: usize, wlo: [i64; 4], whi: [i64; 4], bands: &mut [
     }
 }
 
-// Mode u of form 2: its bands and then its rows, each into its array.
+// Mode u of form 2, its bands and then its rows, each into its array: the first dimension whose band is too narrow, n where none is, and the place behind
+// the mode.
 fn read_mode(
     s: &[u8],
     at: usize,
@@ -62,43 +56,26 @@ fn read_mode(
     u: usize,
     bands: &mut [i64],
     coef: &mut [i64],
-) -> ModeRead
+) -> Result<(usize, usize), Refusal>
     requires sizes { (n ≤ 4) × (q ≤ 10_000) × (u < most_modes) }
     ensures { ModeTold s.now at n q u bands.old coef.old bands.new coef.new result }
 {
-    let read = bounds::read_bands(s, at, n);
-    let past = read.answer;
-    match past {
-        Err(e) => ModeRead {
-            answer: Err(e),
-            thin: n,
-        },
-        Ok(mid) => {
-            let wlo = read.wlo;
-            let whi = read.whi;
-            lay(n, u, wlo, whi, bands);
-            let thin = bounds::first_narrow(n, q, wlo, whi);
-            ModeRead {
-                answer: rows::read_rows(s, mid, n, n, n * (n + 1) * u, coef),
-                thin,
-            }
-        }
-    }
+    let (read, mid) = bounds::read_bands(s, at, n)?;
+    lay(n, u, read.wlo, read.whi, bands);
+    let thin = bounds::first_narrow(n, q, read.wlo, read.whi);
+    let next = rows::read_rows(s, mid, n, n, n * (n + 1) * u, coef)?;
+    Ok((thin, next))
 }
 
 // What is to be said behind mode u: what was to be said before it, or that its band is too narrow.
 fn after(related: Result<(), Refusal>, n: usize, u: usize, thin: usize) -> Result<(), Refusal>
     ensures { result ≡ after_mode related n u thin }
 {
-    match related {
-        Err(e) => Err(e),
-        Ok(()) => {
-            if thin < n {
-                return Err(refusals::narrow(u, thin));
-            }
-            Ok(())
-        }
+    related?;
+    if thin < n {
+        return Err(refusals::narrow(u, thin));
     }
+    Ok(())
 }
 
 // The modes of form 2 behind mode 0, whose rows end at `at`: bands and rows of each.
@@ -109,31 +86,21 @@ fn read_further(
     at: usize,
     bands: &mut [i64],
     coef: &mut [i64],
-) -> ModesRead
+) -> Result<ModesRead, Refusal>
     requires { (b.n ≤ 4) × (b.q ≤ 10_000) × (1 ≤ b.m) × (b.m ≤ most_modes) }
     ensures { FurtherTold s.now b related at bands.old coef.old bands.new coef.new result }
 {
-    let n = b.n;
     let mut told = related;
     let mut p = at;
-    let mut u: usize = 1;
-    while u < b.m {
-        let mode = read_mode(s, p, n, b.q, u, bands, coef);
-        let past = mode.answer;
-        let Ok(next) = past else {
-            return ModesRead {
-                answer: past,
-                related: told,
-            };
-        };
-        told = after(told, n, u, mode.thin);
+    for u in 1..b.m {
+        let (thin, next) = read_mode(s, p, b.n, b.q, u, bands, coef)?;
+        told = after(told, b.n, u, thin);
         p = next;
-        u += 1;
     }
-    ModesRead {
-        answer: Ok(p),
+    Ok(ModesRead {
         related: told,
-    }
+        next: p,
+    })
 }
 
 // The modes of form 2: the rows of mode 0, and then each further mode.
@@ -144,21 +111,12 @@ fn read_own(
     at: usize,
     bands: &mut [i64],
     coef: &mut [i64],
-) -> ModesRead
+) -> Result<ModesRead, Refusal>
     requires { Begun plant_forms most_modes s.now b at × (own_bands b.form ≡ true) × (related ≡ relation b) }
     ensures { ModesTold s.now b at bands.old coef.old bands.new coef.new result }
 {
-    let n = b.n;
-    let wlo = b.wlo;
-    let whi = b.whi;
-    lay(n, 0, wlo, whi, bands);
-    let first = rows::read_rows(s, at, n, n, 0, coef);
-    let Ok(mid) = first else {
-        return ModesRead {
-            answer: first,
-            related,
-        };
-    };
+    lay(b.n, 0, b.wlo, b.whi, bands);
+    let mid = rows::read_rows(s, at, b.n, b.n, 0, coef)?;
     read_further(s, b, related, mid, bands, coef)
 }
 
@@ -170,22 +128,16 @@ pub fn read_modes(
     at: usize,
     bands: &mut [i64],
     coef: &mut [i64],
-) -> ModesRead
+) -> Result<ModesRead, Refusal>
     requires { Begun plant_forms most_modes s.now b at × (related ≡ relation b) }
     ensures { ModesTold s.now b at bands.old coef.old bands.new coef.new result }
 {
     if b.form == 2 {
         return read_own(s, b, related, at, bands, coef);
     }
-    let n = b.n;
-    let modes = b.m;
-    let wlo = b.wlo;
-    let whi = b.whi;
-    lay_alike(n, modes, wlo, whi, bands);
-    ModesRead {
-        answer: rows::read_rows(s, at, n, modes * n, 0, coef),
-        related,
-    }
+    lay_alike(b.n, b.m, b.wlo, b.whi, bands);
+    let next = rows::read_rows(s, at, b.n, b.m * b.n, 0, coef)?;
+    Ok(ModesRead { related, next })
 }
 
 // What stands behind the bands of mode 0, from `at` on, as far as there is room; the place behind it.

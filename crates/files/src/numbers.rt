@@ -7,30 +7,20 @@ ghost use Rattle.meaning.specs.Numbers.{number_at, signed_at, bytes_of, stored};
 pub fn number(s: &[u8], at: usize) -> Option<(usize, usize)>
     ensures { result ≡ number_at s.now at }
 {
-    let mut i = at;
-    let mut k: usize = 0;
     let mut v: usize = 0;
     let mut w: usize = 1;
-    while k < 5 {
-        if s.len() <= i {
-            return None;
-        }
-        let c = s[i] as usize;
+    for k in 0..5 {
+        let i = at + k;
+        let c = *s.get(i)? as usize;
         if c < 128 {
-            let next = i + 1;
-            if c == 0 {
-                if w == 1 {
-                    return Some((0, next));
-                }
+            if c == 0 && w != 1 {
                 return None;
             }
             let value = v + c * w;
-            return Some((value, next));
+            return Some((value, i + 1));
         }
         v += (c - 128) * w;
         w *= 128;
-        i += 1;
-        k += 1;
     }
     None
 }
@@ -39,9 +29,7 @@ pub fn number(s: &[u8], at: usize) -> Option<(usize, usize)>
 pub fn signed(s: &[u8], at: usize) -> Option<(i64, usize)>
     ensures { result ≡ signed_at s.now at }
 {
-    let Some((v, next)) = number(s, at) else {
-        return None;
-    };
+    let (v, next) = number(s, at)?;
     let half = (v / 2) as i64;
     if v % 2 == 0 {
         Some((half, next))

@@ -1,12 +1,10 @@
 // Plant files of either form, read and written; and how many modes one says it has. Relies on beginnings and modes for the parts. Leaves out what a plant
 // does: that is crates/tables.
-ghost use Rattle.std.specs.Prelude.{◌≡◌, [], ◌∷◌, ◌+◌, ◌≤◌, length};
+ghost use Rattle.std.specs.Prelude.{◌≡◌, [], ◌∷◌, ◌+◌, ◌≤◌, length, unwrap_or};
 ghost use Rattle.laws.specs.Lists as L;
-ghost use Rattle.meaning.specs.Files.{bad};
 ghost use Rattle.laws.specs.Writing.{Put};
-ghost use Rattle.meaning.specs.Plants.{plant_forms, most_modes, plant_read, bands_left, coef_left, plant_from, plant_left};
-ghost use Rattle.files.specs.Beginnings.{relation, Begun};
-ghost use Rattle.files.specs.Plants.{modes_told, outline_in, Answered, body_of, plant_draft};
+ghost use Rattle.meaning.specs.Plants.{plant_judged, plant_read, bands_left, coef_left, plant_from, plant_left};
+ghost use Rattle.files.specs.Plants.{modes_told, outline_in, ValuesTold, plant_draft};
 
 use crate::beginnings::Beginning;
 use crate::{arrays, beginnings, buffers, modes, numbers, refusals};
@@ -24,25 +22,17 @@ const DRAFT: usize = 10 * (22 + 28 * MODES);
 pub fn modes_told(s: &[u8]) -> usize
     ensures { result ≡ modes_told s.now }
 {
-    let Some((_, a)) = numbers::number(s, 0) else {
-        return 0;
-    };
-    let Some((_, b)) = numbers::number(s, a) else {
-        return 0;
-    };
-    let Some((modes, _)) = numbers::number(s, b) else {
-        return 0;
-    };
-    modes
+    third_number(s).unwrap_or(0)
 }
 
-// A refused plant: what was lent for its bands and coefficients is all zeros.
-fn refused(e: Refusal, bands: &mut [i64], coef: &mut [i64]) -> Result<Outline, Refusal>
-    ensures { Answered (bad e) bands.old coef.old bands.new coef.new result }
+// A file's third number.
+fn third_number(s: &[u8]) -> Option<usize>
+    ensures { unwrap_or result 0 ≡ modes_told s.now }
 {
-    arrays::clear(bands);
-    arrays::clear(coef);
-    Err(e)
+    let (_, a) = numbers::number(s, 0)?;
+    let (_, b) = numbers::number(s, a)?;
+    let (third, _) = numbers::number(s, b)?;
+    Some(third)
 }
 
 // The outline of a plant that begins so.
@@ -67,34 +57,18 @@ fn outline(b: Beginning) -> Outline
     }
 }
 
-// What stands behind a beginning: the modes, then what is asked of the whole.
-fn read_body(
-    s: &[u8],
-    b: Beginning,
-    related: Result<(), Refusal>,
-    at: usize,
-    bands: &mut [i64],
-    coef: &mut [i64],
-) -> Result<Outline, Refusal>
-    requires fact_1 { Begun plant_forms most_modes s.now b at }
-    requires fact_2 { related ≡ relation b }
-    ensures { Answered (body_of s.now b at) bands.old coef.old bands.new coef.new result }
+// A plant's file, its bands and coefficients into the arrays as far as there is room; refused, these hold what was read before the fault.
+fn read_values(s: &[u8], bands: &mut [i64], coef: &mut [i64]) -> Result<Outline, Refusal>
+    ensures { ValuesTold (plant_judged s.now) bands.old coef.old bands.new coef.new result }
 {
-    let read = modes::read_modes(s, b, related, at, bands, coef);
-    let past = read.answer;
-    match past {
-        Err(e) => refused(e, bands, coef),
-        Ok(next) => {
-            if next != s.len() {
-                return refused(refusals::unfit(next), bands, coef);
-            }
-            let told = read.related;
-            match told {
-                Err(e) => refused(e, bands, coef),
-                Ok(()) => Ok(outline(b)),
-            }
-        }
+    let read = beginnings::read_beginning(s, 2, MODES)?;
+    let b = read.beginning;
+    let modes = modes::read_modes(s, b, read.related, read.next, bands, coef)?;
+    if modes.next != s.len() {
+        return Err(refusals::unfit(modes.next));
     }
+    modes.related?;
+    Ok(outline(b))
 }
 
 // A plant's file, judged in order: number, place and step of the first fault, or the plant. Its bands and coefficients are left in the arrays that are lent
@@ -104,16 +78,12 @@ pub fn read_plant(s: &[u8], bands: &mut [i64], coef: &mut [i64]) -> Result<Outli
     ensures bands { bands.new ≡ bands_left s.now bands.old }
     ensures coef { coef.new ≡ coef_left s.now coef.old }
 {
-    let read = beginnings::read_beginning(s, 2, MODES);
-    let past = read.answer;
-    match past {
-        Err(e) => refused(e, bands, coef),
-        Ok(at) => {
-            let b = read.beginning;
-            let related = read.related;
-            read_body(s, b, related, at, bands, coef)
-        }
+    let read = read_values(s, bands, coef);
+    if read.is_err() {
+        arrays::clear(bands);
+        arrays::clear(coef);
     }
+    read
 }
 
 // A plant's file, judged alone: its bands and coefficients are kept nowhere.

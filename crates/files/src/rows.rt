@@ -1,11 +1,11 @@
 // The rows of a plant's modes, read into one flat array, number by number in file order; and numbers of an array written. Relies on fields and arrays.
 // Leaves out which entry means what: row and column are told by the place alone.
-ghost use Rattle.std.specs.Prelude.{◌≡◌, ◌+◌, ◌*◌, ◌≤◌, length, pos, neg_ℤ};
+ghost use Rattle.std.specs.Prelude.{◌≡◌, ◌+◌, ◌*◌, ◌≤◌, length, pos, neg_ℤ, ok_or};
 ghost use Rattle.laws.specs.Lists;
 ghost use Rattle.laws.specs.Lists.{tab};
 ghost use Rattle.laws.specs.Writing.{Put};
 ghost use Rattle.meaning.specs.Plants.{most_coefs};
-ghost use Rattle.files.specs.Fields.{ranged_at};
+ghost use Rattle.files.specs.Fields.{ranged_at, fault_at};
 ghost use Rattle.files.specs.Signed.{signed_bytes};
 ghost use Rattle.files.specs.Rows.{limit_at, next_column, RowsTold};
 
@@ -13,8 +13,8 @@ use crate::{arrays, fields, numbers};
 use meaning::Refusal;
 
 // The number of a row's column: one of n entries of A, or b behind them.
-fn entry(s: &[u8], at: usize, n: usize, column: usize) -> Option<(i64, usize)>
-    ensures { result ≡ ranged_at s.now at (neg_ℤ (pos (limit_at n column))) (pos (limit_at n column)) }
+fn entry(s: &[u8], at: usize, n: usize, column: usize) -> Result<(i64, usize), Refusal>
+    ensures { result ≡ ok_or (ranged_at s.now at (neg_ℤ (pos (limit_at n column))) (pos (limit_at n column))) (fault_at s.now at) }
 {
     if column < n {
         fields::ranged(s, at, -20_000, 20_000)
@@ -44,15 +44,11 @@ pub fn read_rows(
     let entries = count * (n + 1);
     let mut p = at;
     let mut column: usize = 0;
-    let mut c: usize = 0;
-    while c < entries {
-        let Some((v, next)) = entry(s, p, n, column) else {
-            return Err(fields::fault(s, p));
-        };
+    for c in 0..entries {
+        let (v, next) = entry(s, p, n, column)?;
         arrays::store(coef, from + c, v);
         p = next;
         column = next_column(n, column);
-        c += 1;
     }
     Ok(p)
 }

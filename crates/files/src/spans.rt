@@ -9,11 +9,7 @@ use meaning::Refusal;
 pub fn read_span(s: &[u8], at: usize, least: i64, most: i64) -> Result<(i64, i64, usize), Refusal>
     ensures { SpanTold least most s.now at result }
 {
-    let Some((lo, mid)) = fields::ranged(s, at, least, most) else {
-        return Err(fields::fault(s, at));
-    };
-    let Some((hi, next)) = fields::ranged(s, mid, lo, most) else {
-        return Err(fields::fault(s, mid));
-    };
+    let (lo, mid) = fields::ranged(s, at, least, most)?;
+    let (hi, next) = fields::ranged(s, mid, lo, most)?;
     Ok((lo, hi, next))
 }

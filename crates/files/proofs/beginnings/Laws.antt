@@ -9,22 +9,20 @@ use lib.ListN.{length}
 use Rattle.laws.specs.Lists.{all, first_false}
 use Rattle.laws.specs.Tabs.{length-tab}
 use Rattle.laws.specs.Tests.{first-within, first-behind}
-use Rattle.meaning.specs.Answers.{Walk}
 use Rattle.meaning.specs.declared.Refusal.{Refusal}
 use Rattle.meaning.specs.Refusals.{not_in_safe, narrow}
 use Rattle.meaning.specs.Files.{Form, refused, values_at}
 use Rattle.meaning.specs.Boxes.{sides_of, lies}
 use Rattle.meaning.specs.Plants.{band_limit, span, times, edges, bands, edges_and_bands, headed, wide, wide_modes}
 use Rattle.files.specs.declared.headers.Header.{Header}
-use Rattle.files.specs.declared.bounds.EdgeArrays.{EdgeArrays}
-use Rattle.files.specs.declared.bounds.BandArrays.{BandArrays}
+use Rattle.files.specs.declared.bounds.Edges.{Edges}
+use Rattle.files.specs.declared.bounds.Bands.{Bands}
 use Rattle.files.specs.declared.beginnings.Beginning.{Beginning}
-use Rattle.files.specs.declared.beginnings.BeginningRead.{BeginningRead}
 use Rattle.files.specs.Headers.{Headed}
 use Rattle.files.specs.Parts.{behind, behind-refused, Fails, holds_then, holds-fails, fails-then}
 use Rattle.files.specs.Bounds.{edges_part, EdgesRead, BandsRead}
-use Rattle.files.specs.Beginnings.{head_numbers, relation, no_beginning, beginning_read, Begun, BegunAs, BeginningTold, BoundsRead, BoundsAs, BoundsTold}
-use Rattle.files.specs.BeginningLaws.{settled, begun}
+use Rattle.files.specs.Beginnings.{beginning_form, head_numbers, relation, Begun, BoundsRead}
+use Rattle.files.specs.BeginningLaws.{begun}
 use Rattle.files.proofs.bounds.Laws.{inside, lies-tab, broad, wide-tab}
 
 -- ---- judged
@@ -75,12 +73,12 @@ module _ (s : List ℕ) (h : Header) (from : ℕ) where
   unfolding edges bands
   edges-refused r t = fails-then {g = times h.n (span band_limit)} t
 
-  module _ (e : EdgeArrays) (mid : ℕ) (t : EdgesRead s from h.n e mid) where
+  module _ (e : Edges) (mid : ℕ) (t : EdgesRead s from h.n e mid) where
     pub bands-refused : (r : Refusal) → Fails (times h.n (span band_limit)) s mid r → Fails (edges_and_bands h.n) s from r
     unfolding edges bands
     bands-refused r u = holds-fails t.part u
 
-    pub bounds-read : (w : BandArrays) (next : ℕ) → BandsRead s mid h.n w next
+    pub bounds-read : (w : Bands) (next : ℕ) → BandsRead s mid h.n w next
         → BoundsRead s h from (record { form = h.form; n = h.n; m = h.m; q = h.q; k = h.k; d = h.d; rlo = e.rlo; rhi = e.rhi; slo = e.slo; shi = e.shi; wlo = w.wlo; whi = w.whi }) next
     unfolding edges bands
     bounds-read w next u = record {
@@ -98,23 +96,15 @@ module _ (s : List ℕ) (h : Header) (from : ℕ) where
 
 -- ---- the header in front
 
-pub header-cut : (forms most : ℕ) (s : List ℕ) (e : Refusal) → ((rest : ℕ → ℕ → ℕ → Form) → values_at (headed forms most rest) s 0 ≡ refused e)
-    → (no_beginning e ≡ beginning_read forms most s) × BeginningTold forms most s (no_beginning e)
-header-cut forms most s e t =
-    let u : BeginningTold forms most s (no_beginning e) = (refl, λ rest. t (λ form n m. edges_and_bands n (rest form n m))) in
-    (settled forms most s (no_beginning e) u, u)
+module _ (forms most : ℕ) (s : List ℕ) where
+  pub header-cut : (e : Refusal) → ((rest : ℕ → ℕ → ℕ → Form) → values_at (headed forms most rest) s 0 ≡ refused e) → (rest : ℕ → ℕ → ℕ → Form) → values_at (beginning_form forms most rest) s 0 ≡ refused e
+  header-cut e t rest = t (λ form n m. edges_and_bands n (rest form n m))
 
-pub header-told : (forms most : ℕ) (s : List ℕ) (h : Header) (from : ℕ) (r : BeginningRead) → Headed forms most s h from → BoundsTold s h from r → BeginningTold forms most s r
-header-told forms most s h from r t u = go r.answer u
-  where
-    go : (w : Walk) → BoundsAs s h from r w → BegunAs forms most s r w
-    go (Err e) v = (
-      v.0,
-      λ rest.
-          t.holds (λ form n m. edges_and_bands n (rest form n m))
-          ∙ ap (behind (head_numbers h)) (v.1.fails (rest h.form h.n h.m)) ∙ behind-refused (head_numbers h) e,
-    )
-    go (Ok next) v = (
-      subst (λ (x : Header). Headed forms most s x from → BoundsRead s x from r.beginning next → Begun forms most s r.beginning next) v.0.same (begun forms most s r.beginning from next) t v.0,
-      v.1,
-    )
+  module _ (h : Header) (from : ℕ) (t : Headed forms most s h from) where
+    pub bounds-cut : (e : Refusal) → Fails (edges_and_bands h.n) s from e → (rest : ℕ → ℕ → ℕ → Form) → values_at (beginning_form forms most rest) s 0 ≡ refused e
+    bounds-cut e u rest =
+        t.holds (λ form n m. edges_and_bands n (rest form n m))
+        ∙ ap (behind (head_numbers h)) (u.fails (rest h.form h.n h.m)) ∙ behind-refused (head_numbers h) e
+
+    pub bounds-begun : (b : Beginning) (next : ℕ) → BoundsRead s h from b next → Begun forms most s b next
+    bounds-begun b next u = subst (λ (x : Header). Headed forms most s x from → BoundsRead s x from b next → Begun forms most s b next) u.same (begun forms most s b from next) t u

@@ -19,8 +19,6 @@ use Rattle.meaning.specs.Plants.{edge_limit, band_limit, span, times, edges_of, 
 use Rattle.meaning.specs.Numbers.{bytes_of, stored}
 use Rattle.files.specs.Signed.{signed_bytes}
 use Rattle.files.specs.Parts.{Fails, holds_then, holds-fails, fails-then, Rows, rows_none, rows_more, rows-fails, rows_all}
-use Rattle.files.specs.declared.bounds.BandArrays.{BandArrays}
-use Rattle.files.specs.declared.bounds.EdgeArrays.{EdgeArrays}
 use Rattle.files.specs.Spans.{span_in, Spanned}
 use Rattle.files.specs.Bounds.{edges_part, EndsWithin, EdgesRead, BandSizes, BandsRead}
 use Rattle.meaning.specs.declared.Refusal.{Refusal}
@@ -83,14 +81,14 @@ module _ {s : List ℕ} {from n i p : ℕ} {wlo whi : List ℤ} (w : BandsUpTo s
   pub bands-fails : (e : Refusal) → i < n → Fails (span_in (neg_ℤ (pos band_limit)) (pos band_limit)) s p e → Fails (times n (span band_limit)) s from e
   bands-fails e h t = rows-fails w.rows h t
 
-  pub bands-all : (r : BandArrays) → r.wlo ≡ wlo → r.whi ≡ whi → n ≤ i → BandsRead s from n r p
-  bands-all r e g h =
+  pub bands-all : n ≤ i → BandsRead s from n (record { wlo = wlo; whi = whi }) p
+  bands-all h =
       let j : i ≡ n = omega (arith, w.rows.few) in
       record {
-        part = rw (e, g) (rows_all w.rows h);
-        wlo-filled = rw (e, ← j) w.wlo-filled;
-        whi-filled = rw (g, ← j) w.whi-filled;
-        sizes = λ k l. rw (e, g) (w.sizes k (omega arith));
+        part = rows_all w.rows h;
+        wlo-filled = rw (← j) w.wlo-filled;
+        whi-filled = rw (← j) w.whi-filled;
+        sizes = λ k l. w.sizes k (omega arith);
       }
 
 -- ---- the loop over edges: i dimensions are done
@@ -144,16 +142,16 @@ module _ {s : List ℕ} {from n i p : ℕ} {rlo rhi slo shi : List ℤ} (w : Edg
   pub safe-fails : (a b : ℤ) (mid : ℕ) (e : Refusal) → i < n → EdgeSpan s p a b mid → Fails (span_in (neg_ℤ (pos edge_limit)) (pos edge_limit)) s mid e → Fails (times n edges_part) s from e
   safe-fails a b mid e h t u = rows-fails w.rows h (holds-fails t.part u)
 
-  pub edges-all : (r : EdgeArrays) → r.rlo ≡ rlo → r.rhi ≡ rhi → r.slo ≡ slo → r.shi ≡ shi → n ≤ i → EdgesRead s from n r p
-  edges-all r e₀ e₁ e₂ e₃ h =
+  pub edges-all : n ≤ i → EdgesRead s from n (record { rlo = rlo; rhi = rhi; slo = slo; shi = shi }) p
+  edges-all h =
       let j : i ≡ n = omega (arith, w.rows.few) in
       record {
-        part = rw (e₀, e₁, e₂, e₃) (rows_all w.rows h);
-        rlo-filled = rw (e₀, ← j) w.rlo-filled;
-        rhi-filled = rw (e₁, ← j) w.rhi-filled;
-        slo-filled = rw (e₂, ← j) w.slo-filled;
-        shi-filled = rw (e₃, ← j) w.shi-filled;
-        sizes = λ k l. rw (e₂, e₃) (w.sizes k (omega arith));
+        part = rows_all w.rows h;
+        rlo-filled = rw (← j) w.rlo-filled;
+        rhi-filled = rw (← j) w.rhi-filled;
+        slo-filled = rw (← j) w.slo-filled;
+        shi-filled = rw (← j) w.shi-filled;
+        sizes = λ k l. w.sizes k (omega arith);
       }
 
 -- ---- R in S, and bands wide enough, as tests by dimension

@@ -1,5 +1,5 @@
 -- The modes of a plant's file, read: one of form 2, those behind mode 0, and all of either form. Relies on page Laws.
-use Rattle.std.specs.Prelude.{Ok, Err}
+use Rattle.std.specs.Prelude.{Ok, Err, Result}
 use Prim.Native.Nat.{ℕ, suc, ◌+◌, ◌-◌, ◌*◌, ◌≤◌, ◌<◌}
 use mathlib.Core.Path.{◌≡◌, refl, sym, ap, ◌∙◌, subst}
 use mathlib.Core.Bool.{Bool, true, false}
@@ -13,7 +13,7 @@ use Rattle.laws.specs.Columns.{tabs-tab, tabs-later, tab-moved, tab-at, tab-behi
 use Rattle.laws.specs.Lists.{at, tab, tabs, all, first_false}
 use Rattle.laws.specs.Tabs.{length-tab, length-tabs, get_d-tab, get_d-tabs, tab-same}
 use Rattle.laws.specs.Tests.{never}
-use Rattle.meaning.specs.Answers.{Walk, Verdict}
+use Rattle.meaning.specs.Answers.{Verdict}
 use Rattle.meaning.specs.declared.Refusal.{Refusal}
 use Rattle.meaning.specs.Refusals.{not_in_safe}
 use Rattle.meaning.specs.Files.{end, read, refused, values_at, good, bad}
@@ -21,12 +21,13 @@ use Rattle.meaning.specs.Boxes.{Side, sides_of, lies}
 use Rattle.laws.specs.Guards.{guard}
 use Rattle.meaning.specs.Plants.{band_limit, span, times, bands, row, own_bands, mode_form, band_of, band_numbers, row_numbers, band_start, band_side, wide, wide_modes}
 use Rattle.files.specs.declared.beginnings.Beginning.{Beginning}
-use Rattle.files.specs.declared.bounds.BandArrays.{BandArrays}
+use Rattle.files.specs.declared.bounds.Bands.{Bands}
+use Rattle.files.specs.declared.modes.ModesRead.{ModesRead}
 use Rattle.files.specs.Parts.{Fails, holds_then, holds-fails, fails-then, holds-last, rows_none, rows_more, rows-fails, rows_all}
 use Rattle.files.specs.Bounds.{BandsRead}
-use Rattle.files.specs.Rows.{RowsRead, RowsTold}
+use Rattle.files.specs.Rows.{RowsRead}
 use Rattle.files.specs.Beginnings.{bands_in, verdict_of, relation}
-use Rattle.files.specs.Modes.{rest_by, mode_numbers, ends_alike, bands_from, Numbers, ModeHeld, ModeAs, after_mode, relation_by, FurtherTo, FurtherAs, ModesHeld, ModesAs}
+use Rattle.files.specs.Modes.{rest_by, rest_form, mode_numbers, ends_alike, bands_from, Numbers, ModeHeld, after_mode, relation_by, FurtherTo, FurtherTold, ModesHeld, ModesTold}
 use Rattle.files.proofs.modes.Laws.{bands-long, of-first, kept, numbers-joined, stored-joined, bands-sides, said, said_more, said-alike}
 
 -- ---- one mode of form 2
@@ -44,7 +45,7 @@ module _ (s : List ℕ) (at' n q u : ℕ) where
   unfolding bands
   mode-bands-refused e t = fails-then {g = times n (row n)} t
 
-  module _ (w : BandArrays) (mid : ℕ) (t : BandsRead s at' n w mid) where
+  module _ (w : Bands) (mid : ℕ) (t : BandsRead s at' n w mid) where
     pub mode-rows-refused : (e : Refusal) → Fails (times n (row n)) s mid e → Fails (mode_form n) s at' e
     unfolding bands
     mode-rows-refused e r = holds-fails t.part r
@@ -61,12 +62,6 @@ module _ (s : List ℕ) (at' n q u : ℕ) where
       stored = record { bands-stored = l; coef-stored = r.stored };
       first = e ∙ ap (λ (b : List Side). first_false (map (wide q) b)) (sym (one-sides n w.wlo w.whi));
     }
-
-    pub mode-told : (bands₀ bands coef₀ coef : List ℤ) (thin : ℕ) (r : Walk) → bands ≡ sets bands₀ (2 * n * u) (tabs (band_of w.wlo w.whi) n 0)
-        → RowsTold s mid n n (n * (n + 1) * u) coef₀ coef r
-        → thin ≡ first_false (map (wide q) (sides_of n w.wlo w.whi)) → ModeAs s at' n q u bands₀ coef₀ bands coef thin r
-    mode-told bands₀ bands coef₀ coef thin (Ok next) l r e = mode-held thin next l r e
-    mode-told bands₀ bands coef₀ coef thin (Err e') l r e = mode-rows-refused e' r
 
 -- ---- the modes behind mode 0, u - 1 of them done
 
@@ -171,12 +166,10 @@ module _ (s : List ℕ) (b : Beginning) (at' : ℕ) where
             let up : 1 + (u - 1) ≡ u = omega (arith, w.some) in
             length-append first w.ends ∙ rw (long, w.numbers.ends-long) (one_more (2 * b.n) (u - 1) ∙ ap (λ (k : ℕ). 2 * b.n * k) up)
 
-    pub further-stop : (r : Walk) (e : Refusal) → r ≡ Err e → (bands' coef' : List ℤ) (thin : ℕ) (related' told' : Verdict) → u < b.m
-        → ModeAs s p b.n b.q u bands coef bands' coef' thin r → FurtherAs s b at' related' told' bands₀ coef₀ bands' coef' r
-    further-stop r e q bands' coef' thin related' told' h t =
-        rw q (rows-fails w.done (omega (arith, w.some)) (subst (ModeAs s p b.n b.q u bands coef bands' coef' thin) q t))
+    pub further-stop : (e : Refusal) → u < b.m → Fails (mode_form b.n) s p e → Fails (times (b.m - 1) (mode_form b.n)) s at' e
+    further-stop e h t = rows-fails w.done (omega (arith, w.some)) t
 
-    pub further-all : b.m ≤ u → FurtherAs s b at' related told bands₀ coef₀ bands coef (Ok p)
+    pub further-all : b.m ≤ u → FurtherTo s b at' b.m related told bands₀ coef₀ bands coef p
     further-all h = let j : u ≡ b.m = omega (arith, w.few) in subst (λ (x : ℕ). FurtherTo s b at' x related told bands₀ coef₀ bands coef p) j w
 
 -- ---- all modes of form 2
@@ -186,13 +179,12 @@ module _ (s : List ℕ) (b : Beginning) (at' : ℕ) (own : own_bands b.form ≡ 
   own-refused e t = t.fails (times (b.m - 1) (mode_form b.n) end)
 
   -- rows of mode 0 that are not there
-  pub own-cut : (r : Walk) (e : Refusal) → r ≡ Err e → (coef₀ coef bands₀ bands : List ℤ) (told : Verdict)
-      → RowsTold s at' b.n b.n 0 coef₀ coef r → ModesAs s b at' bands₀ coef₀ bands coef told r
-  own-cut r e q coef₀ coef bands₀ bands told t = rw q (rw own (own-refused e (subst (RowsTold s at' b.n b.n 0 coef₀ coef) q t)))
+  pub own-cut : (e : Refusal) → Fails (times b.n (row b.n)) s at' e → values_at (rest_form b.form b.n b.m) s at' ≡ refused e
+  own-cut e t = rw own (own-refused e t)
 
-  module _ (bands₀ coef₀ bands coef bands' coef' : List ℤ) {mid : ℕ} {related : Verdict} (told : Verdict) (some : 1 ≤ b.m) (said₀ : related ≡ relation b)
+  module _ (bands₀ coef₀ bands coef bands' coef' : List ℤ) {mid : ℕ} {related : Verdict} (some : 1 ≤ b.m) (said₀ : related ≡ relation b)
       (l : bands ≡ sets bands₀ (2 * b.n * 0) (bands_in b)) (r : RowsRead s at' b.n b.n 0 coef₀ coef mid) where
-    own_held : {next : ℕ} → FurtherTo s b mid b.m related told bands coef bands' coef' next → ModesHeld s b at' bands₀ coef₀ bands' coef' told next
+    own_held : {told : Verdict} {next : ℕ} → FurtherTo s b mid b.m related told bands coef bands' coef' next → ModesHeld s b at' bands₀ coef₀ bands' coef' told next
     unfolding tab
     own_held f =
         let n = b.n in
@@ -224,8 +216,8 @@ module _ (s : List ℕ) (b : Beginning) (at' : ℕ) (own : own_bands b.form ≡ 
         one-said : relation b ≡ relation_by b (bands_in b) 1
         one-said = sym (rw (one-sides b.n b.wlo b.whi) refl)
 
-    pub own-told : (r' : Walk) → FurtherAs s b mid related told bands coef bands' coef' r' → ModesAs s b at' bands₀ coef₀ bands' coef' told r'
-    own-told (Ok next) f = own_held f
+    pub own-told : (r' : Result ModesRead Refusal) → FurtherTold s b related mid bands coef bands' coef' r' → ModesTold s b at' bands₀ coef₀ bands' coef' r'
+    own-told (Ok m) f = own_held f
     own-told (Err e) f = rw own ((holds-fails r.part f).fails end)
 
 -- ---- form 1: every mode has the bands of the beginning
@@ -263,7 +255,7 @@ module _ (s : List ℕ) (b : Beginning) (at' : ℕ) (some : 1 ≤ b.m) (own : ow
       go true = one
       go false = refl
 
-  alike-held : {bands₀ coef₀ bands coef : List ℤ} {next : ℕ} {told : Verdict} → bands ≡ sets bands₀ 0 ends → told ≡ relation b
+  pub alike-held : {bands₀ coef₀ bands coef : List ℤ} {next : ℕ} {told : Verdict} → bands ≡ sets bands₀ 0 (ends_alike b.n b.wlo b.whi b.m) → told ≡ relation b
       → RowsRead s at' b.n (b.m * b.n) 0 coef₀ coef next → ModesHeld s b at' bands₀ coef₀ bands coef told next
   unfolding ends
   alike-held {next = next} l e r =
@@ -288,8 +280,5 @@ module _ (s : List ℕ) (b : Beginning) (at' : ℕ) (some : 1 ≤ b.m) (own : ow
           tabs-tab (at r.values) (row_numbers n r.values) (n * (n + 1)) 0 b.m (λ u h. let z : 0 + n * (n + 1) * u ≡ n * (n + 1) * u = zero-add _ in rw z refl)
           ∙ ap (λ (c : ℕ). tab (at r.values) c 0) e ∙ tab-at r.values
 
-  pub alike-told : (bands₀ bands coef₀ coef : List ℤ) {told : Verdict} (r : Walk) → bands ≡ sets bands₀ 0 (ends_alike b.n b.wlo b.whi b.m) → told ≡ relation b
-      → RowsTold s at' b.n (b.m * b.n) 0 coef₀ coef r → ModesAs s b at' bands₀ coef₀ bands coef told r
-  unfolding ends
-  alike-told bands₀ bands coef₀ coef (Ok next) l e t = alike-held l e t
-  alike-told bands₀ bands coef₀ coef (Err r) l e t = rw own (t.fails end)
+  pub alike-cut : (e : Refusal) → Fails (times (b.m * b.n) (row b.n)) s at' e → values_at (rest_form b.form b.n b.m) s at' ≡ refused e
+  alike-cut e t = rw own (t.fails end)

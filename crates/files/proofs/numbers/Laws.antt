@@ -46,8 +46,8 @@ module _ (s : List ℕ) (i v w k : ℕ) (h : k < 5) where
   pub short : length s ≤ i → groups_at (5 - k) s i v w ≡ None
   short e = turn ∙ simp (le-ltb _ _ e)
 
-  pub zero-first : i < length s → get_or s i 0 ≡ 0 → w ≡ 1 → groups_at (5 - k) s i v w ≡ Some (0, i + 1)
-  zero-first l z e = turn ∙ simp (lt-ltb _ _ l, z, e)
+  pub zero-first : i < length s → get_or s i 0 ≡ 0 → w ≡ 1 → v < w → groups_at (5 - k) s i v w ≡ Some (v + get_or s i 0 * w, i + 1)
+  zero-first l z e g = let sum : v + get_or s i 0 * w ≡ 0 = rw (z, e) (omega arith) in turn ∙ rw sum (simp (lt-ltb _ _ l, z, e))
 
   pub zero-late : i < length s → get_or s i 0 ≡ 0 → (w ≡ 1 → ⊥) → groups_at (5 - k) s i v w ≡ None
   zero-late l z e = turn ∙ simp (lt-ltb _ _ l, z, ne_eqb _ _ e)

@@ -1,38 +1,23 @@
--- `beginnings::read_bounds`: edges, then bands. Assumes nothing.
-use mathlib.Core.Path.{refl, sym, subst}
-use Rattle.files.specs.Beginnings.{BoundsAs}
-use Rattle.files.specs.Bounds.{EdgesAs, BandsAs}
+-- `beginnings::read_bounds`: edges, then bands. Relies on page Laws.
+use Rattle.std.proofs.lemmas.Result.{err_from_is_err_and}
 use Rattle.files.proofs.beginnings.Laws.{edges-refused, bands-refused, bounds-read}
 use Rattle.files.proofs.beginnings.read_bounds.Goals as goal
 
-pub judge-requires : goal.judge-requires
-judge-requires c =
+pub returns-in_err-edges : goal.returns-in_err-edges
+returns-in_err-edges c =
     let z = c.args in
-    let w = c.read_bands-bands in
-    let u = subst (BandsAs z.s.now c.in-Ok.mid z.h.n w.result) c.in-Ok-past_bands.is w.ensures in
-    record { fact_1 = c.requires.fact_1; fact_2 = c.requires.fact_2; fact_3 = u.sizes }
+    let p = err_from_is_err_and c.from_residual.result c.from_residual.ensures.1 in
+    rw (p.1, p.2) (edges-refused z.s.now z.h z.at c.in_err-edges.field-0.0 c.in_err-edges.ensures)
 
-pub returns-in-Err : goal.returns-in-Err
-returns-in-Err c =
+pub returns-in_err-bands : goal.returns-in_err-bands
+returns-in_err-bands c =
     let z = c.args in
-    let s = c.args.s.now in
-    let e = c.read_edges-edges in
-    subst (λ r. BoundsAs s z.h z.at r r.answer) (sym c.refused.ensures) (refl, edges-refused s z.h z.at c.in-Err.e (subst (EdgesAs s z.at z.h.n e.result) c.in-Err.is e.ensures))
+    let e = c.in_ok-edges in
+    let p = err_from_is_err_and c.from_residual-in_err-bands.result c.from_residual-in_err-bands.ensures.1 in
+    rw (p.1, p.2) (bands-refused z.s.now z.h z.at e.edges e.mid e.ensures c.in_err-bands.field-0.0 c.in_err-bands.ensures)
 
-pub returns-in-Err-past_bands : goal.returns-in-Err-past_bands
-returns-in-Err-past_bands c =
+pub returns : goal.returns
+returns c =
     let z = c.args in
-    let s = c.args.s.now in
-    let e = c.read_edges-edges in
-    let t = subst (EdgesAs s z.at z.h.n e.result) c.in-Ok.is e.ensures in
-    let w = c.read_bands-bands in
-    subst (λ r. BoundsAs s z.h z.at r r.answer) (sym c.refused-in-Err-past_bands.ensures) (refl, bands-refused s z.h z.at e.result c.in-Ok.mid t c.in-Err-past_bands.e (subst (BandsAs s c.in-Ok.mid z.h.n w.result) c.in-Err-past_bands.is w.ensures))
-
-pub returns-in-Ok-past_bands : goal.returns-in-Ok-past_bands
-returns-in-Ok-past_bands c =
-    let z = c.args in
-    let s = c.args.s.now in
-    let e = c.read_edges-edges in
-    let t = subst (EdgesAs s z.at z.h.n e.result) c.in-Ok.is e.ensures in
-    let w = c.read_bands-bands in
-    (bounds-read s z.h z.at e.result c.in-Ok.mid t w.result c.in-Ok-past_bands.next (subst (BandsAs s c.in-Ok.mid z.h.n w.result) c.in-Ok-past_bands.is w.ensures), c.judge.ensures)
+    let e = c.in_ok-edges in
+    bounds-read z.s.now z.h z.at e.edges e.mid e.ensures c.in_ok-bands.bands c.in_ok-bands.next c.in_ok-bands.ensures

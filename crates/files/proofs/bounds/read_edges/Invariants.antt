@@ -1,10 +1,6 @@
 -- `bounds::read_edges` reads R and S dimension by dimension. Assumes nothing.
-use Prim.Native.Nat.{◌-◌}
 use Rattle.files.proofs.bounds.Laws.{EdgesUpTo}
 use Rattle.files.proofs.bounds.read_edges.Given as goal
 
 abbrev pub invariant-loop-i : goal.invariant-loop-i
 invariant-loop-i l = EdgesUpTo l.s l.at l.n l.i l.p l.rlo l.rhi l.slo l.shi
-
-abbrev pub decreases-loop-i : goal.decreases-loop-i
-decreases-loop-i l = l.n - l.i

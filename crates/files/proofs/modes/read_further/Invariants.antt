@@ -1,10 +1,6 @@
 -- `modes::read_further`: mode by mode. Relies on page Reading.
-use Prim.Native.Nat.{◌-◌}
 use Rattle.files.specs.Modes.{FurtherTo}
 use Rattle.files.proofs.modes.read_further.Given as goal
 
 abbrev pub invariant-loop-u : goal.invariant-loop-u
 invariant-loop-u l = FurtherTo l.s l.b l.at l.u l.initial.told l.told l.initial.bands l.initial.coef l.bands l.coef l.p
-
-abbrev pub decreases-loop-u : goal.decreases-loop-u
-decreases-loop-u l = l.b.m - l.u

@@ -1,38 +1,34 @@
 -- `modes::read_mode`: bands, then rows. Relies on page Reading.
-use mathlib.Core.Path.{subst}
 use native.Mathlib.Omega.{arith}
-use Rattle.files.specs.Bounds.{BandsAs}
+use Rattle.std.proofs.lemmas.Result.{err_from_is_err_and}
 use Rattle.files.proofs.modes.Laws.{size_few, rows_few}
-use Rattle.files.proofs.modes.Reading.{mode-bands-refused, mode-told}
+use Rattle.files.proofs.modes.Reading.{mode-bands-refused, mode-rows-refused, mode-held}
 use Rattle.files.proofs.modes.read_mode.Goals as goal
 
 pub first_narrow-thin-requires : goal.first_narrow-thin-requires
-first_narrow-thin-requires c =
-    let r = c.read_bands-read in
-    let t = subst (BandsAs c.args.s.now c.args.at c.args.n r.result) c.in-Ok.is r.ensures in
-    record { fact_1 = c.requires.sizes.0; fact_2 = c.requires.sizes.1; fact_3 = t.sizes }
+first_narrow-thin-requires c = record { fact_1 = c.requires.sizes.0; fact_2 = c.requires.sizes.1; fact_3 = c.in_ok-read.ensures.sizes }
 
 pub overflow_mul-n : goal.overflow_mul-n
 overflow_mul-n c = omega (arith, size_few c.args.n c.requires.sizes.0)
 
-pub overflow_mul-n-in-Ok : goal.overflow_mul-n-in-Ok
-overflow_mul-n-in-Ok c = omega (arith, rows_few c.args.n c.args.u c.requires.sizes.0 c.requires.sizes.2)
-
 pub read_rows-requires : goal.read_rows-requires
 read_rows-requires c = (c.requires.sizes.0, omega (arith, rows_few c.args.n c.args.u c.requires.sizes.0 c.requires.sizes.2))
 
-pub returns-in-Err : goal.returns-in-Err
-returns-in-Err c =
+pub returns-in_err-read : goal.returns-in_err-read
+returns-in_err-read c =
     let z = c.args in
-    let r = c.read_bands-read in
-    mode-bands-refused z.s.now z.at z.n z.q z.u c.in-Err.e (subst (BandsAs z.s.now z.at z.n r.result) c.in-Err.is r.ensures)
+    let p = err_from_is_err_and c.from_residual.result c.from_residual.ensures.1 in
+    rw (p.1, p.2) (mode-bands-refused z.s.now z.at z.n z.q z.u c.in_err-read.field-0.0 c.in_err-read.ensures)
 
-pub returns-in-Ok : goal.returns-in-Ok
-returns-in-Ok c =
+pub returns-in_err-next : goal.returns-in_err-next
+returns-in_err-next c =
     let z = c.args in
-    let r = c.read_bands-read in
-    let t = subst (BandsAs z.s.now z.at z.n r.result) c.in-Ok.is r.ensures in
-    let l = c.lay in
-    let thin = c.first_narrow-thin in
-    let w = c.read_rows in
-    mode-told z.s.now z.at z.n z.q z.u r.result c.in-Ok.mid t z.bands.now l.new.bands z.coef.now w.new.coef thin.result w.result l.ensures w.ensures thin.ensures
+    let r = c.in_ok-read in
+    let p = err_from_is_err_and c.from_residual-in_err-next.result c.from_residual-in_err-next.ensures.1 in
+    rw (p.1, p.2) (mode-rows-refused z.s.now z.at z.n z.q z.u r.read r.mid r.ensures c.in_err-next.field-0.0 c.in_err-next.ensures)
+
+pub returns : goal.returns
+returns c =
+    let z = c.args in
+    let r = c.in_ok-read in
+    mode-held z.s.now z.at z.n z.q z.u r.read r.mid r.ensures c.first_narrow-thin.result c.in_ok-next.next c.lay.ensures c.in_ok-next.ensures c.first_narrow-thin.ensures
