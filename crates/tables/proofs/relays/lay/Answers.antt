@@ -1,6 +1,6 @@
 -- `relays::lay`: the table itself, its tree in the other layout, or 2; each by its law. Assumes nothing.
 use Prim.Native.Nat.{ℕ}
-use mathlib.Core.Path.{◌≡◌, ap, ◌∙◌}
+use mathlib.Core.Path.{◌≡◌, sym, ap, ◌∙◌}
 use Rattle.meaning.specs.declared.Refusal.{Refusal}
 use Rattle.meaning.specs.Buffers.{Left, refused_with}
 use Rattle.tables.specs.Frames.{own_frame, formed}
@@ -17,7 +17,7 @@ returns-then-form-own c =
 pub leave-requires-then-can : goal.leave-requires-then-can
 leave-requires-then-can c =
     let own : ℕ = c.form_of-own.result in
-    let frame : c.formed-f.result ≡ formed (own_frame c.requires.p) own = let r = c.judge_plant-read in frame_is c.args.plant.now c.requires.p c.requires.judged own r.result r.ensures c.framed.result c.framed.ensures c.formed-f.result c.formed-f.ensures in
+    let frame : c.formed-f.result ≡ formed (own_frame c.requires.p) own = frame_is c.args.plant.now c.requires.p c.requires.judged own c.in-Ok.outline (sym c.in-Ok.is ∙ c.judge_plant.ensures) c.framed.result c.framed.ensures c.formed-f.result c.formed-f.ensures in
     let o = c.form_of-own in
     let t = c.turns_into-can in
     let y = c.if-can.true in
@@ -34,7 +34,7 @@ leave-requires-then-can c =
 pub returns-then-can : goal.returns-then-can
 returns-then-can c =
     let own : ℕ = c.form_of-own.result in
-    let frame : c.formed-f.result ≡ formed (own_frame c.requires.p) own = let r = c.judge_plant-read in frame_is c.args.plant.now c.requires.p c.requires.judged own r.result r.ensures c.framed.result c.framed.ensures c.formed-f.result c.formed-f.ensures in
+    let frame : c.formed-f.result ≡ formed (own_frame c.requires.p) own = frame_is c.args.plant.now c.requires.p c.requires.judged own c.in-Ok.outline (sym c.in-Ok.is ∙ c.judge_plant.ensures) c.framed.result c.framed.ensures c.formed-f.result c.formed-f.ensures in
     let o = c.form_of-own in
     let t = c.turns_into-can in
     let y = c.if-can.true in
