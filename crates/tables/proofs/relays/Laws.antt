@@ -61,18 +61,6 @@ module _ (own form : ℕ) (k : known_form own ≡ true) (c : (known_form form &&
       go (inr (inl p)) (inr (inr q)) = let e = alike in never (rw (p, q) at e)
       go (inr (inr p)) q = let e = neither in never (sym (rw p at e))
 
--- ---- what the code asks of two forms; b is whether the second is known
-
-module _ (own form : ℕ) (b : Bool) (q : b ≡ known_form form) where
-  pub into_one : b ≡ true → own ≡ 3 → eqb form 3 ≡ (known_form form && splits_alike own form)
-  into_one t e = rw (← q, t, eq-eqb own 3 e) refl
-
-  pub into-all : b ≡ true → (own ≡ 3 → ⊥) → not (eqb form 3) ≡ (known_form form && splits_alike own form)
-  into-all t e = rw (← q, t, ne_eqb own 3 e) refl
-
-  pub into-unknown : b ≡ false → false ≡ (known_form form && splits_alike own form)
-  into-unknown t = rw (← q, t) refl
-
 -- ---- what is left
 
 module _ (plant table : List ℕ) (form : ℕ) (buf : List ℕ) where
