@@ -8,7 +8,6 @@ use mathlib.Core.Option.{Option}
 use native.Mathlib.Omega.{arith}
 use lib.IntN.{ℤ}
 use lib.ListN.{length, drop}
-use Rattle.laws.specs.Writing.{put-length}
 use Rattle.meaning.specs.Boxes.{Side}
 use Rattle.meaning.specs.Plants.{edge_limit}
 use Rattle.meaning.specs.Rules.{Rules}
@@ -21,7 +20,7 @@ use Rattle.tables.specs.Search.{pattern_by}
 use Rattle.tables.specs.Drafts.{Wrote, tree_bytes, trees_bytes, Grown}
 use Rattle.tables.proofs.boxes.Halving.{small-children}
 use Rattle.tables.proofs.search.Rules.{lent, shortest-is}
-use Rattle.tables.proofs.drafts.Laws.{Growing, grow-none, grow-done, grow-more, grow-stopped, node-tile, node-deep, node-stuck, node-split, wrote-length}
+use Rattle.tables.proofs.drafts.Laws.{Growing, grow-done, grow-more, grow-stopped, node-tile, node-deep, node-stuck, node-split}
 use Rattle.tables.proofs.drafts.+tree.Goals as goal
 
 pub first-size-requires : goal.first-size-requires

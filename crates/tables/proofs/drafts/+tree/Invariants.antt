@@ -1,6 +1,6 @@
 -- `drafts::tree`, which calls itself with less depth: each return cites the law of the node that it stops at; in the loop over the children,
 -- whoever writes those that are left has written them all. Assumes nothing.
-use Prim.Native.Nat.{◌-◌, ◌≤◌}
+use Prim.Native.Nat.{◌-◌}
 use lib.ListN.{drop}
 use Rattle.meaning.specs.Tables.{children_by}
 use Rattle.tables.specs.Boxes.{box_of}

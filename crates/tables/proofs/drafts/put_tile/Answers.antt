@@ -1,5 +1,4 @@
 -- `drafts::put_tile`: what is left to write are the modes that are left. Assumes nothing.
-use native.Mathlib.Omega.{arith}
 use Rattle.laws.specs.Writing.{under_more, under-done}
 use Rattle.tables.proofs.drafts.Laws.{tile-whole, tile-mode, tile-end}
 use Rattle.tables.proofs.drafts.put_tile.Goals as goal

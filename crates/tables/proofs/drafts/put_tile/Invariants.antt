@@ -1,8 +1,7 @@
 -- `drafts::put_tile`: what is left to write are the modes that are left. Assumes nothing.
-use Prim.Native.Nat.{◌-◌, ◌≤◌}
 use Rattle.laws.specs.Writing.{Under}
 use Rattle.meaning.specs.Trees.{modes_bytes}
-use Rattle.tables.specs.Tiles.{longest_pattern, pattern_of}
+use Rattle.tables.specs.Tiles.{pattern_of}
 use Rattle.tables.proofs.drafts.Laws.{modes_from}
 use Rattle.tables.proofs.drafts.put_tile.Given as goal
 
