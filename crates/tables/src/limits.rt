@@ -63,16 +63,10 @@ fn lay_box(n: usize, q: usize, bands: &[i64], u: usize, b: Bx, limits: &mut [i64
     ensures sides { (i : ℕ) → i < n → side_in limits.new base i ≡ limit_at n q bands.now u b.lo b.hi i }
     ensures beside { Beside base limits.old limits.new }
 {
-    let mut i: usize = 0;
-    while i < n {
+    for i in 0..n {
         let place = images::band(n, u, i);
-        let wl = bands[place];
-        let wh = bands[place + 1];
-        let l = b.lo[i];
-        let h = b.hi[i];
-        let s = around(q, wl, wh, l, h);
+        let s = around(q, bands[place], bands[place + 1], b.lo[i], b.hi[i]);
         put_limit(limits, base, i, s.lo, s.hi);
-        i += 1;
     }
 }
 
@@ -83,13 +77,9 @@ fn lay_boxes(f: Frame, bands: &[i64], limits: &mut [i64])
     ensures laid { Laid f.n f.modes f.q (side_at f.goal.lo f.goal.hi) (side_at f.safe.lo f.safe.hi) bands.now limits.new }
     ensures size { length limits.new ≡ length limits.old }
 {
-    let safe = f.safe;
-    let goal = f.goal;
-    let mut u: usize = 0;
-    while u < f.modes {
-        lay_box(f.n, f.q, bands, u, safe, limits, SPAN * u);
-        lay_box(f.n, f.q, bands, u, goal, limits, SPAN * u + GOAL);
-        u += 1;
+    for u in 0..f.modes {
+        lay_box(f.n, f.q, bands, u, f.safe, limits, SPAN * u);
+        lay_box(f.n, f.q, bands, u, f.goal, limits, SPAN * u + GOAL);
     }
 }
 
@@ -98,17 +88,7 @@ fn same_row(n: usize, coef: &[i64], a: usize, b: usize) -> bool
     requires { RowSound n coef.now a × RowSound n coef.now b }
     ensures { result ≡ true → entries_of n coef.now a ≡ entries_of n coef.now b }
 {
-    let mut j: usize = 0;
-    while j < n {
-        let x = coef[a + j];
-        let y = coef[b + j];
-        if x == y {
-            j += 1;
-        } else {
-            return false;
-        }
-    }
-    true
+    coef[a..a + n] == coef[b..b + n]
 }
 
 // The mark of mode u: 1 where its last row has the entries of that of the mode before it, else 0.
@@ -143,13 +123,9 @@ fn lay_marks(n: usize, modes: usize, coef: &[i64], marks: &mut [i64])
     ensures marks_lent { MarksLent n modes coef.now marks.new }
     ensures size { length marks.new ≡ length marks.old }
 {
-    let mut u: usize = 0;
-    while u < modes {
-        let m = mark(n, coef, u);
-        let o = last_offset(n, coef, u);
-        marks[PAIR * u] = m;
-        marks[PAIR * u + 1] = o;
-        u += 1;
+    for u in 0..modes {
+        marks[PAIR * u] = mark(n, coef, u);
+        marks[PAIR * u + 1] = last_offset(n, coef, u);
     }
 }
 
