@@ -63,18 +63,13 @@ fn stays(
     ensures sums { result ≡ true → sides_of n slo.new shi.new ≡ tab (sums_at n coef.now u (box_in n boxes.now place)) n 0 }
     ensures sizes { result ≡ true → Within add_limit n slo.new shi.new }
 {
-    let mut i: usize = 0;
-    while i < n {
+    for i in 0..n {
         let s = sums(n, coef, (u * n + i) * (n + 1), boxes, place);
-        let least = s.lo;
-        let greatest = s.hi;
-        if inside(limits, base, i, least, greatest) {
-            slo[i] = least;
-            shi[i] = greatest;
-            i += 1;
-        } else {
+        if !inside(limits, base, i, s.lo, s.hi) {
             return false;
         }
+        slo[i] = s.lo;
+        shi[i] = s.hi;
     }
     true
 }
@@ -95,17 +90,11 @@ fn divide(
     ensures sides { box_in n boxes.new place ≡ tab (divided_in n q bands.now u slo.now shi.now) n 0 }
     ensures beside { Beside place boxes.old boxes.new }
 {
-    let mut i: usize = 0;
-    while i < n {
-        let l = slo[i];
-        let h = shi[i];
+    for i in 0..n {
         let band = images::band(n, u, i);
-        let wl = bands[band];
-        let wh = bands[band + 1];
-        let low = division::ceiling(l + wl, q);
-        let high = division::floor(h + wh, q);
+        let low = division::ceiling(slo[i] + bands[band], q);
+        let high = division::floor(shi[i] + bands[band + 1], q);
         levels::put_side(boxes, place, i, low, high);
-        i += 1;
     }
 }
 
@@ -222,13 +211,11 @@ pub fn last(
     ensures size { result ≤ count }
 {
     let mut e = Span { lo: 0, hi: 0 };
-    let mut u: usize = 0;
-    while u < count {
+    for u in 0..count {
         e = shared(n, coef, marks, u, e, boxes, place);
         if lands(n, coef, limits, marks, u, e, boxes, place) {
             return u;
         }
-        u += 1;
     }
-    u
+    count
 }

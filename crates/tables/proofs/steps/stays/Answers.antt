@@ -22,56 +22,15 @@ loop-i-init c =
     let test : ℕ → Bool = let a = c.args in covered_at a.n a.coef.now a.limits.now a.base a.u (box_in a.n a.boxes.now a.place) in
     (c.requires.edges.2, c.requires.edges.3, refl, hold-none test c.args.n, within_none add_limit c.args.slo.now c.args.shi.now)
 
-pub overflow_mul-u : goal.overflow_mul-u
-overflow_mul-u c = let r = c.requires.rows.0 c.loop-i.i c.loop-i-test.true in omega (arith, r.inside)
-
-pub overflow_add-u : goal.overflow_add-u
-overflow_add-u c = let r = c.requires.rows.0 c.loop-i.i c.loop-i-test.true in omega (arith, r.inside)
-
-pub overflow_add-n : goal.overflow_add-n
-overflow_add-n c = let r = c.requires.rows.0 c.loop-i.i c.loop-i-test.true in omega (arith, r.rooms)
-
-pub overflow_mul-u-in-loop-i : goal.overflow_mul-u-in-loop-i
-overflow_mul-u-in-loop-i c = let r = c.requires.rows.0 c.loop-i.i c.loop-i-test.true in omega (arith, r.inside)
-
-pub sums-s-requires : goal.sums-s-requires
-sums-s-requires c = (c.requires.rows.0 c.loop-i.i c.loop-i-test.true, c.requires.edges.0, c.requires.edges.1)
-
-pub inside-requires : goal.inside-requires
-inside-requires c =
-    let r = c.requires.rows.0 c.loop-i.i c.loop-i-test.true in
-    let h = c.loop-i-test.true in
-    (c.requires.rows.1, omega (arith, r.rooms))
-
-pub offset_bounds-slo-i : goal.offset_bounds-slo-i
-offset_bounds-slo-i c =
+pub returns-then-not-inside : goal.returns-then-not-inside
+returns-then-not-inside c =
+    let test : ℕ → Bool = let a = c.args in covered_at a.n a.coef.now a.limits.now a.base a.u (box_in a.n a.boxes.now a.place) in
     let index : ℕ = c.loop-i.i in
-    let row : RowSound c.args.n c.args.coef.now (row_start c.args.n c.args.u index) = c.requires.rows.0 index c.loop-i-test.true in
-    let r = row in let h = c.loop-i-test.true in omega (arith, r.rooms)
-
-pub bounds-slo-i : goal.bounds-slo-i
-bounds-slo-i c =
-    let index : ℕ = c.loop-i.i in
-    let row : RowSound c.args.n c.args.coef.now (row_start c.args.n c.args.u index) = c.requires.rows.0 index c.loop-i-test.true in
-    let r = row in let h = c.loop-i-test.true in omega (arith, r.rooms)
-
-pub offset_bounds-shi-i : goal.offset_bounds-shi-i
-offset_bounds-shi-i c =
-    let index : ℕ = c.loop-i.i in
-    let row : RowSound c.args.n c.args.coef.now (row_start c.args.n c.args.u index) = c.requires.rows.0 index c.loop-i-test.true in
-    let r = row in let h = c.loop-i-test.true in omega (arith, r.rooms)
-
-pub bounds-shi-i : goal.bounds-shi-i
-bounds-shi-i c =
-    let index : ℕ = c.loop-i.i in
-    let row : RowSound c.args.n c.args.coef.now (row_start c.args.n c.args.u index) = c.requires.rows.0 index c.loop-i-test.true in
-    let r = row in let h = c.loop-i-test.true in omega (arith, r.rooms)
-
-pub overflow_add-i : goal.overflow_add-i
-overflow_add-i c = let h = c.loop-i-test.true in omega arith
-
-pub loop-i-smaller : goal.loop-i-smaller
-loop-i-smaller c = let h = c.loop-i-test.true in omega arith
+    let least : Ex = let w = c.sums-s in var w.result.lo add_limit w.ensures.sizes.0 in
+    let greatest : Ex = let w = c.sums-s in var w.result.hi add_limit w.ensures.sizes.1 in
+    let tested : c.inside.result ≡ test index = (rw (exact least tt, exact greatest tt) at c.inside.ensures) ∙ ap (λ (z : Side). covers (side_in c.args.limits.now c.args.base index) z) c.sums-s.ensures.sides in
+    let l = c.loop-i in
+    record { stays = fails-here l.invariant.3 c.loop-i-test.true (sym tested ∙ c.if-not-inside.true); sums = λ e. never e; sizes = λ e. never e }
 
 pub loop-i-preserved : goal.loop-i-preserved
 loop-i-preserved c =
@@ -91,19 +50,9 @@ loop-i-preserved c =
       simp length-set l.invariant.0,
       simp length-set l.invariant.1,
       image-more sides l.slo l.shi l.i _ _ a b (rw (exact least tt, exact greatest tt) w.ensures.sides) l.invariant.2,
-      hold-more l.invariant.3 h (sym tested ∙ c.if-inside.true),
+      hold-more l.invariant.3 h (sym tested ∙ c.if-not-inside.false),
       within_more l.slo l.shi (mach least) (mach greatest) a b l.invariant.4 (under least add_limit tt) (under greatest add_limit tt),
     )
-
-pub returns-else-inside : goal.returns-else-inside
-returns-else-inside c =
-    let test : ℕ → Bool = let a = c.args in covered_at a.n a.coef.now a.limits.now a.base a.u (box_in a.n a.boxes.now a.place) in
-    let index : ℕ = c.loop-i.i in
-    let least : Ex = let w = c.sums-s in var w.result.lo add_limit w.ensures.sizes.0 in
-    let greatest : Ex = let w = c.sums-s in var w.result.hi add_limit w.ensures.sizes.1 in
-    let tested : c.inside.result ≡ test index = (rw (exact least tt, exact greatest tt) at c.inside.ensures) ∙ ap (λ (z : Side). covers (side_in c.args.limits.now c.args.base index) z) c.sums-s.ensures.sides in
-    let l = c.loop-i in
-    record { stays = fails-here l.invariant.3 c.loop-i-test.true (sym tested ∙ c.if-inside.false); sums = λ e. never e; sizes = λ e. never e }
 
 pub returns : goal.returns
 returns c =
