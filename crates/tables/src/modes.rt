@@ -23,8 +23,7 @@ pub fn read_modes(modes: usize, k: usize, table: &[u8], at: usize) -> ModesRead
 {
     let mut us = [0usize; 6];
     let mut w = at;
-    let mut i: usize = 0;
-    while i < k {
+    for i in 0..k {
         let Number::Value(u, next) = numbers::number(table, w) else {
             return ModesRead {
                 answer: Walk::Refused(files::refusals::broken(w)),
@@ -39,7 +38,6 @@ pub fn read_modes(modes: usize, k: usize, table: &[u8], at: usize) -> ModesRead
         }
         us[i] = u;
         w = next;
-        i += 1;
     }
     ModesRead {
         answer: Walk::Next(w),
