@@ -23,8 +23,8 @@ pub const WIDE: usize = 8;
 pub const ROOM: usize = 48;
 
 // Side i of the box at `place`.
-pub fn put_side(boxes: &mut [i64; ROOM], place: usize, i: usize, lo: i64, hi: i64)
-    requires { (place + wide ≤ room) × (i < 4) }
+pub fn put_side(boxes: &mut [i64], place: usize, i: usize, lo: i64, hi: i64)
+    requires { (place + wide ≤ length boxes.old) × (i < 4) }
     ensures { boxes.new ≡ stored boxes.old place i (side lo hi) }
 {
     boxes[place + i] = lo;

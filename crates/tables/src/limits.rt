@@ -1,7 +1,8 @@
 // Limits: where the sums of a row have to lie for an image to lie in S or in the goal, with which the search tells both without dividing, mode by mode,
 // for each has its own band; and of each mode's last row a mark where it is that of the mode before, as in every plant made of a sheet, with which the
 // search makes what it needs of that row once for all of them, and its offset. Both stand in slices, for any number of modes.
-// Relies on frames, and on images for a pair of numbers and for where a band stands. Leaves out the sums themselves (levels) and who tests them (steps).
+// Relies on frames, on images for a pair of numbers and for where a band stands, and on levels for putting a side into a slice. Leaves out the sums
+// themselves (levels) and who tests them (steps).
 ghost use Rattle.std.specs.Prelude.{◌≡◌, true, ℕ, ◌+◌, ◌-◌, ◌*◌, ◌≤◌, ◌<◌, length, pos};
 ghost use Rattle.meaning.specs.Boxes.{side, side_at};
 ghost use Rattle.meaning.specs.Plants.{edge_limit, band_limit};
@@ -9,13 +10,13 @@ ghost use Rattle.tables.specs.Boxes.{box_of, Small};
 ghost use Rattle.promises.specs.Files.Sound.{Bounded};
 ghost use Rattle.tables.specs.Frames.{PlantSound};
 ghost use Rattle.tables.specs.Images.{entries_of, RowSound};
-ghost use Rattle.tables.specs.Levels.{wide, side_in, stored, Beside};
+ghost use Rattle.tables.specs.Levels.{wide, side_in, Beside};
 ghost use Rattle.tables.specs.Limits.{limit_side, limits_size, marks_size, limit_at, Laid, last_entries, last_offset, RowsSound, BandsSound, MarksLent, LimitsLaid};
 
 use crate::boxes::Bx;
 use crate::frames::Frame;
-use crate::images;
 use crate::images::Span;
+use crate::{images, levels};
 
 // The limits of a mode: those of S, then those of the goal; a span of sixteen is found without a product. Its mark and its offset stand side by side in a
 // slice of their own: the search reads these two and one side for most modes.
@@ -47,15 +48,6 @@ fn around(q: usize, wl: i64, wh: i64, l: i64, h: i64) -> Span
     Span { lo: from, hi: to }
 }
 
-// Side i of the limits at `base`.
-fn put_limit(limits: &mut [i64], base: usize, i: usize, from: i64, to: i64)
-    requires { (base + wide ≤ length limits.old) × (i < 4) }
-    ensures { limits.new ≡ stored limits.old base i (side from to) }
-{
-    limits[base + i] = from;
-    limits[base + 4 + i] = to;
-}
-
 // The limits of box b under mode u, at `base`.
 fn lay_box(n: usize, q: usize, bands: &[i64], u: usize, b: Bx, limits: &mut [i64], base: usize)
     requires step { (n ≤ 4) × (q ≤ 10_000) × BandsSound n bands.now u × Small edge_limit (box_of n b) }
@@ -66,7 +58,7 @@ fn lay_box(n: usize, q: usize, bands: &[i64], u: usize, b: Bx, limits: &mut [i64
     for i in 0..n {
         let place = images::band(n, u, i);
         let s = around(q, bands[place], bands[place + 1], b.lo[i], b.hi[i]);
-        put_limit(limits, base, i, s.lo, s.hi);
+        levels::put_side(limits, base, i, s.lo, s.hi);
     }
 }
 

@@ -36,4 +36,4 @@ loop-i-preserved c =
     let h = c.loop-i-test.true in
     let r = c.around-s in
     let e = limit-held c.args.q band edge c.requires.step.1 small-band small-edge (side r.result.lo r.result.hi) r.ensures in
-    (omega arith, filled_more l.invariant.1 _ few c.requires.place (e ∙ ap (λ (w : Side). limit_side c.args.q w edge) band-is) c.put_limit.ensures)
+    (omega arith, filled_more l.invariant.1 _ few c.requires.place (e ∙ ap (λ (w : Side). limit_side c.args.q w edge) band-is) c.put_side.ensures)
