@@ -10,4 +10,4 @@ use Rattle.tables.proofs.steps.stays.Given as goal
 
 abbrev pub invariant-loop-i : goal.invariant-loop-i
 invariant-loop-i l =
-    (length l.slo ≡ 4) × (length l.shi ≡ 4) × (tab (side_at l.slo l.shi) l.i 0 ≡ tab (sums_at l.n l.coef l.u (box_in l.n l.boxes l.place)) l.i 0) × HoldUpTo (covered_at l.n l.coef l.limits l.base l.u (box_in l.n l.boxes l.place)) l.n l.i × Within add_limit l.i l.slo l.shi
+    (length l.lo ≡ 4) × (length l.hi ≡ 4) × (tab (side_at l.lo l.hi) l.i 0 ≡ tab (sums_at l.n l.coef l.u (box_in l.n l.boxes l.place)) l.i 0) × HoldUpTo (covered_at l.n l.coef l.limits l.base l.u (box_in l.n l.boxes l.place)) l.n l.i × Within add_limit l.i l.lo l.hi
