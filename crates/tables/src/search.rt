@@ -80,11 +80,11 @@ pub fn first(
                 continue;
             }
             if l == m {
-                u = steps::last(n, count, coef, limits, marks, &boxes, WIDE * l);
-                if u < count {
-                    us[l] = u;
+                if let Some(v) = steps::last(n, count, coef, limits, marks, &boxes, WIDE * l) {
+                    us[l] = v;
                     return m + 1;
                 }
+                u = count;
                 continue;
             }
             if descend(n, count, q, bands, coef, limits, l, u, us, &mut boxes) {

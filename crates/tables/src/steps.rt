@@ -2,7 +2,7 @@
 // Relies on levels for the boxes and the extremes of a row, on limits for where the sums have to lie. Leaves out which modes are tried in which
 // order (search).
 // Neither test divides. What a call reads is lent, so that it copies only small numbers.
-ghost use Rattle.std.specs.Prelude.{◌≡◌, true, false, ℕ, ◌+◌, ◌-◌, ◌*◌, ◌≤◌, ◌<◌, length, nat_abs, pos, is_some, IfSome};
+ghost use Rattle.std.specs.Prelude.{◌≡◌, true, false, ℕ, ◌+◌, ◌-◌, ◌*◌, ◌≤◌, ◌<◌, length, nat_abs, pos, is_some, IfSome, IfNone};
 ghost use Rattle.laws.specs.Lists.{at, tab};
 ghost use Rattle.meaning.specs.Boxes.{side, covers};
 ghost use Rattle.meaning.specs.Defined.{first_mode};
@@ -171,7 +171,7 @@ fn lands(
     false
 }
 
-// The first mode under which the image of the box at `place` lies in the goal; `count` where there is none.
+// The first mode under which the image of the box at `place` lies in the goal.
 pub fn last(
     n: usize,
     count: usize,
@@ -180,18 +180,18 @@ pub fn last(
     marks: &[i64],
     boxes: &[i64; ROOM],
     place: usize,
-) -> usize
+) -> Option<usize>
     requires rows { (1 ≤ n) × ((u : ℕ) → u < count → RowsSound n coef.now u) × (limits_size * count ≤ length limits.now) × MarksLent n count coef.now marks.now }
     requires edges { (place + wide ≤ room) × Small edge_limit (box_in n boxes.now place) }
-    ensures first { one_of count result ≡ first_mode (landing n coef.now limits.now (box_in n boxes.now place)) count 0 }
-    ensures size { result ≤ count }
+    ensures found { IfSome result (λ u. (u < count) × (one_of count u ≡ first_mode (landing n coef.now limits.now (box_in n boxes.now place)) count 0)) }
+    ensures none { IfNone result (one_of count count ≡ first_mode (landing n coef.now limits.now (box_in n boxes.now place)) count 0) }
 {
     let mut e = Span { lo: 0, hi: 0 };
     for u in 0..count {
         e = shared(n, coef, marks, u, e, boxes, place);
         if lands(n, coef, limits, marks, u, e, boxes, place) {
-            return u;
+            return Some(u);
         }
     }
-    count
+    None
 }

@@ -53,9 +53,9 @@ loop-u-smaller-then-l-m c =
     let moves : Moves = let a = c.args in moves_lent a.n a.count a.q a.bands.now a.coef.now a.limits.now in
     let whole : Option (List ℕ) = sought moves c.loop-m.m (level_in c.args.n c.loop-m.boxes 0) in
     let Turned : List ℤ → List ℕ → ℕ → ℕ → Type 0 = λ boxes. λ us. λ l. λ u. let a = c.args in let m = c.loop-m.m in let v = c.loop-u in Along a.n a.count a.q a.bands.now a.coef.now a.limits.now m whole boxes us l u × (turns_along a.n a.count a.q a.bands.now a.coef.now a.limits.now m boxes us l u < turns_along a.n a.count a.q a.bands.now a.coef.now a.limits.now m v.boxes v.us v.l v.u) in
-    let found : ℕ = c.last-u.result in
+    let found : ℕ = c.args.count in
     let not_done : c.loop-u.u < c.args.count = let h = c.loop-u.invariant.1.top in let z = c.if-u-count.false in omega arith in
-    let none-lands : (let l = c.loop-u in Turned l.boxes l.us l.l found) = let a = c.args in let l = c.loop-u in along-none a.n a.count a.q a.bands.now a.coef.now a.limits.now c.loop-m.m l.boxes l.us whole l.l l.u found c.if-l-m.true l.invariant.1 not_done c.last-u.ensures.first c.if-u-count-2.false c.last-u.ensures.size in
+    let none-lands : (let l = c.loop-u in Turned l.boxes l.us l.l found) = let a = c.args in let l = c.loop-u in along-none a.n a.count a.q a.bands.now a.coef.now a.limits.now c.loop-m.m l.boxes l.us whole l.l l.u found c.if-l-m.true l.invariant.1 not_done c.in_default.ensures.none (omega arith) (omega arith) in
     none-lands.1
 
 pub loop-u-preserved-then-l-m : goal.loop-u-preserved-then-l-m
@@ -63,9 +63,9 @@ loop-u-preserved-then-l-m c =
     let moves : Moves = let a = c.args in moves_lent a.n a.count a.q a.bands.now a.coef.now a.limits.now in
     let whole : Option (List ℕ) = sought moves c.loop-m.m (level_in c.args.n c.loop-m.boxes 0) in
     let Turned : List ℤ → List ℕ → ℕ → ℕ → Type 0 = λ boxes. λ us. λ l. λ u. let a = c.args in let m = c.loop-m.m in let v = c.loop-u in Along a.n a.count a.q a.bands.now a.coef.now a.limits.now m whole boxes us l u × (turns_along a.n a.count a.q a.bands.now a.coef.now a.limits.now m boxes us l u < turns_along a.n a.count a.q a.bands.now a.coef.now a.limits.now m v.boxes v.us v.l v.u) in
-    let found : ℕ = c.last-u.result in
+    let found : ℕ = c.args.count in
     let not_done : c.loop-u.u < c.args.count = let h = c.loop-u.invariant.1.top in let z = c.if-u-count.false in omega arith in
-    let none-lands : (let l = c.loop-u in Turned l.boxes l.us l.l found) = let a = c.args in let l = c.loop-u in along-none a.n a.count a.q a.bands.now a.coef.now a.limits.now c.loop-m.m l.boxes l.us whole l.l l.u found c.if-l-m.true l.invariant.1 not_done c.last-u.ensures.first c.if-u-count-2.false c.last-u.ensures.size in
+    let none-lands : (let l = c.loop-u in Turned l.boxes l.us l.l found) = let a = c.args in let l = c.loop-u in along-none a.n a.count a.q a.bands.now a.coef.now a.limits.now c.loop-m.m l.boxes l.us whole l.l l.u found c.if-l-m.true l.invariant.1 not_done c.in_default.ensures.none (omega arith) (omega arith) in
     let l = c.loop-u in (l.invariant.0, none-lands.0)
 
 pub loop-u-smaller-then-descend : goal.loop-u-smaller-then-descend
@@ -136,12 +136,12 @@ returns c =
     let a = c.args in
     let e = c.begin.ensures.0 in record { pattern = rw (← e) (lengths-done moves a.k _ c.loop-m.m _ c.loop-m.invariant.3 c.loop-m-test.false); size = (omega arith, c.loop-m.invariant.1.long) }
 
-pub returns-then-u-count-2 : goal.returns-then-u-count-2
-returns-then-u-count-2 c =
+pub returns-in-Some : goal.returns-in-Some
+returns-in-Some c =
     let moves : Moves = let a = c.args in moves_lent a.n a.count a.q a.bands.now a.coef.now a.limits.now in
     let few : c.loop-m.m < longest_pattern = let h = c.loop-m-test.true in let k = c.requires.1 in omega arith in
     let whole : Option (List ℕ) = sought moves c.loop-m.m (level_in c.args.n c.loop-m.boxes 0) in
-    let found : ℕ = c.last-u.result in
+    let found : ℕ = c.in-Some.v in
     let not_done : c.loop-u.u < c.args.count = let h = c.loop-u.invariant.1.top in let z = c.if-u-count.false in omega arith in
     let a = c.args in
     let l = c.loop-u in
@@ -150,4 +150,4 @@ returns-then-u-count-2 c =
     let h = few in
     let e = c.begin.ensures.0 in
     let there =
-    along-found a.n a.count a.q a.bands.now a.coef.now a.limits.now m l.boxes l.us whole l.l l.u found q l.invariant.1 not_done c.last-u.ensures.first (omega arith) c.if-u-count-2.true in record { pattern = rw (add-one, ← e) (lengths-found moves a.k _ m _ c.loop-m.invariant.3 c.loop-m-test.true _ (rw (add-one, c.loop-m.invariant.2) at (sym there))); size = (omega arith, length-set l.us l.l found ∙ l.invariant.1.standing.long) }
+    along-found a.n a.count a.q a.bands.now a.coef.now a.limits.now m l.boxes l.us whole l.l l.u found q l.invariant.1 not_done c.in-Some.ensures.found.1 (omega arith) c.in-Some.ensures.found.0 in record { pattern = rw (add-one, ← e) (lengths-found moves a.k _ m _ c.loop-m.invariant.3 c.loop-m-test.true _ (rw (add-one, c.loop-m.invariant.2) at (sym there))); size = (omega arith, length-set l.us l.l found ∙ l.invariant.1.standing.long) }

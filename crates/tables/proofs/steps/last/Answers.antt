@@ -24,15 +24,15 @@ shared-e-requires c =
     let room = c.requires.rows.3.room in
     record { row = (omega arith, c.requires.rows.0, c.requires.rows.1 l.u h, c.requires.edges.0, c.requires.edges.1); kept = λ z. let m = (c.requires.rows.3.marked l.u h).shared z in rw (← m.1) (l.invariant.1 m.0) }
 
-pub returns-then-lands : goal.returns-then-lands
-returns-then-lands c =
+pub returns-then-lands-clause-found : goal.returns-then-lands-clause-found
+returns-then-lands-clause-found c =
     let try : ℕ → Option (List ℕ) = let a = c.args in landing a.n a.coef.now a.limits.now (box_in a.n a.boxes.now a.place) in
     let u = c.loop-u.u in
-    let h = c.loop-u-test.true in record {
-      first = ap (λ (b : Bool). picked b u) (lt-ltb u c.args.count h)
-          ∙ sym (modes-hit try c.args.count u h [] (ap behind (sym c.lands.ensures ∙ c.if-lands.true))) ∙ c.loop-u.invariant.2;
-      size = omega arith;
-    }
+    let h = c.loop-u-test.true in (
+      h,
+      ap (λ (b : Bool). picked b u) (lt-ltb u c.args.count h)
+          ∙ sym (modes-hit try c.args.count u h [] (ap behind (sym c.lands.ensures ∙ c.if-lands.true))) ∙ c.loop-u.invariant.2,
+    )
 
 pub loop-u-preserved : goal.loop-u-preserved
 loop-u-preserved c =
@@ -45,8 +45,8 @@ loop-u-preserved c =
       sym (modes-miss try c.args.count u h (ap behind (sym c.lands.ensures ∙ c.if-lands.false))) ∙ c.loop-u.invariant.2,
     )
 
-pub returns-clause-first : goal.returns-clause-first
-returns-clause-first c =
+pub returns-clause-none : goal.returns-clause-none
+returns-clause-none c =
     let a = c.args in
     let try : ℕ → Option (List ℕ) = landing a.n a.coef.now a.limits.now (box_in a.n a.boxes.now a.place) in
     ap (λ (b : Bool). picked b a.count) (le-ltb a.count a.count (omega arith)) ∙ sym (modes-over try a.count c.loop-u.u c.loop-u-test.false) ∙ c.loop-u.invariant.2
