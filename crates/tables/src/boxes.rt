@@ -84,18 +84,11 @@ fn all_halved(n: usize, b: Bx, x: usize) -> Bx
 {
     let mut kid = b;
     let mut bits = x;
-    let mut due = n;
-    while 0 < due {
-        let j = n - due;
-        let l = b.lo[j];
-        let h = b.hi[j];
-        let e = half(l, h, bits);
-        let el = e.lo;
-        let eh = e.hi;
-        kid.lo[j] = el;
-        kid.hi[j] = eh;
+    for j in 0..n {
+        let e = half(b.lo[j], b.hi[j], bits);
+        kid.lo[j] = e.lo;
+        kid.hi[j] = e.hi;
         bits = e.bits;
-        due -= 1;
     }
     kid
 }
@@ -142,19 +135,12 @@ pub fn half_of(n: usize, b: Bx, x: [i64; 4]) -> Holder
     let mut kid = b;
     let mut number: usize = 0;
     let mut count: usize = 1;
-    let mut j: usize = 0;
-    while j < n {
-        let l = b.lo[j];
-        let h = b.hi[j];
-        let v = x[j];
-        let e = part_of(l, h, v, count);
-        let el = e.lo;
-        let eh = e.hi;
-        kid.lo[j] = el;
-        kid.hi[j] = eh;
+    for j in 0..n {
+        let e = part_of(b.lo[j], b.hi[j], x[j], count);
+        kid.lo[j] = e.lo;
+        kid.hi[j] = e.hi;
         number += e.add;
         count = e.count;
-        j += 1;
     }
     Holder { kid, number, count }
 }
@@ -166,16 +152,12 @@ fn longest(n: usize, b: Bx) -> usize
 {
     let mut most: i64 = 0;
     let mut place: usize = 0;
-    let mut j: usize = 0;
-    while j < n {
-        let l = b.lo[j];
-        let h = b.hi[j];
-        let far = h - l;
+    for j in 0..n {
+        let far = b.hi[j] - b.lo[j];
         if most < far {
             most = far;
             place = j;
         }
-        j += 1;
     }
     place
 }
@@ -217,14 +199,10 @@ pub fn count(form: usize, n: usize, b: Bx) -> usize
     ensures { result ≡ length (children_by form (box_of n b)) }
 {
     let mut k: usize = 1;
-    let mut j: usize = 0;
-    while j < n {
-        let l = b.lo[j];
-        let h = b.hi[j];
-        if l < h {
+    for j in 0..n {
+        if b.lo[j] < b.hi[j] {
             k *= 2;
         }
-        j += 1;
     }
     if k == 1 {
         0
@@ -239,7 +217,7 @@ pub fn count(form: usize, n: usize, b: Bx) -> usize
 pub fn ordered(a: i64, b: i64, c: i64, d: i64) -> bool
     ensures { result ≡ (le_z a b && le_z c d) }
 {
-    if a <= b { c <= d } else { false }
+    a <= b && c <= d
 }
 
 // The first dimension, from 0, in which a reading is outside a box; n where it is inside.
@@ -247,18 +225,12 @@ pub fn missed(n: usize, b: Bx, x: [i64; 4]) -> usize
     requires { n ≤ 4 }
     ensures { result ≡ first_false (fits (box_of n b) (reading_of n x)) }
 {
-    let mut j: usize = 0;
-    while j < n {
-        let v = x[j];
-        let l = b.lo[j];
-        let h = b.hi[j];
-        if ordered(l, v, v, h) {
-            j += 1;
-        } else {
+    for j in 0..n {
+        if !ordered(b.lo[j], x[j], x[j], b.hi[j]) {
             return j;
         }
     }
-    j
+    n
 }
 
 // Whether a lies in b.
@@ -266,15 +238,8 @@ pub fn within(n: usize, a: Bx, b: Bx) -> bool
     requires { n ≤ 4 }
     ensures { result ≡ within (box_of n a) (box_of n b) }
 {
-    let mut j: usize = 0;
-    while j < n {
-        let al = a.lo[j];
-        let ah = a.hi[j];
-        let bl = b.lo[j];
-        let bh = b.hi[j];
-        if ordered(bl, al, ah, bh) {
-            j += 1;
-        } else {
+    for j in 0..n {
+        if !ordered(b.lo[j], a.lo[j], a.hi[j], b.hi[j]) {
             return false;
         }
     }

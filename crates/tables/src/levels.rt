@@ -23,8 +23,8 @@ pub const WIDE: usize = 8;
 pub const ROOM: usize = 48;
 
 // Side i of the box at `place`.
-pub fn put_side(boxes: &mut [i64; ROOM], place: usize, i: usize, lo: i64, hi: i64)
-    requires { (place + wide ≤ room) × (i < 4) }
+pub fn put_side(boxes: &mut [i64], place: usize, i: usize, lo: i64, hi: i64)
+    requires { (place + wide ≤ length boxes.old) × (i < 4) }
     ensures { boxes.new ≡ stored boxes.old place i (side lo hi) }
 {
     boxes[place + i] = lo;
@@ -36,12 +36,8 @@ pub fn begin(n: usize, b: Bx, boxes: &mut [i64; ROOM])
     requires { (n ≤ 4) × (length boxes.old ≡ room) × Small edge_limit (box_of n b) }
     ensures { (box_in n boxes.new 0 ≡ box_of n b) × (length boxes.new ≡ room) }
 {
-    let mut i: usize = 0;
-    while i < n {
-        let l = b.lo[i];
-        let h = b.hi[i];
-        put_side(boxes, 0, i, l, h);
-        i += 1;
+    for i in 0..n {
+        put_side(boxes, 0, i, b.lo[i], b.hi[i]);
     }
 }
 

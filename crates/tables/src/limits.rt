@@ -1,7 +1,8 @@
 // Limits: where the sums of a row have to lie for an image to lie in S or in the goal, with which the search tells both without dividing, mode by mode,
 // for each has its own band; and of each mode's last row a mark where it is that of the mode before, as in every plant made of a sheet, with which the
 // search makes what it needs of that row once for all of them, and its offset. Both stand in slices, for any number of modes.
-// Relies on frames, and on images for a pair of numbers and for where a band stands. Leaves out the sums themselves (levels) and who tests them (steps).
+// Relies on frames, on images for a pair of numbers and for where a band stands, and on levels for putting a side into a slice. Leaves out the sums
+// themselves (levels) and who tests them (steps).
 ghost use Rattle.std.specs.Prelude.{◌≡◌, true, ℕ, ◌+◌, ◌-◌, ◌*◌, ◌≤◌, ◌<◌, length, pos};
 ghost use Rattle.meaning.specs.Boxes.{side, side_at};
 ghost use Rattle.meaning.specs.Plants.{edge_limit, band_limit};
@@ -9,13 +10,13 @@ ghost use Rattle.tables.specs.Boxes.{box_of, Small};
 ghost use Rattle.promises.specs.Files.Sound.{Bounded};
 ghost use Rattle.tables.specs.Frames.{PlantSound};
 ghost use Rattle.tables.specs.Images.{entries_of, RowSound};
-ghost use Rattle.tables.specs.Levels.{wide, side_in, stored, Beside};
+ghost use Rattle.tables.specs.Levels.{wide, side_in, Beside};
 ghost use Rattle.tables.specs.Limits.{limit_side, limits_size, marks_size, limit_at, Laid, last_entries, last_offset, RowsSound, BandsSound, MarksLent, LimitsLaid};
 
 use crate::boxes::Bx;
 use crate::frames::Frame;
-use crate::images;
 use crate::images::Span;
+use crate::{images, levels};
 
 // The limits of a mode: those of S, then those of the goal; a span of sixteen is found without a product. Its mark and its offset stand side by side in a
 // slice of their own: the search reads these two and one side for most modes.
@@ -47,15 +48,6 @@ fn around(q: usize, wl: i64, wh: i64, l: i64, h: i64) -> Span
     Span { lo: from, hi: to }
 }
 
-// Side i of the limits at `base`.
-fn put_limit(limits: &mut [i64], base: usize, i: usize, from: i64, to: i64)
-    requires { (base + wide ≤ length limits.old) × (i < 4) }
-    ensures { limits.new ≡ stored limits.old base i (side from to) }
-{
-    limits[base + i] = from;
-    limits[base + 4 + i] = to;
-}
-
 // The limits of box b under mode u, at `base`.
 fn lay_box(n: usize, q: usize, bands: &[i64], u: usize, b: Bx, limits: &mut [i64], base: usize)
     requires step { (n ≤ 4) × (q ≤ 10_000) × BandsSound n bands.now u × Small edge_limit (box_of n b) }
@@ -63,16 +55,10 @@ fn lay_box(n: usize, q: usize, bands: &[i64], u: usize, b: Bx, limits: &mut [i64
     ensures sides { (i : ℕ) → i < n → side_in limits.new base i ≡ limit_at n q bands.now u b.lo b.hi i }
     ensures beside { Beside base limits.old limits.new }
 {
-    let mut i: usize = 0;
-    while i < n {
+    for i in 0..n {
         let place = images::band(n, u, i);
-        let wl = bands[place];
-        let wh = bands[place + 1];
-        let l = b.lo[i];
-        let h = b.hi[i];
-        let s = around(q, wl, wh, l, h);
-        put_limit(limits, base, i, s.lo, s.hi);
-        i += 1;
+        let s = around(q, bands[place], bands[place + 1], b.lo[i], b.hi[i]);
+        levels::put_side(limits, base, i, s.lo, s.hi);
     }
 }
 
@@ -83,13 +69,9 @@ fn lay_boxes(f: Frame, bands: &[i64], limits: &mut [i64])
     ensures laid { Laid f.n f.modes f.q (side_at f.goal.lo f.goal.hi) (side_at f.safe.lo f.safe.hi) bands.now limits.new }
     ensures size { length limits.new ≡ length limits.old }
 {
-    let safe = f.safe;
-    let goal = f.goal;
-    let mut u: usize = 0;
-    while u < f.modes {
-        lay_box(f.n, f.q, bands, u, safe, limits, SPAN * u);
-        lay_box(f.n, f.q, bands, u, goal, limits, SPAN * u + GOAL);
-        u += 1;
+    for u in 0..f.modes {
+        lay_box(f.n, f.q, bands, u, f.safe, limits, SPAN * u);
+        lay_box(f.n, f.q, bands, u, f.goal, limits, SPAN * u + GOAL);
     }
 }
 
@@ -98,17 +80,7 @@ fn same_row(n: usize, coef: &[i64], a: usize, b: usize) -> bool
     requires { RowSound n coef.now a × RowSound n coef.now b }
     ensures { result ≡ true → entries_of n coef.now a ≡ entries_of n coef.now b }
 {
-    let mut j: usize = 0;
-    while j < n {
-        let x = coef[a + j];
-        let y = coef[b + j];
-        if x == y {
-            j += 1;
-        } else {
-            return false;
-        }
-    }
-    true
+    coef[a..a + n] == coef[b..b + n]
 }
 
 // The mark of mode u: 1 where its last row has the entries of that of the mode before it, else 0.
@@ -143,13 +115,9 @@ fn lay_marks(n: usize, modes: usize, coef: &[i64], marks: &mut [i64])
     ensures marks_lent { MarksLent n modes coef.now marks.new }
     ensures size { length marks.new ≡ length marks.old }
 {
-    let mut u: usize = 0;
-    while u < modes {
-        let m = mark(n, coef, u);
-        let o = last_offset(n, coef, u);
-        marks[PAIR * u] = m;
-        marks[PAIR * u + 1] = o;
-        u += 1;
+    for u in 0..modes {
+        marks[PAIR * u] = mark(n, coef, u);
+        marks[PAIR * u + 1] = last_offset(n, coef, u);
     }
 }
 

@@ -23,8 +23,7 @@ pub fn read_modes(modes: usize, k: usize, table: &[u8], at: usize) -> ModesRead
 {
     let mut us = [0usize; 6];
     let mut w = at;
-    let mut i: usize = 0;
-    while i < k {
+    for i in 0..k {
         let Some((u, next)) = numbers::number(table, w) else {
             return ModesRead {
                 answer: Err(files::refusals::broken(w)),
@@ -39,7 +38,6 @@ pub fn read_modes(modes: usize, k: usize, table: &[u8], at: usize) -> ModesRead
         }
         us[i] = u;
         w = next;
-        i += 1;
     }
     ModesRead { answer: Ok(w), us }
 }

@@ -35,8 +35,7 @@ fn descend(
     ensures same { SameTo n l boxes.old us.old boxes.new us.new }
     ensures new { result ≡ true → (mode_at us.new l ≡ u) × (level_in n boxes.new (suc l) ≡ image_lent n q bands.now coef.now u (level_in n boxes.old l)) }
 {
-    let v = us[l];
-    if v == u {
+    if us[l] == u {
         return true;
     }
     if steps::step(n, q, bands, coef, limits, u, boxes, WIDE * l) {
@@ -68,9 +67,7 @@ pub fn first(
     let mut boxes = [0i64; ROOM];
     levels::begin(n, b, &mut boxes);
     *us = [count; LONGEST];
-    let mut size: usize = 0;
-    let mut m: usize = 0;
-    'search: while m < k {
+    for m in 0..k {
         let mut l: usize = 0;
         let mut u: usize = 0;
         loop {
@@ -79,17 +76,15 @@ pub fn first(
                     break;
                 }
                 l -= 1;
-                let v = us[l];
-                u = v + 1;
+                u = us[l] + 1;
                 continue;
             }
             if l == m {
-                u = steps::last(n, count, coef, limits, marks, &boxes, WIDE * l);
-                if u < count {
-                    us[l] = u;
-                    size = m + 1;
-                    break 'search;
+                if let Some(v) = steps::last(n, count, coef, limits, marks, &boxes, WIDE * l) {
+                    us[l] = v;
+                    return m + 1;
                 }
+                u = count;
                 continue;
             }
             if descend(n, count, q, bands, coef, limits, l, u, us, &mut boxes) {
@@ -99,7 +94,6 @@ pub fn first(
             }
             u += 1;
         }
-        m += 1;
     }
-    size
+    0
 }

@@ -1,18 +1,19 @@
 // One mode on a box, as the search needs it: whether the image lies in the goal, the first mode whose image does, and the image where it lies in S.
 // Relies on levels for the boxes and the extremes of a row, on limits for where the sums have to lie. Leaves out which modes are tried in which
 // order (search).
-// Neither test divides. Everything is lent, so that a call copies only small numbers.
-ghost use Rattle.std.specs.Prelude.{◌≡◌, true, false, ℕ, ◌+◌, ◌-◌, ◌*◌, ◌≤◌, ◌<◌, length, nat_abs, pos};
+// Neither test divides. What a call reads is lent, so that it copies only small numbers.
+ghost use Rattle.std.specs.Prelude.{◌≡◌, true, false, ℕ, ◌+◌, ◌-◌, ◌*◌, ◌≤◌, ◌<◌, length, nat_abs, pos, is_some, IfSome, IfNone};
 ghost use Rattle.laws.specs.Lists.{at, tab};
-ghost use Rattle.meaning.specs.Boxes.{side, sides_of, covers};
+ghost use Rattle.meaning.specs.Boxes.{side, covers};
 ghost use Rattle.meaning.specs.Defined.{first_mode};
 ghost use Rattle.meaning.specs.Plants.{edge_limit};
-ghost use Rattle.tables.specs.Boxes.{Small};
+ghost use Rattle.tables.specs.Boxes.{box_of, Small};
 ghost use Rattle.tables.specs.Images.{RowSound, Extremes};
 ghost use Rattle.tables.specs.Levels.{wide, room, side_in, box_in, Beside};
 ghost use Rattle.tables.specs.Limits.{add_limit, limits_size, safe_at, goal_at, mark_at, offset_at, sum_side, sums_at, covered, stays_lent, lands_lent, image_lent, landing, divided_in, Within, RowsSound, BandsSound, last_entries, last_offset, MarksLent};
 ghost use Rattle.tables.specs.Search.{one_of};
 
+use crate::boxes::Bx;
 use crate::images::Span;
 use crate::levels::{ROOM, WIDE};
 use crate::limits::{GOAL, PAIR, SPAN};
@@ -44,8 +45,7 @@ fn inside(limits: &[i64], base: usize, i: usize, least: i64, greatest: i64) -> b
     boxes::ordered(from, least, greatest, to)
 }
 
-// Whether the sums under mode u over the box at `place` lie in the limits at `base`; where they do they are left in slo and shi, which otherwise
-// say nothing.
+// The sums under mode u over the box at `place`, where they lie in the limits at `base`.
 fn stays(
     n: usize,
     coef: &[i64],
@@ -54,29 +54,24 @@ fn stays(
     u: usize,
     boxes: &[i64; ROOM],
     place: usize,
-    slo: &mut [i64; 4],
-    shi: &mut [i64; 4],
-) -> bool
+) -> Option<Bx>
     requires rows { RowsSound n coef.now u × (base + wide ≤ length limits.now) }
-    requires edges { (place + wide ≤ room) × Small edge_limit (box_in n boxes.now place) × (length slo.old ≡ 4) × (length shi.old ≡ 4) }
-    ensures stays { result ≡ covered n coef.now limits.now base u (box_in n boxes.now place) }
-    ensures sums { result ≡ true → sides_of n slo.new shi.new ≡ tab (sums_at n coef.now u (box_in n boxes.now place)) n 0 }
-    ensures sizes { result ≡ true → Within add_limit n slo.new shi.new }
+    requires edges { (place + wide ≤ room) × Small edge_limit (box_in n boxes.now place) }
+    ensures stays { is_some result ≡ covered n coef.now limits.now base u (box_in n boxes.now place) }
+    ensures sums { IfSome result (λ s. box_of n s ≡ tab (sums_at n coef.now u (box_in n boxes.now place)) n 0) }
+    ensures sizes { IfSome result (λ s. Within add_limit n s.lo s.hi) }
 {
-    let mut i: usize = 0;
-    while i < n {
+    let mut lo = [0i64; 4];
+    let mut hi = [0i64; 4];
+    for i in 0..n {
         let s = sums(n, coef, (u * n + i) * (n + 1), boxes, place);
-        let least = s.lo;
-        let greatest = s.hi;
-        if inside(limits, base, i, least, greatest) {
-            slo[i] = least;
-            shi[i] = greatest;
-            i += 1;
-        } else {
-            return false;
+        if !inside(limits, base, i, s.lo, s.hi) {
+            return None;
         }
+        lo[i] = s.lo;
+        hi[i] = s.hi;
     }
-    true
+    Some(Bx { lo, hi })
 }
 
 // The sides of an image under mode u from its sums, put at `place`: with the band added, divided by q.
@@ -95,17 +90,11 @@ fn divide(
     ensures sides { box_in n boxes.new place ≡ tab (divided_in n q bands.now u slo.now shi.now) n 0 }
     ensures beside { Beside place boxes.old boxes.new }
 {
-    let mut i: usize = 0;
-    while i < n {
-        let l = slo[i];
-        let h = shi[i];
+    for i in 0..n {
         let band = images::band(n, u, i);
-        let wl = bands[band];
-        let wh = bands[band + 1];
-        let low = division::ceiling(l + wl, q);
-        let high = division::floor(h + wh, q);
+        let low = division::ceiling(slo[i] + bands[band], q);
+        let high = division::floor(shi[i] + bands[band + 1], q);
         levels::put_side(boxes, place, i, low, high);
-        i += 1;
     }
 }
 
@@ -128,20 +117,8 @@ pub fn step(
     ensures beside { Beside (place + wide) boxes.old boxes.new }
     ensures untouched { result ≡ false → boxes.new ≡ boxes.old }
 {
-    let mut slo = [0i64; 4];
-    let mut shi = [0i64; 4];
-    if stays(
-        n,
-        coef,
-        limits,
-        SPAN * u,
-        u,
-        boxes,
-        place,
-        &mut slo,
-        &mut shi,
-    ) {
-        divide(n, q, bands, u, &slo, &shi, boxes, place + WIDE);
+    if let Some(sums) = stays(n, coef, limits, SPAN * u, u, boxes, place) {
+        divide(n, q, bands, u, &sums.lo, &sums.hi, boxes, place + WIDE);
         return true;
     }
     false
@@ -188,25 +165,13 @@ fn lands(
     let offset = marks[PAIR * u + 1];
     let base = SPAN * u + GOAL;
     if inside(limits, base, n - 1, e.lo + offset, e.hi + offset) {
-        let mut slo = [0i64; 4];
-        let mut shi = [0i64; 4];
         let whole: usize = 0;
-        return stays(
-            n,
-            coef,
-            &limits[whole..],
-            base,
-            u,
-            boxes,
-            place,
-            &mut slo,
-            &mut shi,
-        );
+        return stays(n, coef, &limits[whole..], base, u, boxes, place).is_some();
     }
     false
 }
 
-// The first mode under which the image of the box at `place` lies in the goal; `count` where there is none.
+// The first mode under which the image of the box at `place` lies in the goal.
 pub fn last(
     n: usize,
     count: usize,
@@ -215,20 +180,18 @@ pub fn last(
     marks: &[i64],
     boxes: &[i64; ROOM],
     place: usize,
-) -> usize
+) -> Option<usize>
     requires rows { (1 ≤ n) × ((u : ℕ) → u < count → RowsSound n coef.now u) × (limits_size * count ≤ length limits.now) × MarksLent n count coef.now marks.now }
     requires edges { (place + wide ≤ room) × Small edge_limit (box_in n boxes.now place) }
-    ensures first { one_of count result ≡ first_mode (landing n coef.now limits.now (box_in n boxes.now place)) count 0 }
-    ensures size { result ≤ count }
+    ensures found { IfSome result (λ u. (u < count) × (one_of count u ≡ first_mode (landing n coef.now limits.now (box_in n boxes.now place)) count 0)) }
+    ensures none { IfNone result (one_of count count ≡ first_mode (landing n coef.now limits.now (box_in n boxes.now place)) count 0) }
 {
     let mut e = Span { lo: 0, hi: 0 };
-    let mut u: usize = 0;
-    while u < count {
+    for u in 0..count {
         e = shared(n, coef, marks, u, e, boxes, place);
         if lands(n, coef, limits, marks, u, e, boxes, place) {
-            return u;
+            return Some(u);
         }
-        u += 1;
     }
-    u
+    None
 }

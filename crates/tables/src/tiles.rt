@@ -34,15 +34,9 @@ pub fn tile_rule(
     let goal = Bx { lo: glo, hi: ghi };
     let safe = Bx { lo: slo, hi: shi };
     let mut c = b;
-    let mut i: usize = 0;
-    while i < k {
-        let u = us[i];
-        let lo = c.lo;
-        let hi = c.hi;
-        c = images::image(f.n, f.q, bands, coef, u, &lo, &hi);
-        if boxes::within(f.n, c, safe) {
-            i += 1;
-        } else {
+    for i in 0..k {
+        c = images::image(f.n, f.q, bands, coef, us[i], &c.lo, &c.hi);
+        if !boxes::within(f.n, c, safe) {
             return Tried::Leaves(i + 1);
         }
     }

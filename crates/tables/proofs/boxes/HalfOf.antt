@@ -39,19 +39,13 @@ number_by s t w m = cond t (cond w 0 1) 0 + length (cond t (lower s ∷ upper s 
 
 -- ---- by sides
 
--- what each of the three cases gives, where the sides before make `count` children
+-- what a reading in the upper half gives, where the sides before make `count` children
 module _ (l h v : ℤ) (count : ℕ) where
   abbrev Gives : Side → ℕ → ℕ → Type 0
   Gives s more ways = (part_of (side l h) v ≡ s) × (more ≡ count * bit_of (side l h) v) × (ways ≡ count * length (halves (side l h)))
 
-  pub part-lower : lt_z l h ≡ true → le_z v (middle (side l h)) ≡ true → Gives (lower (side l h)) 0 (count * 2)
-  part-lower e q = (simp (e, q), simp (e, q) (omega arith), simp e)
-
   pub part-upper : lt_z l h ≡ true → le_z v (middle (side l h)) ≡ false → Gives (upper (side l h)) count (count * 2)
   part-upper e q = (simp (e, q), simp (e, q) (omega arith), simp e)
-
-  pub part-whole : lt_z l h ≡ false → Gives (side l h) 0 count
-  part-whole e = (simp e, simp e (omega arith), simp e (omega arith))
 
 part-has : (s : Side) (v : ℤ) → has s v ≡ true → has (part_of s v) v ≡ true
 part-has s v e = go (long s)

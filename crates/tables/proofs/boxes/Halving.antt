@@ -196,10 +196,10 @@ module _ (lo hi : List ℤ) (n x : ℕ) (h : x < length (longest_halved (tab (si
 -- ---- the children by a table's form
 
 module _ (form : ℕ) (b : List Side) where
-  pub by-longest : form ≡ 3 → children_by form b ≡ longest_halved b
+  by-longest : form ≡ 3 → children_by form b ≡ longest_halved b
   by-longest e = rw e refl
 
-  pub by_all : (form ≡ 3 → ⊥) → children_by form b ≡ children b
+  by_all : (form ≡ 3 → ⊥) → children_by form b ≡ children b
   by_all e = rw (ne_eqb form 3 e) refl
 
   pub count_none : count_of b ≡ 1 → 0 ≡ length (children_by form b)

@@ -10,7 +10,6 @@ use native.Mathlib.Decide.{ℕ_discrete}
 use native.Mathlib.Nat.{mul_assoc, mul_comm, pow-suc, zero-add}
 use lib.Pow.{pow_mono}
 use lib.Dec.{eqb}
-use borrow.Author.Tests.{ne_eqb}
 use lib.ListN.{length, get_or, set, length-append}
 use lib.IntN.{ℤ, pos, nat_abs, ◌+ℤ◌}
 use lib.Signed.{◌≤ℤ◌, lt_z}
@@ -131,26 +130,10 @@ module _ (b : List Side) where
       go (yes e) = absurd (omega (arith, ap length (children-none e)))
       go (no e) = rw (children-some e) (pieces-at b x (omega (arith, ap length (children-some e), pieces-length b)))
 
--- ---- one side of a child, by the tests
+-- ---- two sides of the same edges
 
 pub same-side : {a b x y : ℤ} → a ≡ x → b ≡ y → side a b ≡ side x y
 same-side e f = rw (e, f) refl
-
-module _ (l h : ℤ) (x : ℕ) where
-  pub piece-lower : lt_z l h ≡ true → x % 2 ≡ 0 → piece_of (side l h) x ≡ lower (side l h)
-  piece-lower e z = simp (e, z)
-
-  pub piece-upper : lt_z l h ≡ true → (x % 2 ≡ 0 → ⊥) → piece_of (side l h) x ≡ upper (side l h)
-  piece-upper e z = simp (e, ne_eqb _ _ z)
-
-  pub piece-whole : lt_z l h ≡ false → piece_of (side l h) x ≡ side l h
-  piece-whole e = simp e
-
-  pub rest-long : lt_z l h ≡ true → rest_of (side l h) x ≡ x / 2
-  rest-long e = simp e
-
-  pub rest-whole : lt_z l h ≡ false → rest_of (side l h) x ≡ x
-  rest-whole e = simp e
 
 -- ---- small boxes
 
@@ -216,33 +199,27 @@ module _ (lo hi : List ℤ) (j : ℕ) (u v : ℤ) (h : j < length lo) (k : j < l
   sides-stored =
       tab-snoc (side_at (set lo j u) (set hi j v)) j 0 ∙ rw (tab-same (side_at (set lo j u) (set hi j v)) (side_at lo hi) j 0 kept, new) refl
 
--- of a child of the box bl, bh the sides that are done stand in lo, hi; `due` sides are not
+-- of a child of the box bl, bh the first j sides stand in lo, hi; the others are cut by the bits that are left
 abbrev pub Cut : List ℤ → List ℤ → List ℤ → List ℤ → ℕ → ℕ → ℕ → List Side → Type 0
-Cut bl bh lo hi n due bits whole = tab (side_at lo hi) (n - due) 0 ++ child_at (tab (side_at bl bh) due (n - due)) bits ≡ whole
+Cut bl bh lo hi n j bits whole = tab (side_at lo hi) j 0 ++ child_at (tab (side_at bl bh) (n - j) j) bits ≡ whole
 
-pub cut-none : (bl bh lo hi : List ℤ) (n bits : ℕ) → Cut bl bh lo hi n n bits (child_at (tab (side_at bl bh) n 0) bits)
+pub cut-none : (bl bh lo hi : List ℤ) (n bits : ℕ) → Cut bl bh lo hi n 0 bits (child_at (tab (side_at bl bh) n 0) bits)
 unfolding tab
-cut-none bl bh lo hi n bits = let q : n - n ≡ 0 = omega arith in rw q refl
+cut-none bl bh lo hi n bits = let q : n - 0 ≡ n = omega arith in rw q refl
 
-module _ (bl bh lo hi : List ℤ) (n due bits : ℕ) (whole : List Side) where
-  pub cut-done : due ≡ 0 → Cut bl bh lo hi n due bits whole → tab (side_at lo hi) n 0 ≡ whole
-  unfolding tab child_at
+module _ (bl bh lo hi : List ℤ) (n j bits : ℕ) (whole : List Side) where
+  pub cut-done : j ≡ n → Cut bl bh lo hi n j bits whole → tab (side_at lo hi) n 0 ≡ whole
+  unfolding child_at
   cut-done e c =
-      let q : n - due ≡ n = omega arith in
-      sym (append-nil (tab (side_at lo hi) n 0)) ∙ (rw (q, e) at c)
+      let d = rw (tab-done (side_at bl bh) n j (omega arith), append-nil (tab (side_at lo hi) j 0)) at c in
+      rw (← e) d
 
-  cut_step : 0 < due → child_at (tab (side_at bl bh) due (n - due)) bits
-      ≡ piece_of (side_at bl bh (n - due)) bits ∷ child_at (tab (side_at bl bh) (due - 1) (n - due + 1)) (rest_of (side_at bl bh (n - due)) bits)
-  unfolding tab child_at
-  cut_step p = let q : due ≡ suc (due - 1) = omega arith in ap (λ (m : ℕ). child_at (tab (side_at bl bh) m (n - due)) bits) q
-
-  pub cut-more : (u v : ℤ) (y : ℕ) → 0 < due → due ≤ n → n - due < length lo → n - due < length hi
-      → side u v ≡ piece_of (side_at bl bh (n - due)) bits → y ≡ rest_of (side_at bl bh (n - due)) bits
-      → Cut bl bh lo hi n due bits whole → Cut bl bh (set lo (n - due) u) (set hi (n - due) v) n (due - 1) y whole
-  cut-more u v y p l g h e f c =
-      let q : n - (due - 1) ≡ n - due + 1 = omega arith in
-      rw (q, sides-stored lo hi (n - due) u v g h, append_assoc (tab (side_at lo hi) (n - due) 0) (side u v ∷ []) (child_at (tab (side_at bl bh) (due - 1) (n - due + 1)) y), e, f)
-      (rw (cut_step p) at c)
+  pub cut-more : (u v : ℤ) (y : ℕ) → j < n → j < length lo → j < length hi → side u v ≡ piece_of (side_at bl bh j) bits
+      → y ≡ rest_of (side_at bl bh j) bits → Cut bl bh lo hi n j bits whole → Cut bl bh (set lo j u) (set hi j v) n (j + 1) y whole
+  unfolding child_at
+  cut-more u v y p g h e f c =
+      rw (sides-stored lo hi j u v g h, append_assoc (tab (side_at lo hi) j 0) (side u v ∷ []) (child_at (tab (side_at bl bh) (n - (j + 1)) (j + 1)) y), e, f)
+      (rw (tab-step (side_at bl bh) n j p) at c)
 
 -- the count, with j sides behind it
 module _ (lo hi : List ℤ) (n j : ℕ) where

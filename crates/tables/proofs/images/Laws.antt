@@ -1,14 +1,16 @@
 -- Laws of images for the proofs of module images and of its callers: a term by its sign and by its parts, and that both say the same; the sum of a
 -- row's terms; the sides of an image; and that an image inside S is a small box again. Assumes nothing.
-use Prim.Native.Nat.{ℕ, suc, ◌+◌, ◌*◌, ◌≤◌, ◌<◌}
+use Prim.Native.Nat.{ℕ, zero, suc, ◌+◌, ◌*◌, ◌≤◌, ◌<◌}
 use mathlib.Core.Path.{◌≡◌, refl, sym, ap, ◌∙◌}
 use mathlib.Core.Bool.{true}
 use mathlib.Core.List.{List, [], ◌∷◌, ◌++◌}
 use native.Mathlib.Omega.{arith}
+use borrow.Author.Tests.{le-leb}
 use native.Mathlib.Nat.{mul-le-mul, mul-le-mul_left, zero-add}
 use lib.ListN.{length, set}
 use lib.IntN.{ℤ, pos, negsuc, nat_abs, ◌+ℤ◌, ◌-ℤ◌, ◌*ℤ◌, +ℤ_assoc, +ℤ_idl, +ℤ_idr, zero-*ℤ}
 use lib.Signed.{◌≤ℤ◌, ◌<ℤ◌, ≤ℤ_refl}
+use Rattle.std.specs.Int.{int_min}
 use Rattle.laws.specs.Integers.{zarith, of_le, add, sub, mul, abs-add, abs-mul}
 use Rattle.laws.specs.Division.{floor_z, ceil_z}
 use Rattle.laws.specs.DivisionLaws.{ceil-floor}
@@ -51,11 +53,10 @@ turned (negsuc a) s = refl
 
 -- ---- the same term by parts: the positive part times one edge and the negative part times the other say what the sign says
 
-pub negative-above : (a : ℤ) → pos 0 ≤ℤ a → pos 0 ≡ negative_part a
-negative-above = above (λ z. pos 0 ≡ negative_part z) (λ m. refl)
-
-pub negative-below : (a : ℤ) → a <ℤ pos 0 → a ≡ negative_part a
-negative-below = below (λ z. z ≡ negative_part z) (λ m. refl)
+pub min-negative : (a : ℤ) → int_min a (pos 0) ≡ negative_part a
+min-negative (pos zero) = refl
+min-negative (pos (suc a)) = simp (le-leb 1 (suc a) (omega arith))
+min-negative (negsuc a) = refl
 
 positive-left : (a : ℤ) → a -ℤ negative_part a ≡ positive_part a
 positive-left (pos a) = omega (zarith, sub (pos a) (pos 0))

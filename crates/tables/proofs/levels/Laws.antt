@@ -61,12 +61,6 @@ pub record FilledTo (place : ℕ) (t : ℕ → Side) (i : ℕ) (boxes₀ boxes :
   pub beside : Beside place boxes₀ boxes
   pub sides : (j : ℕ) → j < i → side_in boxes place j ≡ t j
 
-pub beside_none : (place : ℕ) (boxes : List ℤ) → Beside place boxes boxes
-beside_none place boxes = record { long = refl; others = λ other j h o. refl }
-
-pub filled_none : (place : ℕ) (t : ℕ → Side) (boxes : List ℤ) → FilledTo place t 0 boxes boxes
-filled_none place t boxes = record { few = omega arith; beside = beside_none place boxes; sides = λ j h. absurd (omega arith) }
-
 module _ {place : ℕ} {t : ℕ → Side} {i : ℕ} {boxes₀ boxes : List ℤ} (f : FilledTo place t i boxes₀ boxes) where
   pub filled_more : {boxes₁ : List ℤ} (s : Side) → i < 4 → place + wide ≤ length boxes₀ → s ≡ t i → boxes₁ ≡ stored boxes place i s → FilledTo place t (i + 1) boxes₀ boxes₁
   filled_more s h k e q = rw q record {

@@ -101,9 +101,6 @@ module _ (w : Moves) where
   -- ---- the lengths up to k: those up to m modes are tried
 
   module _ (k : ℕ) (b : List Side) where
-    pub lengths-all : sought_from w (k - 0) 0 b ≡ sought_from w k 0 b
-    lengths-all = rw sub-zero refl
-
     module _ (m : ℕ) (whole : Option (List ℕ)) (q : sought_from w (k - m) m b ≡ whole) where
       pub lengths-done : k ≤ m → none ≡ whole
       unfolding sought_from

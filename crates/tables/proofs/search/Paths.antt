@@ -10,13 +10,13 @@ use native.Mathlib.Omega.{arith}
 use native.Mathlib.Decide.{ℕ_discrete, dec_lt}
 use native.Mathlib.Numerals.{add-one}
 use lib.IntN.{ℤ}
-use lib.ListN.{length, set, replicate, length-set, get_or-replicate}
+use lib.ListN.{length, set, length-set}
 use lib.Seq.{get_or-set_same, get_or-set_other}
 use Rattle.laws.specs.Tabs.{tab-same}
 use Rattle.meaning.specs.Defined.{first_mode}
 use Rattle.meaning.specs.Plants.{edge_limit}
 use Rattle.tables.specs.Boxes.{Small}
-use Rattle.tables.specs.Levels.{wide, room, side_in, level_in, Beside}
+use Rattle.tables.specs.Levels.{wide, side_in, level_in, Beside}
 use Rattle.tables.specs.Limits.{stays_lent, image_lent, landing, Lent}
 use Rattle.tables.specs.Tiles.{longest_pattern, mode_at, pattern_of}
 use Rattle.tables.specs.Search.{level, behind, turns_left, levels_below, Open, SameTo, one_of, sought, rest, moves_lent, Standing}
@@ -51,10 +51,6 @@ module _ (us : List ℕ) (N l u : ℕ) where
   entered-behind h = get_or-set_same (set us l u) (l + 1) N 0 (omega (arith, length-set us l u))
 
 module _ (n N q : ℕ) (bands coef limits : List ℤ) where
-  -- at first none stands
-  pub standing-none : (boxes : List ℤ) → length boxes ≡ room → Standing n N q bands coef limits boxes (replicate longest_pattern N)
-  standing-none boxes e = record { roomy = e; long = refl; stands = λ j o h. absurd (omega (arith, get_or-replicate longest_pattern j N 0 (omega arith))) }
-
   -- a level that is made stands, and those behind it no longer do
   module _ (h : n ≤ 4) (boxes₀ : List ℤ) (us : List ℕ) (g : Standing n N q bands coef limits boxes₀ us) (l u : ℕ) (k : suc l < longest_pattern) (boxes : List ℤ) (s : Beside (wide * l + wide) boxes₀ boxes) where
     pub standing-new : stays_lent n coef limits u (level_in n boxes₀ l) ≡ true → level_in n boxes (suc l) ≡ image_lent n q bands coef u (level_in n boxes₀ l) → Standing n N q bands coef limits boxes (entered us N l u)

@@ -43,9 +43,6 @@ tab-entry f g n i e h =
     let z : 0 + i ≡ i = zero-add i in
     (rw z at (sym (get_d-tab f d n 0 i h))) ∙ ap (λ (l : List Side). get_or l i d) e ∙ (rw z at (get_d-tab g d n 0 i h))
 
-pub within_none : (k : ℕ) (lo hi : List ℤ) → Within k 0 lo hi
-within_none k lo hi i h = absurd (omega arith)
-
 pub within_more : {k i : ℕ} (lo hi : List ℤ) (x y : ℤ) → i < length lo → i < length hi → Within k i lo hi → nat_abs x ≤ k → nat_abs y ≤ k → Within k (i + 1) (set lo i x) (set hi i y)
 within_more {k} {i} lo hi x y a b w f g j h = go (ℕ_discrete j i)
   where

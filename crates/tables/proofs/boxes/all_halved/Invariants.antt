@@ -6,9 +6,6 @@ use Rattle.tables.specs.Boxes.{box_of}
 use Rattle.tables.proofs.boxes.Laws.{child_at, Cut}
 use Rattle.tables.proofs.boxes.all_halved.Given as goal
 
-abbrev pub invariant-loop-due : goal.invariant-loop-due
-invariant-loop-due l =
-    (l.due ≤ l.n) × (length l.kid.lo ≡ 4) × (length l.kid.hi ≡ 4) × Cut l.b.lo l.b.hi l.kid.lo l.kid.hi l.n l.due l.bits (child_at (box_of l.n l.b) l.x)
-
-abbrev pub decreases-loop-due : goal.decreases-loop-due
-decreases-loop-due l = l.due
+abbrev pub invariant-loop-j : goal.invariant-loop-j
+invariant-loop-j l =
+    (l.j ≤ l.n) × (length l.kid.lo ≡ 4) × (length l.kid.hi ≡ 4) × Cut l.b.lo l.b.hi l.kid.lo l.kid.hi l.n l.j l.bits (child_at (box_of l.n l.b) l.x)

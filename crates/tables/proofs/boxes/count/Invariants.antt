@@ -9,6 +9,3 @@ use Rattle.tables.proofs.boxes.count.Given as goal
 
 abbrev pub invariant-loop-j : goal.invariant-loop-j
 invariant-loop-j l = (l.j ≤ l.n) × (l.k ≤ 2 ^ l.j) × (l.k * count_of (tab (side_at l.b.lo l.b.hi) (l.n - l.j) l.j) ≡ count_of (box_of l.n l.b))
-
-abbrev pub decreases-loop-j : goal.decreases-loop-j
-decreases-loop-j l = l.n - l.j

@@ -21,60 +21,12 @@ loop-j-init c =
     let a = c.args in
     halfway-none a.b.lo a.b.hi a.x a.b.lo a.b.hi a.n (search rules) (search rules)
 
-pub offset_bounds-b-j : goal.offset_bounds-b-j
-offset_bounds-b-j c = omega arith
-
-pub bounds-b-j : goal.bounds-b-j
-bounds-b-j c = omega arith
-
-pub offset_bounds-b-j-in-loop-j : goal.offset_bounds-b-j-in-loop-j
-offset_bounds-b-j-in-loop-j c = omega arith
-
-pub bounds-b-j-in-loop-j : goal.bounds-b-j-in-loop-j
-bounds-b-j-in-loop-j c = omega arith
-
-pub offset_bounds-x-j : goal.offset_bounds-x-j
-offset_bounds-x-j c = omega arith
-
-pub bounds-x-j : goal.bounds-x-j
-bounds-x-j c = omega arith
-
 pub part_of-e-requires : goal.part_of-e-requires
 part_of-e-requires c =
     let low : (j : ℕ) → (h : j < c.args.n) → Ex = λ j. λ h. var (at c.args.b.lo j) edge_limit (small-side c.args.b.lo c.args.b.hi c.args.n j c.requires.1 h).low in
     let high : (j : ℕ) → (h : j < c.args.n) → Ex = λ j. λ h. var (at c.args.b.hi j) edge_limit (small-side c.args.b.lo c.args.b.hi c.args.n j c.requires.1 h).high in
     let l = c.loop-j in
     (under (low _ (omega arith)) edge_limit tt, under (high _ (omega arith)) edge_limit tt, omega (arith, pow_small l.j (omega arith), l.invariant.count_small))
-
-pub offset_bounds-kid-j : goal.offset_bounds-kid-j
-offset_bounds-kid-j c = omega arith
-
-pub bounds-kid-j : goal.bounds-kid-j
-bounds-kid-j c = omega arith
-
-pub offset_bounds-kid-j-in-loop-j : goal.offset_bounds-kid-j-in-loop-j
-offset_bounds-kid-j-in-loop-j c = omega arith
-
-pub bounds-kid-j-in-loop-j : goal.bounds-kid-j-in-loop-j
-bounds-kid-j-in-loop-j c = omega arith
-
-pub overflow_add-number : goal.overflow_add-number
-overflow_add-number c =
-    let low : (j : ℕ) → (h : j < c.args.n) → Ex = λ j. λ h. var (at c.args.b.lo j) edge_limit (small-side c.args.b.lo c.args.b.hi c.args.n j c.requires.1 h).low in
-    let high : (j : ℕ) → (h : j < c.args.n) → Ex = λ j. λ h. var (at c.args.b.hi j) edge_limit (small-side c.args.b.lo c.args.b.hi c.args.n j c.requires.1 h).high in
-    let here : ℕ = c.loop-j.j in
-    let Parted : ℤ → ℤ → ℤ → Type 0 = λ l. λ h. λ v. let r = c.part_of-e.result in let k = c.loop-j.count in (side r.lo r.hi ≡ part_of (side l h) v) × (r.add ≡ k * bit_of (side l h) v) × (r.count ≡ k * length (halves (side l h))) in
-    let Given : Type 0 = Parted (at c.args.b.lo here) (at c.args.b.hi here) (at c.args.x here) in
-    let gave : here < c.args.n → Given = λ k. let l = low here k in let h = high here k in let v = to_z-of_z (ok64 (at c.args.x here) c.v-1.given) in down (λ (z : ℤ). Parted z (val h) (at c.args.x here)) l tt (down (λ (z : ℤ). Parted (mach l) z (at c.args.x here)) h tt (subst (λ (z : ℤ). Parted (mach l) (mach h) z) v c.part_of-e.ensures)) in
-    let more : here < c.args.n → Halfway c.args.b.lo c.args.b.hi c.args.x (set c.loop-j.kid.lo here c.part_of-e.result.lo) (set c.loop-j.kid.hi here c.part_of-e.result.hi) c.args.n (c.loop-j.number + c.part_of-e.result.add) c.part_of-e.result.count (here + 1) = λ k. let g = gave k in halfway-more c.loop-j.invariant k c.requires.0 _ _ _ _ g.0 g.1 g.2 in
-    let m = more (omega arith) in
-    omega (arith, m.number_small, pow-most (c.loop-j.j + 1) (omega arith))
-
-pub overflow_add-j : goal.overflow_add-j
-overflow_add-j c = omega arith
-
-pub loop-j-smaller : goal.loop-j-smaller
-loop-j-smaller c = omega arith
 
 pub loop-j-preserved : goal.loop-j-preserved
 loop-j-preserved c =
@@ -83,7 +35,7 @@ loop-j-preserved c =
     let here : ℕ = c.loop-j.j in
     let Parted : ℤ → ℤ → ℤ → Type 0 = λ l. λ h. λ v. let r = c.part_of-e.result in let k = c.loop-j.count in (side r.lo r.hi ≡ part_of (side l h) v) × (r.add ≡ k * bit_of (side l h) v) × (r.count ≡ k * length (halves (side l h))) in
     let Given : Type 0 = Parted (at c.args.b.lo here) (at c.args.b.hi here) (at c.args.x here) in
-    let gave : here < c.args.n → Given = λ k. let l = low here k in let h = high here k in let v = to_z-of_z (ok64 (at c.args.x here) c.v-1.given) in down (λ (z : ℤ). Parted z (val h) (at c.args.x here)) l tt (down (λ (z : ℤ). Parted (mach l) z (at c.args.x here)) h tt (subst (λ (z : ℤ). Parted (mach l) (mach h) z) v c.part_of-e.ensures)) in
+    let gave : here < c.args.n → Given = λ k. let l = low here k in let h = high here k in let v = to_z-of_z (ok64 (at c.args.x here) (omega arith)) in down (λ (z : ℤ). Parted z (val h) (at c.args.x here)) l tt (down (λ (z : ℤ). Parted (mach l) z (at c.args.x here)) h tt (subst (λ (z : ℤ). Parted (mach l) (mach h) z) v c.part_of-e.ensures)) in
     let more : here < c.args.n → Halfway c.args.b.lo c.args.b.hi c.args.x (set c.loop-j.kid.lo here c.part_of-e.result.lo) (set c.loop-j.kid.hi here c.part_of-e.result.hi) c.args.n (c.loop-j.number + c.part_of-e.result.add) c.part_of-e.result.count (here + 1) = λ k. let g = gave k in halfway-more c.loop-j.invariant k c.requires.0 _ _ _ _ g.0 g.1 g.2 in
     let e = c.part_of-e.result in
     rw (to_z-of_z (ok64 e.lo (omega arith)), to_z-of_z (ok64 e.hi (omega arith))) (more (omega arith))

@@ -19,30 +19,12 @@ use Rattle.tables.proofs.boxes.longest.Goals.{then-most-far, else-most-far}
 pub loop-j-init : goal.loop-j-init
 loop-j-init c = (omega arith, omega zarith, rw sub-zero (leads-all edge_limit (box_of c.args.n c.args.b) c.requires.1))
 
-pub offset_bounds-b-j : goal.offset_bounds-b-j
-offset_bounds-b-j c = omega arith
-
-pub bounds-b-j : goal.bounds-b-j
-bounds-b-j c = omega arith
-
-pub offset_bounds-b-j-in-loop-j : goal.offset_bounds-b-j-in-loop-j
-offset_bounds-b-j-in-loop-j c = omega arith
-
-pub bounds-b-j-in-loop-j : goal.bounds-b-j-in-loop-j
-bounds-b-j-in-loop-j c = omega arith
-
 pub overflow_sub-far : goal.overflow_sub-far
 overflow_sub-far c =
     let low : (j : ℕ) → (h : j < c.args.n) → Ex = λ j. λ h. var (at c.args.b.lo j) edge_limit (small-side c.args.b.lo c.args.b.hi c.args.n j c.requires.1 h).low in
     let high : (j : ℕ) → (h : j < c.args.n) → Ex = λ j. λ h. var (at c.args.b.hi j) edge_limit (small-side c.args.b.lo c.args.b.hi c.args.n j c.requires.1 h).high in
     let far : (j : ℕ) → (h : j < c.args.n) → Ex = λ j. λ h. (high j h) ⊝ (low j h) in
     need (far c.loop-j.j (omega arith)) tt
-
-pub overflow_add-j : goal.overflow_add-j
-overflow_add-j c = omega arith
-
-pub loop-j-smaller : goal.loop-j-smaller
-loop-j-smaller c = omega arith
 
 pub loop-j-preserved : goal.loop-j-preserved
 loop-j-preserved c =

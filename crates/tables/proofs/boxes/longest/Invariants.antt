@@ -12,6 +12,3 @@ use Rattle.tables.proofs.boxes.longest.Given as goal
 abbrev pub invariant-loop-j : goal.invariant-loop-j
 invariant-loop-j l =
     (l.j ≤ l.n) × (pos 0 ≤ℤ l.most) × (leads l.most l.place l.j (tab (side_at l.b.lo l.b.hi) (l.n - l.j) l.j) ≡ longest_at (box_of l.n l.b))
-
-abbrev pub decreases-loop-j : goal.decreases-loop-j
-decreases-loop-j l = l.n - l.j

@@ -6,10 +6,10 @@ use lib.ListN.{length, length-set}
 use mir.Facts.{to_z-of_z}
 use Rattle.laws.specs.Integers.{ok64}
 use Rattle.laws.specs.Lists.{at, tab}
-use Rattle.laws.specs.Expressions.{Ex, var, exact, under}
+use Rattle.laws.specs.Expressions.{Ex, var, exact}
 use Rattle.meaning.specs.Boxes.{Side, sides_of}
-use Rattle.meaning.specs.Plants.{band_limit, row_start, band_start}
-use Rattle.tables.specs.Images.{RowSound, BandSound}
+use Rattle.meaning.specs.Plants.{band_limit, band_start}
+use Rattle.tables.specs.Images.{BandSound}
 use Rattle.tables.proofs.images.Laws.{band-small, band-inside, image_side_at, image-tab, image-more, image-done}
 use Rattle.tables.proofs.images.image.Goals as goal
 
@@ -17,92 +17,12 @@ pub loop-i-init : goal.loop-i-init
 unfolding tab
 loop-i-init c = (omega arith, refl, refl, refl)
 
-pub overflow_mul-start : goal.overflow_mul-start
-overflow_mul-start c =
-    let row : (i : ℕ) → (h : i < c.args.n) → RowSound c.args.n c.args.coef.now (row_start c.args.n c.args.u i) = λ i. λ h. c.requires.0.rows i h in
-    omega (arith, (row c.loop-i.i c.loop-i-test.true).inside)
-
-pub overflow_add-start : goal.overflow_add-start
-overflow_add-start c =
-    let row : (i : ℕ) → (h : i < c.args.n) → RowSound c.args.n c.args.coef.now (row_start c.args.n c.args.u i) = λ i. λ h. c.requires.0.rows i h in
-    omega (arith, (row c.loop-i.i c.loop-i-test.true).inside)
-
-pub overflow_add-start-in-loop-i : goal.overflow_add-start-in-loop-i
-overflow_add-start-in-loop-i c = omega (arith, c.requires.0.rooms)
-
-pub overflow_mul-start-in-loop-i : goal.overflow_mul-start-in-loop-i
-overflow_mul-start-in-loop-i c =
-    let row : (i : ℕ) → (h : i < c.args.n) → RowSound c.args.n c.args.coef.now (row_start c.args.n c.args.u i) = λ i. λ h. c.requires.0.rows i h in
-    omega (arith, (row c.loop-i.i c.loop-i-test.true).inside)
-
-pub band-place-requires : goal.band-place-requires
-band-place-requires c =
-    let band : (i : ℕ) → (h : i < c.args.n) → BandSound c.args.n c.args.bands.now c.args.u i = λ i. λ h. c.requires.0.band i h in
-    omega (arith, (band c.loop-i.i c.loop-i-test.true).inside)
-
-pub offset_bounds-bands-place : goal.offset_bounds-bands-place
-offset_bounds-bands-place c =
-    let band : (i : ℕ) → (h : i < c.args.n) → BandSound c.args.n c.args.bands.now c.args.u i = λ i. λ h. c.requires.0.band i h in
-    let placed : c.band-place.result ≡ band_start c.args.n c.args.u c.loop-i.i = c.band-place.ensures in
-    let within : c.band-place.result + 1 < length c.args.bands.now = let i = c.loop-i.i in band-inside c.args.n c.args.bands.now c.args.u i c.band-place.result placed (band i c.loop-i-test.true) in
-    omega (arith, within)
-
 pub bounds-bands-place : goal.bounds-bands-place
 bounds-bands-place c =
     let band : (i : ℕ) → (h : i < c.args.n) → BandSound c.args.n c.args.bands.now c.args.u i = λ i. λ h. c.requires.0.band i h in
     let placed : c.band-place.result ≡ band_start c.args.n c.args.u c.loop-i.i = c.band-place.ensures in
     let within : c.band-place.result + 1 < length c.args.bands.now = let i = c.loop-i.i in band-inside c.args.n c.args.bands.now c.args.u i c.band-place.result placed (band i c.loop-i-test.true) in
     omega (arith, within)
-
-pub overflow_add-wh : goal.overflow_add-wh
-overflow_add-wh c =
-    let band : (i : ℕ) → (h : i < c.args.n) → BandSound c.args.n c.args.bands.now c.args.u i = λ i. λ h. c.requires.0.band i h in
-    let placed : c.band-place.result ≡ band_start c.args.n c.args.u c.loop-i.i = c.band-place.ensures in
-    let within : c.band-place.result + 1 < length c.args.bands.now = let i = c.loop-i.i in band-inside c.args.n c.args.bands.now c.args.u i c.band-place.result placed (band i c.loop-i-test.true) in
-    omega (arith, within)
-
-pub offset_bounds-bands-place-in-loop-i : goal.offset_bounds-bands-place-in-loop-i
-offset_bounds-bands-place-in-loop-i c =
-    let band : (i : ℕ) → (h : i < c.args.n) → BandSound c.args.n c.args.bands.now c.args.u i = λ i. λ h. c.requires.0.band i h in
-    let placed : c.band-place.result ≡ band_start c.args.n c.args.u c.loop-i.i = c.band-place.ensures in
-    let within : c.band-place.result + 1 < length c.args.bands.now = let i = c.loop-i.i in band-inside c.args.n c.args.bands.now c.args.u i c.band-place.result placed (band i c.loop-i-test.true) in
-    omega (arith, within)
-
-pub bounds-bands-place-in-loop-i : goal.bounds-bands-place-in-loop-i
-bounds-bands-place-in-loop-i c =
-    let band : (i : ℕ) → (h : i < c.args.n) → BandSound c.args.n c.args.bands.now c.args.u i = λ i. λ h. c.requires.0.band i h in
-    let placed : c.band-place.result ≡ band_start c.args.n c.args.u c.loop-i.i = c.band-place.ensures in
-    let within : c.band-place.result + 1 < length c.args.bands.now = let i = c.loop-i.i in band-inside c.args.n c.args.bands.now c.args.u i c.band-place.result placed (band i c.loop-i-test.true) in
-    within
-
-pub image_side-s-requires : goal.image_side-s-requires
-image_side-s-requires c =
-    let row : (i : ℕ) → (h : i < c.args.n) → RowSound c.args.n c.args.coef.now (row_start c.args.n c.args.u i) = λ i. λ h. c.requires.0.rows i h in
-    let band : (i : ℕ) → (h : i < c.args.n) → BandSound c.args.n c.args.bands.now c.args.u i = λ i. λ h. c.requires.0.band i h in
-    let low : (i : ℕ) → (h : i < c.args.n) → (place : ℕ) → (e : place ≡ band_start c.args.n c.args.u i) → Ex = λ i. λ h. λ place. λ e. var (at c.args.bands.now place) band_limit (band-small c.args.n c.args.bands.now c.args.u i place e (band i h)).low in
-    let high : (i : ℕ) → (h : i < c.args.n) → (place : ℕ) → (e : place ≡ band_start c.args.n c.args.u i) → Ex = λ i. λ h. λ place. λ e. var (at c.args.bands.now (place + 1)) band_limit (band-small c.args.n c.args.bands.now c.args.u i place e (band i h)).high in
-    let placed : c.band-place.result ≡ band_start c.args.n c.args.u c.loop-i.i = c.band-place.ensures in
-    let i = c.loop-i.i in
-    let h = c.loop-i-test.true in
-    record { step = (c.requires.0.least, c.requires.0.most, under (low i h c.band-place.result placed) band_limit tt, under (high i h c.band-place.result placed) band_limit tt); row = (row i h, c.requires.1) }
-
-pub offset_bounds-least-i : goal.offset_bounds-least-i
-offset_bounds-least-i c = omega arith
-
-pub bounds-least-i : goal.bounds-least-i
-bounds-least-i c = omega arith
-
-pub offset_bounds-greatest-i : goal.offset_bounds-greatest-i
-offset_bounds-greatest-i c = omega arith
-
-pub bounds-greatest-i : goal.bounds-greatest-i
-bounds-greatest-i c = omega arith
-
-pub overflow_add-i : goal.overflow_add-i
-overflow_add-i c = omega arith
-
-pub loop-i-smaller : goal.loop-i-smaller
-loop-i-smaller c = omega arith
 
 pub loop-i-preserved : goal.loop-i-preserved
 loop-i-preserved c =

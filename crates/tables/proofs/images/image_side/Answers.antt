@@ -4,44 +4,11 @@ use Prim.Native.Nat.{◌+◌}
 use mir.Facts.{to_z-of_z}
 use Rattle.laws.specs.Integers.{ok64}
 use Rattle.laws.specs.Lists.{at}
-use Rattle.laws.specs.Expressions.{Ex, var, ◌⊕◌, need, exact, under}
+use Rattle.laws.specs.Expressions.{Ex, var, ◌⊕◌, exact, under}
 use Rattle.meaning.specs.Plants.{offset_limit, band_limit}
 use Rattle.tables.specs.Images.{row_limit, sum_limit}
 use Rattle.tables.proofs.images.Laws.{side-is}
 use Rattle.tables.proofs.images.image_side.Goals as goal
-
-pub overflow_add-sums : goal.overflow_add-sums
-overflow_add-sums c =
-    let offset : Ex = let a = c.args in var (at a.coef.now (a.start + a.n)) offset_limit c.requires.row.0.offset in
-    let least : Ex = var c.extremes-sums.result.lo row_limit c.extremes-sums.ensures.low ⊕ offset in
-    need least tt
-
-pub overflow_add-sums-2 : goal.overflow_add-sums-2
-overflow_add-sums-2 c =
-    let offset : Ex = let a = c.args in var (at a.coef.now (a.start + a.n)) offset_limit c.requires.row.0.offset in
-    let least : Ex = var c.extremes-sums.result.lo row_limit c.extremes-sums.ensures.low ⊕ offset in
-    let low : Ex = least ⊕ var c.args.wl band_limit c.requires.step.2 in
-    need low tt
-
-pub ceiling-low-requires : goal.ceiling-low-requires
-ceiling-low-requires c =
-    let offset : Ex = let a = c.args in var (at a.coef.now (a.start + a.n)) offset_limit c.requires.row.0.offset in
-    let least : Ex = var c.extremes-sums.result.lo row_limit c.extremes-sums.ensures.low ⊕ offset in
-    let low : Ex = least ⊕ var c.args.wl band_limit c.requires.step.2 in
-    (under low sum_limit tt, c.requires.step.0, c.requires.step.1)
-
-pub overflow_add-sums-3 : goal.overflow_add-sums-3
-overflow_add-sums-3 c =
-    let offset : Ex = let a = c.args in var (at a.coef.now (a.start + a.n)) offset_limit c.requires.row.0.offset in
-    let greatest : Ex = var c.extremes-sums.result.hi row_limit c.extremes-sums.ensures.high ⊕ offset in
-    need greatest tt
-
-pub overflow_add-sums-4 : goal.overflow_add-sums-4
-overflow_add-sums-4 c =
-    let offset : Ex = let a = c.args in var (at a.coef.now (a.start + a.n)) offset_limit c.requires.row.0.offset in
-    let greatest : Ex = var c.extremes-sums.result.hi row_limit c.extremes-sums.ensures.high ⊕ offset in
-    let high : Ex = greatest ⊕ var c.args.wh band_limit c.requires.step.3 in
-    need high tt
 
 pub floor-high-requires : goal.floor-high-requires
 floor-high-requires c =

@@ -3,20 +3,10 @@ use mathlib.Core.Path.{◌∙◌}
 use lib.IntN.{pos}
 use mir.Facts.{sfits_lit}
 use Rattle.laws.specs.Integers.{le-held, le-failed}
-use Rattle.laws.specs.Expressions.{Ex, var, ◌⊗◌, need, exact}
+use Rattle.laws.specs.Expressions.{Ex, var, ◌⊗◌, exact}
 use Rattle.meaning.specs.Plants.{edge_limit, entry_limit}
 use Rattle.tables.proofs.images.Laws.{least_above, least-below}
 use Rattle.tables.proofs.images.term.Goals as goal
-
-pub overflow_mul-at_low : goal.overflow_mul-at_low
-overflow_mul-at_low c =
-    let at_low : Ex = var c.args.a entry_limit c.requires.0 ⊗ var c.args.l edge_limit c.requires.1 in
-    need at_low tt
-
-pub overflow_mul-at_high : goal.overflow_mul-at_high
-overflow_mul-at_high c =
-    let at_high : Ex = var c.args.a entry_limit c.requires.0 ⊗ var c.args.h edge_limit c.requires.2 in
-    need at_high tt
 
 pub returns-then-a-ge0 : goal.returns-then-a-ge0
 returns-then-a-ge0 c =

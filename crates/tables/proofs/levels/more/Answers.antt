@@ -3,7 +3,7 @@ use Prim.Native.Nat.{◌+◌, ◌≤◌}
 use mathlib.Core.Path.{◌≡◌, ap, ◌∙◌}
 use lib.IntN.{ℤ, nat_abs, ◌+ℤ◌}
 use Rattle.laws.specs.Lists.{at}
-use Rattle.laws.specs.Expressions.{Ex, var, ◌⊕◌, need, exact, under}
+use Rattle.laws.specs.Expressions.{Ex, var, ◌⊕◌, need, exact}
 use Rattle.meaning.specs.Boxes.{Side}
 use Rattle.meaning.specs.Images.{least_of, greatest_of}
 use Rattle.meaning.specs.Plants.{edge_limit, entry_limit}
@@ -11,14 +11,6 @@ use Rattle.tables.specs.Images.{term_limit, row_limit}
 use Rattle.tables.specs.Levels.{side_in}
 use Rattle.tables.proofs.images.Laws.{least-small, greatest-small}
 use Rattle.tables.proofs.levels.more.Goals as goal
-
-pub term-t-requires : goal.term-t-requires
-term-t-requires c =
-    let entry : Ex = var (at c.args.coef.now (c.args.start + c.args.j)) entry_limit c.requires.entry.0 in
-    let sides : Side = side_in c.args.boxes.now c.args.place c.args.j in
-    let low : Ex = var sides.lo edge_limit c.requires.entry.1.low in
-    let high : Ex = var sides.hi edge_limit c.requires.entry.1.high in
-    (under entry entry_limit tt, under low edge_limit tt, under high edge_limit tt)
 
 pub overflow_add-least : goal.overflow_add-least
 overflow_add-least c =

@@ -9,12 +9,6 @@ use Rattle.laws.specs.Expressions.{Ex, var, held, lit, ◌⊕◌, ◌⊝◌, ◌
 use Rattle.meaning.specs.Plants.{edge_limit, band_limit}
 use Rattle.tables.proofs.limits.around.Goals as goal
 
-pub overflow_cast-d : goal.overflow_cast-d
-overflow_cast-d c = record { sfits = omega arith }
-
-pub overflow_sub-from : goal.overflow_sub-from
-overflow_sub-from c = need (var c.args.l edge_limit c.requires.2.low ⊝ lit (pos 1)) tt
-
 pub overflow_mul-from : goal.overflow_mul-from
 overflow_mul-from c =
     let divisor : Ex = held (to_z w64 c.args.q) (pos c.args.q) 10_000 (to_z_pos w64 (omega arith)) c.requires.0 in
@@ -33,9 +27,6 @@ overflow_sub-from-2 c =
     let before : Ex = divisor ⊗ (var c.args.l edge_limit c.requires.2.low ⊝ lit (pos 1)) in
     let from : Ex = before ⊕ lit (pos 1) ⊝ var c.args.wl band_limit c.requires.1.low in
     need from tt
-
-pub overflow_add-to : goal.overflow_add-to
-overflow_add-to c = need (var c.args.h edge_limit c.requires.2.high ⊕ lit (pos 1)) tt
 
 pub overflow_mul-to : goal.overflow_mul-to
 overflow_mul-to c =

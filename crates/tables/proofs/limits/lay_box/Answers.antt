@@ -1,82 +1,16 @@
 -- `limits::lay_box`: the sides that are done are the limits of their dimensions. Assumes nothing.
-use Prim.Native.Nat.{ℕ, ◌+◌, ◌<◌}
+use Prim.Native.Nat.{ℕ, ◌<◌}
 use mathlib.Core.Path.{◌≡◌, ap, ◌∙◌}
 use native.Mathlib.Omega.{arith}
-use lib.ListN.{length}
 use Rattle.meaning.specs.Boxes.{Side, side, side_at}
 use Rattle.meaning.specs.Plants.{edge_limit, band_limit, band_start, band_side}
 use Rattle.promises.specs.Files.Sound.{Bounded}
 use Rattle.tables.specs.Limits.{limit_side}
 use Rattle.tables.proofs.boxes.Laws.{small-side}
-use Rattle.tables.proofs.images.Laws.{band_here, band-here, band-small, band-inside}
-use Rattle.tables.proofs.levels.Laws.{filled_none, filled_more}
+use Rattle.tables.proofs.images.Laws.{band_here, band-here, band-small}
+use Rattle.tables.proofs.levels.Laws.{filled_more}
 use Rattle.tables.proofs.limits.Laws.{band-held, edge-held, limit-held}
 use Rattle.tables.proofs.limits.lay_box.Goals as goal
-
-pub loop-i-init : goal.loop-i-init
-loop-i-init c = (omega arith, filled_none _ _ _)
-
-pub band-place-requires : goal.band-place-requires
-band-place-requires c = omega (arith, (c.requires.step.2 c.loop-i.i c.loop-i-test.true).inside)
-
-pub offset_bounds-bands-place : goal.offset_bounds-bands-place
-offset_bounds-bands-place c =
-    let index : ℕ = c.loop-i.i in
-    let placed : c.band-place.result ≡ band_start c.args.n c.args.u index = c.band-place.ensures in
-    let within : c.band-place.result + 1 < length c.args.bands.now = let a = c.args in band-inside a.n a.bands.now a.u index c.band-place.result placed (c.requires.step.2 index c.loop-i-test.true) in
-    omega (arith, within)
-
-pub bounds-bands-place : goal.bounds-bands-place
-bounds-bands-place c =
-    let index : ℕ = c.loop-i.i in
-    let placed : c.band-place.result ≡ band_start c.args.n c.args.u index = c.band-place.ensures in
-    let within : c.band-place.result + 1 < length c.args.bands.now = let a = c.args in band-inside a.n a.bands.now a.u index c.band-place.result placed (c.requires.step.2 index c.loop-i-test.true) in
-    omega (arith, within)
-
-pub overflow_add-wh : goal.overflow_add-wh
-overflow_add-wh c =
-    let index : ℕ = c.loop-i.i in
-    let placed : c.band-place.result ≡ band_start c.args.n c.args.u index = c.band-place.ensures in
-    let within : c.band-place.result + 1 < length c.args.bands.now = let a = c.args in band-inside a.n a.bands.now a.u index c.band-place.result placed (c.requires.step.2 index c.loop-i-test.true) in
-    omega (arith, within)
-
-pub offset_bounds-bands-place-in-loop-i : goal.offset_bounds-bands-place-in-loop-i
-offset_bounds-bands-place-in-loop-i c =
-    let index : ℕ = c.loop-i.i in
-    let placed : c.band-place.result ≡ band_start c.args.n c.args.u index = c.band-place.ensures in
-    let within : c.band-place.result + 1 < length c.args.bands.now = let a = c.args in band-inside a.n a.bands.now a.u index c.band-place.result placed (c.requires.step.2 index c.loop-i-test.true) in
-    omega (arith, within)
-
-pub bounds-bands-place-in-loop-i : goal.bounds-bands-place-in-loop-i
-bounds-bands-place-in-loop-i c =
-    let index : ℕ = c.loop-i.i in
-    let placed : c.band-place.result ≡ band_start c.args.n c.args.u index = c.band-place.ensures in
-    let within : c.band-place.result + 1 < length c.args.bands.now = let a = c.args in band-inside a.n a.bands.now a.u index c.band-place.result placed (c.requires.step.2 index c.loop-i-test.true) in
-    within
-
-pub offset_bounds-b-i : goal.offset_bounds-b-i
-offset_bounds-b-i c =
-    let index : ℕ = c.loop-i.i in
-    let few : index < 4 = let h = c.loop-i-test.true in let n = c.requires.step.0 in omega arith in
-    let h = few in omega arith
-
-pub bounds-b-i : goal.bounds-b-i
-bounds-b-i c =
-    let index : ℕ = c.loop-i.i in
-    let few : index < 4 = let h = c.loop-i-test.true in let n = c.requires.step.0 in omega arith in
-    few
-
-pub offset_bounds-b-i-in-loop-i : goal.offset_bounds-b-i-in-loop-i
-offset_bounds-b-i-in-loop-i c =
-    let index : ℕ = c.loop-i.i in
-    let few : index < 4 = let h = c.loop-i-test.true in let n = c.requires.step.0 in omega arith in
-    let h = few in omega arith
-
-pub bounds-b-i-in-loop-i : goal.bounds-b-i-in-loop-i
-bounds-b-i-in-loop-i c =
-    let index : ℕ = c.loop-i.i in
-    let few : index < 4 = let h = c.loop-i-test.true in let n = c.requires.step.0 in omega arith in
-    few
 
 pub around-s-requires : goal.around-s-requires
 around-s-requires c =
@@ -87,21 +21,6 @@ around-s-requires c =
     let edge : Side = side_at c.args.b.lo c.args.b.hi index in
     let small-edge : Bounded edge_limit edge = small-side c.args.b.lo c.args.b.hi c.args.n index c.requires.step.3 c.loop-i-test.true in
     (c.requires.step.1, rw (band-held band small-band) small-band, rw (edge-held edge small-edge) small-edge)
-
-pub put_limit-requires : goal.put_limit-requires
-put_limit-requires c =
-    let index : ℕ = c.loop-i.i in
-    let few : index < 4 = let h = c.loop-i-test.true in let n = c.requires.step.0 in omega arith in
-    (omega (arith, c.requires.place, c.loop-i.invariant.1.beside.long), few)
-
-pub overflow_add-i : goal.overflow_add-i
-overflow_add-i c =
-    let index : ℕ = c.loop-i.i in
-    let few : index < 4 = let h = c.loop-i-test.true in let n = c.requires.step.0 in omega arith in
-    let h = few in omega arith
-
-pub loop-i-smaller : goal.loop-i-smaller
-loop-i-smaller c = let h = c.loop-i-test.true in omega arith
 
 pub loop-i-preserved : goal.loop-i-preserved
 loop-i-preserved c =
@@ -117,10 +36,4 @@ loop-i-preserved c =
     let h = c.loop-i-test.true in
     let r = c.around-s in
     let e = limit-held c.args.q band edge c.requires.step.1 small-band small-edge (side r.result.lo r.result.hi) r.ensures in
-    (omega arith, filled_more l.invariant.1 _ few c.requires.place (e ∙ ap (λ (w : Side). limit_side c.args.q w edge) band-is) c.put_limit.ensures)
-
-pub shape_of-limits : goal.shape_of-limits
-shape_of-limits c = c.loop-i.invariant.1.beside.long
-
-pub returns : goal.returns
-returns c = let l = c.loop-i in record { sides = λ i h. l.invariant.1.sides i (omega (arith, c.loop-i-test.false)); beside = l.invariant.1.beside }
+    (omega arith, filled_more l.invariant.1 _ few c.requires.place (e ∙ ap (λ (w : Side). limit_side c.args.q w edge) band-is) c.put_side.ensures)

@@ -1,20 +1,12 @@
 -- `limits::lay_boxes`: the modes that are done are laid. Assumes nothing.
 use Prim.Native.Nat.{◌+◌, ◌*◌, ◌≤◌}
-use mathlib.Core.Path.{refl, ◌∙◌}
+use mathlib.Core.Path.{◌∙◌}
 use native.Mathlib.Omega.{arith}
 use lib.ListN.{length}
 use Rattle.meaning.specs.Boxes.{side_at}
 use Rattle.tables.specs.Limits.{limits_size}
 use Rattle.tables.proofs.limits.Laws.{laid_more}
 use Rattle.tables.proofs.limits.lay_boxes.Goals as goal
-
-pub loop-u-init : goal.loop-u-init
-loop-u-init c = (omega arith, refl, λ u h. absurd (omega arith))
-
-pub overflow_mul-u : goal.overflow_mul-u
-overflow_mul-u c =
-    let room : limits_size * c.loop-u.u + limits_size ≤ length c.loop-u.limits = let h = c.loop-u-test.true in omega (arith, c.requires.sizes.2, c.loop-u.invariant.1) in
-    let f = room in omega arith
 
 pub lay_box-requires : goal.lay_box-requires
 lay_box-requires c =
@@ -23,30 +15,12 @@ lay_box-requires c =
     let f = room in
     record { step = (c.requires.sizes.0, c.requires.sizes.1, c.requires.boxes.2 l.u c.loop-u-test.true, c.requires.boxes.1); place = omega arith }
 
-pub overflow_mul-u-in-loop-u : goal.overflow_mul-u-in-loop-u
-overflow_mul-u-in-loop-u c =
-    let room : limits_size * c.loop-u.u + limits_size ≤ length c.loop-u.limits = let h = c.loop-u-test.true in omega (arith, c.requires.sizes.2, c.loop-u.invariant.1) in
-    let f = room in omega arith
-
-pub overflow_add-u : goal.overflow_add-u
-overflow_add-u c =
-    let room : limits_size * c.loop-u.u + limits_size ≤ length c.loop-u.limits = let h = c.loop-u-test.true in omega (arith, c.requires.sizes.2, c.loop-u.invariant.1) in
-    let f = room in omega arith
-
 pub lay_box-requires-in-loop-u : goal.lay_box-requires-in-loop-u
 lay_box-requires-in-loop-u c =
     let room : limits_size * c.loop-u.u + limits_size ≤ length c.loop-u.limits = let h = c.loop-u-test.true in omega (arith, c.requires.sizes.2, c.loop-u.invariant.1) in
     let l = c.loop-u in
     let f = room in
     record { step = (c.requires.sizes.0, c.requires.sizes.1, c.requires.boxes.2 l.u c.loop-u-test.true, c.requires.boxes.0); place = omega (arith, c.lay_box.ensures.beside.long) }
-
-pub overflow_add-u-in-loop-u : goal.overflow_add-u-in-loop-u
-overflow_add-u-in-loop-u c =
-    let room : limits_size * c.loop-u.u + limits_size ≤ length c.loop-u.limits = let h = c.loop-u-test.true in omega (arith, c.requires.sizes.2, c.loop-u.invariant.1) in
-    let f = room in omega arith
-
-pub loop-u-smaller : goal.loop-u-smaller
-loop-u-smaller c = let h = c.loop-u-test.true in omega arith
 
 pub loop-u-preserved : goal.loop-u-preserved
 loop-u-preserved c =
@@ -60,11 +34,3 @@ loop-u-preserved c =
       laid_more f.n f.q c.requires.sizes.0 (side_at f.goal.lo f.goal.hi) (side_at f.safe.lo f.safe.hi) c.args.bands.now l.u l.limits _ _
           x.ensures.beside x.ensures.sides y.ensures.beside y.ensures.sides l.invariant.2,
     )
-
-pub shape_of-limits : goal.shape_of-limits
-shape_of-limits c = c.loop-u.invariant.1
-
-pub returns : goal.returns
-returns c =
-    let l = c.loop-u in
-    record { laid = λ u h. l.invariant.2 u (omega (arith, c.loop-u-test.false)); size = l.invariant.1 }

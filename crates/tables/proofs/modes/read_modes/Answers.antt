@@ -1,6 +1,5 @@
 -- `modes::read_modes` reads the modes one after another. Each return cites the law of the mode that it stops at. Assumes nothing.
 use mathlib.Core.Path.{refl, sym, ap, ◌∙◌}
-use native.Mathlib.Omega.{arith}
 use Rattle.meaning.specs.Files.{refused}
 use Rattle.tables.proofs.modes.Laws.{modes-none, modes-all, modes-end, modes-past, modes-next}
 use Rattle.tables.proofs.modes.read_modes.Goals as goal
@@ -25,18 +24,6 @@ returns-then-modes-u c =
     let h = c.loop-i-test.true in
     let v = sym c.number.ensures ∙ c.in-Some.is in
     ap refused c.bad_table.ensures ∙ modes-past a.modes a.k a.table.now a.at l.i l.w l.us l.invariant h c.in-Some.u c.in-Some.next v c.if-modes-u.true
-
-pub offset_bounds-us-i : goal.offset_bounds-us-i
-offset_bounds-us-i c = omega (arith, c.requires)
-
-pub bounds-us-i : goal.bounds-us-i
-bounds-us-i c = omega (arith, c.requires)
-
-pub overflow_add-i : goal.overflow_add-i
-overflow_add-i c = omega arith
-
-pub loop-i-smaller : goal.loop-i-smaller
-loop-i-smaller c = omega arith
 
 pub loop-i-preserved : goal.loop-i-preserved
 loop-i-preserved c =

@@ -13,41 +13,8 @@ use Rattle.promises.specs.Files.Sound.{Bounded}
 use Rattle.tables.specs.Images.{sum_limit, BandSound}
 use Rattle.tables.specs.Limits.{add_limit, divided}
 use Rattle.tables.proofs.images.Laws.{band_here, band-here, band-small, band-inside}
-use Rattle.tables.proofs.levels.Laws.{filled_none, filled_more, filled-box}
+use Rattle.tables.proofs.levels.Laws.{filled_more, filled-box}
 use Rattle.tables.proofs.steps.divide.Goals as goal
-
-pub loop-i-init : goal.loop-i-init
-loop-i-init c = (omega arith, filled_none _ _ _)
-
-pub offset_bounds-slo-i : goal.offset_bounds-slo-i
-offset_bounds-slo-i c =
-    let index : ℕ = c.loop-i.i in
-    let few : index < 4 = let h = c.loop-i-test.true in let r = c.requires.step.0 in omega arith in
-    let f = few in omega arith
-
-pub bounds-slo-i : goal.bounds-slo-i
-bounds-slo-i c =
-    let index : ℕ = c.loop-i.i in
-    let few : index < 4 = let h = c.loop-i-test.true in let r = c.requires.step.0 in omega arith in
-    few
-
-pub offset_bounds-shi-i : goal.offset_bounds-shi-i
-offset_bounds-shi-i c =
-    let index : ℕ = c.loop-i.i in
-    let few : index < 4 = let h = c.loop-i-test.true in let r = c.requires.step.0 in omega arith in
-    let f = few in omega arith
-
-pub bounds-shi-i : goal.bounds-shi-i
-bounds-shi-i c =
-    let index : ℕ = c.loop-i.i in
-    let few : index < 4 = let h = c.loop-i-test.true in let r = c.requires.step.0 in omega arith in
-    few
-
-pub band-band-requires : goal.band-band-requires
-band-band-requires c =
-    let index : ℕ = c.loop-i.i in
-    let band : BandSound c.args.n c.args.bands.now c.args.u index = c.requires.step.3 index c.loop-i-test.true in
-    omega (arith, band.inside)
 
 pub offset_bounds-bands-band : goal.offset_bounds-bands-band
 offset_bounds-bands-band c =
@@ -65,39 +32,6 @@ bounds-bands-band c =
     let within : c.band-band.result + 1 < length c.args.bands.now = let a = c.args in band-inside a.n a.bands.now a.u index c.band-band.result placed band in
     omega (arith, within)
 
-pub overflow_add-wh : goal.overflow_add-wh
-overflow_add-wh c =
-    let index : ℕ = c.loop-i.i in
-    let band : BandSound c.args.n c.args.bands.now c.args.u index = c.requires.step.3 index c.loop-i-test.true in
-    let placed : c.band-band.result ≡ band_start c.args.n c.args.u index = c.band-band.ensures in
-    let within : c.band-band.result + 1 < length c.args.bands.now = let a = c.args in band-inside a.n a.bands.now a.u index c.band-band.result placed band in
-    omega (arith, within)
-
-pub offset_bounds-bands-band-in-loop-i : goal.offset_bounds-bands-band-in-loop-i
-offset_bounds-bands-band-in-loop-i c =
-    let index : ℕ = c.loop-i.i in
-    let band : BandSound c.args.n c.args.bands.now c.args.u index = c.requires.step.3 index c.loop-i-test.true in
-    let placed : c.band-band.result ≡ band_start c.args.n c.args.u index = c.band-band.ensures in
-    let within : c.band-band.result + 1 < length c.args.bands.now = let a = c.args in band-inside a.n a.bands.now a.u index c.band-band.result placed band in
-    omega (arith, within)
-
-pub bounds-bands-band-in-loop-i : goal.bounds-bands-band-in-loop-i
-bounds-bands-band-in-loop-i c =
-    let index : ℕ = c.loop-i.i in
-    let band : BandSound c.args.n c.args.bands.now c.args.u index = c.requires.step.3 index c.loop-i-test.true in
-    let placed : c.band-band.result ≡ band_start c.args.n c.args.u index = c.band-band.ensures in
-    let within : c.band-band.result + 1 < length c.args.bands.now = let a = c.args in band-inside a.n a.bands.now a.u index c.band-band.result placed band in
-    within
-
-pub overflow_add-l : goal.overflow_add-l
-overflow_add-l c =
-    let index : ℕ = c.loop-i.i in
-    let band : BandSound c.args.n c.args.bands.now c.args.u index = c.requires.step.3 index c.loop-i-test.true in
-    let placed : c.band-band.result ≡ band_start c.args.n c.args.u index = c.band-band.ensures in
-    let small : Bounded band_limit (band_here c.args.n c.args.bands.now c.args.u index c.band-band.result placed) = let a = c.args in band-small a.n a.bands.now a.u index c.band-band.result placed band in
-    let low : Ex = let s = c.args in var (at s.slo.now index) add_limit (c.requires.sums.0 index c.loop-i-test.true).0 ⊕ var (at s.bands.now c.band-band.result) band_limit small.low in
-    need low tt
-
 pub ceiling-low-requires : goal.ceiling-low-requires
 ceiling-low-requires c =
     let index : ℕ = c.loop-i.i in
@@ -107,8 +41,8 @@ ceiling-low-requires c =
     let low : Ex = let s = c.args in var (at s.slo.now index) add_limit (c.requires.sums.0 index c.loop-i-test.true).0 ⊕ var (at s.bands.now c.band-band.result) band_limit small.low in
     (under low sum_limit tt, c.requires.step.1, c.requires.step.2)
 
-pub overflow_add-h : goal.overflow_add-h
-overflow_add-h c =
+pub overflow_add-shi : goal.overflow_add-shi
+overflow_add-shi c =
     let index : ℕ = c.loop-i.i in
     let band : BandSound c.args.n c.args.bands.now c.args.u index = c.requires.step.3 index c.loop-i-test.true in
     let placed : c.band-band.result ≡ band_start c.args.n c.args.u index = c.band-band.ensures in
@@ -124,21 +58,6 @@ floor-high-requires c =
     let small : Bounded band_limit (band_here c.args.n c.args.bands.now c.args.u index c.band-band.result placed) = let a = c.args in band-small a.n a.bands.now a.u index c.band-band.result placed band in
     let high : Ex = let s = c.args in var (at s.shi.now index) add_limit (c.requires.sums.0 index c.loop-i-test.true).1 ⊕ var (at s.bands.now (c.band-band.result + 1)) band_limit small.high in
     (under high sum_limit tt, c.requires.step.1, c.requires.step.2)
-
-pub put_side-requires : goal.put_side-requires
-put_side-requires c =
-    let index : ℕ = c.loop-i.i in
-    let few : index < 4 = let h = c.loop-i-test.true in let r = c.requires.step.0 in omega arith in
-    (c.requires.sums.1, few)
-
-pub overflow_add-i : goal.overflow_add-i
-overflow_add-i c =
-    let index : ℕ = c.loop-i.i in
-    let few : index < 4 = let h = c.loop-i-test.true in let r = c.requires.step.0 in omega arith in
-    let f = few in omega arith
-
-pub loop-i-smaller : goal.loop-i-smaller
-loop-i-smaller c = let h = c.loop-i-test.true in omega arith
 
 pub loop-i-preserved : goal.loop-i-preserved
 loop-i-preserved c =

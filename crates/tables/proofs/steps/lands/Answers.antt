@@ -1,6 +1,6 @@
 -- `steps::lands`: where the last row leaves the limits the image does, and otherwise all rows are tried. Assumes nothing.
 use Prim.Native.Nat.{ℕ, ◌-◌, ◌≤◌, ◌<◌}
-use mathlib.Core.Path.{◌≡◌, refl, sym, ap, ◌∙◌}
+use mathlib.Core.Path.{◌≡◌, sym, ap, ◌∙◌}
 use mathlib.Core.Bool.{Bool}
 use mathlib.Core.List.{List}
 use native.Mathlib.Omega.{arith}
@@ -8,54 +8,18 @@ use lib.IntN.{ℤ, nat_abs, ◌+ℤ◌}
 use lib.ListN.{length, take, drop}
 use lib.Seq.{take_all}
 use Rattle.laws.specs.Lists.{at}
-use Rattle.laws.specs.Expressions.{Ex, var, ◌⊕◌, need, exact}
+use Rattle.laws.specs.Expressions.{Ex, var, ◌⊕◌, exact}
 use Rattle.meaning.specs.Boxes.{Side, side, covers}
 use Rattle.meaning.specs.Plants.{offset_limit, row_start}
 use Rattle.tables.specs.Images.{row_limit, RowSound}
 use Rattle.tables.specs.Levels.{side_in, box_in}
-use Rattle.tables.specs.Limits.{goal_at, offset_at, last_offset, sums_at, covered, covered_at}
+use Rattle.tables.specs.Limits.{goal_at, offset_at, last_offset, sums_at, covered_at}
 use Rattle.tables.proofs.steps.Laws.{sides-are, one-fails}
 use Rattle.tables.proofs.steps.lands.Goals as goal
 
 -- a part from the first number on is the whole
 whole_part : (l : List ℤ) → take (length l - 0) (drop 0 l) ≡ l
 whole_part l = take_all (length l - 0) (drop 0 l) (omega arith)
-
-pub overflow_add-e : goal.overflow_add-e
-overflow_add-e c =
-    let index : ℕ = c.args.n - 1 in
-    let inside-rows : index < c.args.n = let k = c.requires.row.1 in omega arith in
-    let last_row : RowSound c.args.n c.args.coef.now (row_start c.args.n c.args.u index) = c.requires.row.2 index inside-rows in
-    let offset : ℤ = at c.args.marks.now (offset_at c.args.u) in
-    let small : nat_abs offset ≤ offset_limit = rw c.requires.last.1 last_row.offset in
-    let least : Ex = var c.args.e.lo row_limit c.requires.last.0.low ⊕ var offset offset_limit small in
-    need least tt
-
-pub overflow_add-e-2 : goal.overflow_add-e-2
-overflow_add-e-2 c =
-    let index : ℕ = c.args.n - 1 in
-    let inside-rows : index < c.args.n = let k = c.requires.row.1 in omega arith in
-    let last_row : RowSound c.args.n c.args.coef.now (row_start c.args.n c.args.u index) = c.requires.row.2 index inside-rows in
-    let offset : ℤ = at c.args.marks.now (offset_at c.args.u) in
-    let small : nat_abs offset ≤ offset_limit = rw c.requires.last.1 last_row.offset in
-    let greatest : Ex = var c.args.e.hi row_limit c.requires.last.0.high ⊕ var offset offset_limit small in
-    need greatest tt
-
-pub inside-requires : goal.inside-requires
-inside-requires c =
-    let index : ℕ = c.args.n - 1 in
-    let inside-rows : index < c.args.n = let k = c.requires.row.1 in omega arith in
-    let last_row : RowSound c.args.n c.args.coef.now (row_start c.args.n c.args.u index) = c.requires.row.2 index inside-rows in
-    (c.requires.row.0, omega (arith, inside-rows, last_row.rooms))
-
-pub stays-requires : goal.stays-requires
-stays-requires c =
-    record { rows = (c.requires.row.2, rw (whole_part c.args.limits.now) c.requires.row.0); edges = (c.requires.row.3, c.requires.row.4, refl, refl) }
-
-pub returns-then-inside : goal.returns-then-inside
-returns-then-inside c =
-    let a = c.args in
-    c.stays.ensures.stays ∙ ap (λ (l : List ℤ). covered a.n a.coef.now l (goal_at a.u) a.u (box_in a.n a.boxes.now a.place)) (whole_part a.limits.now)
 
 pub returns : goal.returns
 returns c =

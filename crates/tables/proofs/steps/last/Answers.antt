@@ -5,10 +5,8 @@ use mathlib.Core.Bool.{Bool}
 use mathlib.Core.List.{List, []}
 use mathlib.Core.Option.{Option, none, some}
 use native.Mathlib.Omega.{arith}
-use native.Mathlib.Nat.{sub-zero}
 use borrow.Author.Tests.{lt-ltb, le-ltb}
 use Rattle.laws.specs.Guards.{guard}
-use Rattle.meaning.specs.Defined.{first_mode}
 use Rattle.tables.specs.Levels.{box_in}
 use Rattle.tables.specs.Limits.{landing}
 use Rattle.tables.specs.Search.{picked}
@@ -19,11 +17,6 @@ use Rattle.tables.proofs.steps.last.Goals as goal
 abbrev behind : Bool → Option (List ℕ)
 behind c = guard c none λ _. some []
 
-pub loop-u-init : goal.loop-u-init
-loop-u-init c =
-    let try : ℕ → Option (List ℕ) = let a = c.args in landing a.n a.coef.now a.limits.now (box_in a.n a.boxes.now a.place) in
-    (omega arith, λ h. absurd (omega arith), ap (λ (i : ℕ). first_mode try i 0) (sub-zero _))
-
 pub shared-e-requires : goal.shared-e-requires
 shared-e-requires c =
     let l = c.loop-u in
@@ -31,27 +24,15 @@ shared-e-requires c =
     let room = c.requires.rows.3.room in
     record { row = (omega arith, c.requires.rows.0, c.requires.rows.1 l.u h, c.requires.edges.0, c.requires.edges.1); kept = λ z. let m = (c.requires.rows.3.marked l.u h).shared z in rw (← m.1) (l.invariant.1 m.0) }
 
-pub lands-requires : goal.lands-requires
-lands-requires c =
-    let h = c.loop-u-test.true in
-    let m = c.requires.rows.3 in
-    record { row = (omega (arith, c.requires.rows.2), c.requires.rows.0, c.requires.rows.1 c.loop-u.u c.loop-u-test.true, c.requires.edges.0, c.requires.edges.1); last = (c.shared-e.ensures, (m.marked c.loop-u.u h).offset, omega (arith, m.room)) }
-
-pub returns-then-lands : goal.returns-then-lands
-returns-then-lands c =
+pub returns-then-lands-clause-found : goal.returns-then-lands-clause-found
+returns-then-lands-clause-found c =
     let try : ℕ → Option (List ℕ) = let a = c.args in landing a.n a.coef.now a.limits.now (box_in a.n a.boxes.now a.place) in
     let u = c.loop-u.u in
-    let h = c.loop-u-test.true in record {
-      first = ap (λ (b : Bool). picked b u) (lt-ltb u c.args.count h)
-          ∙ sym (modes-hit try c.args.count u h [] (ap behind (sym c.lands.ensures ∙ c.if-lands.true))) ∙ c.loop-u.invariant.2;
-      size = omega arith;
-    }
-
-pub overflow_add-u : goal.overflow_add-u
-overflow_add-u c = let h = c.loop-u-test.true in omega arith
-
-pub loop-u-smaller : goal.loop-u-smaller
-loop-u-smaller c = let h = c.loop-u-test.true in omega arith
+    let h = c.loop-u-test.true in (
+      h,
+      ap (λ (b : Bool). picked b u) (lt-ltb u c.args.count h)
+          ∙ sym (modes-hit try c.args.count u h [] (ap behind (sym c.lands.ensures ∙ c.if-lands.true))) ∙ c.loop-u.invariant.2,
+    )
 
 pub loop-u-preserved : goal.loop-u-preserved
 loop-u-preserved c =
@@ -64,9 +45,8 @@ loop-u-preserved c =
       sym (modes-miss try c.args.count u h (ap behind (sym c.lands.ensures ∙ c.if-lands.false))) ∙ c.loop-u.invariant.2,
     )
 
-pub returns : goal.returns
-returns c =
-    let try : ℕ → Option (List ℕ) = let a = c.args in landing a.n a.coef.now a.limits.now (box_in a.n a.boxes.now a.place) in
-    let u = c.loop-u.u in
-    let h = c.loop-u-test.false in
-    record { first = ap (λ (b : Bool). picked b u) (le-ltb u c.args.count h) ∙ sym (modes-over try c.args.count u h) ∙ c.loop-u.invariant.2; size = c.loop-u.invariant.0 }
+pub returns-clause-none : goal.returns-clause-none
+returns-clause-none c =
+    let a = c.args in
+    let try : ℕ → Option (List ℕ) = landing a.n a.coef.now a.limits.now (box_in a.n a.boxes.now a.place) in
+    ap (λ (b : Bool). picked b a.count) (le-ltb a.count a.count (omega arith)) ∙ sym (modes-over try a.count c.loop-u.u c.loop-u-test.false) ∙ c.loop-u.invariant.2

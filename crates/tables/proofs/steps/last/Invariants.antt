@@ -11,6 +11,3 @@ abbrev pub invariant-loop-u : goal.invariant-loop-u
 invariant-loop-u l =
     (l.u ≤ l.count) × (1 ≤ l.u → Extremes (last_entries l.n l.coef (l.u - 1)) (box_in l.n l.boxes l.place) l.e.lo l.e.hi)
     × (first_mode (landing l.n l.coef l.limits (box_in l.n l.boxes l.place)) (l.count - l.u) l.u ≡ first_mode (landing l.n l.coef l.limits (box_in l.n l.boxes l.place)) l.count 0)
-
-abbrev pub decreases-loop-u : goal.decreases-loop-u
-decreases-loop-u l = l.count - l.u

@@ -6,72 +6,31 @@ use native.Mathlib.Omega.{arith}
 use lib.ListN.{length, length-set}
 use Rattle.laws.specs.Lists.{tab}
 use Rattle.laws.specs.Expressions.{Ex, var, mach, exact, under}
-use Rattle.laws.specs.Tests.{never, hold-none, hold-more, fails-here, all_hold}
+use Rattle.laws.specs.Tests.{hold-none, hold-more, fails-here, all_hold}
 use Rattle.meaning.specs.Boxes.{Side, covers}
 use Rattle.meaning.specs.Plants.{row_start}
 use Rattle.tables.specs.Images.{RowSound}
 use Rattle.tables.specs.Levels.{side_in, box_in}
 use Rattle.tables.specs.Limits.{add_limit, sums_at, covered_at}
 use Rattle.tables.proofs.images.Laws.{image-more, image-done}
-use Rattle.tables.proofs.steps.Laws.{within_none, within_more}
+use Rattle.tables.proofs.steps.Laws.{within_more}
 use Rattle.tables.proofs.steps.stays.Goals as goal
 
 pub loop-i-init : goal.loop-i-init
 unfolding tab
 loop-i-init c =
     let test : ℕ → Bool = let a = c.args in covered_at a.n a.coef.now a.limits.now a.base a.u (box_in a.n a.boxes.now a.place) in
-    (c.requires.edges.2, c.requires.edges.3, refl, hold-none test c.args.n, within_none add_limit c.args.slo.now c.args.shi.now)
+    (refl, refl, refl, hold-none test c.args.n, λ i h. absurd (omega arith))
 
-pub overflow_mul-u : goal.overflow_mul-u
-overflow_mul-u c = let r = c.requires.rows.0 c.loop-i.i c.loop-i-test.true in omega (arith, r.inside)
-
-pub overflow_add-u : goal.overflow_add-u
-overflow_add-u c = let r = c.requires.rows.0 c.loop-i.i c.loop-i-test.true in omega (arith, r.inside)
-
-pub overflow_add-n : goal.overflow_add-n
-overflow_add-n c = let r = c.requires.rows.0 c.loop-i.i c.loop-i-test.true in omega (arith, r.rooms)
-
-pub overflow_mul-u-in-loop-i : goal.overflow_mul-u-in-loop-i
-overflow_mul-u-in-loop-i c = let r = c.requires.rows.0 c.loop-i.i c.loop-i-test.true in omega (arith, r.inside)
-
-pub sums-s-requires : goal.sums-s-requires
-sums-s-requires c = (c.requires.rows.0 c.loop-i.i c.loop-i-test.true, c.requires.edges.0, c.requires.edges.1)
-
-pub inside-requires : goal.inside-requires
-inside-requires c =
-    let r = c.requires.rows.0 c.loop-i.i c.loop-i-test.true in
-    let h = c.loop-i-test.true in
-    (c.requires.rows.1, omega (arith, r.rooms))
-
-pub offset_bounds-slo-i : goal.offset_bounds-slo-i
-offset_bounds-slo-i c =
+pub returns-then-not-inside-clause-stays : goal.returns-then-not-inside-clause-stays
+returns-then-not-inside-clause-stays c =
+    let test : ℕ → Bool = let a = c.args in covered_at a.n a.coef.now a.limits.now a.base a.u (box_in a.n a.boxes.now a.place) in
     let index : ℕ = c.loop-i.i in
-    let row : RowSound c.args.n c.args.coef.now (row_start c.args.n c.args.u index) = c.requires.rows.0 index c.loop-i-test.true in
-    let r = row in let h = c.loop-i-test.true in omega (arith, r.rooms)
-
-pub bounds-slo-i : goal.bounds-slo-i
-bounds-slo-i c =
-    let index : ℕ = c.loop-i.i in
-    let row : RowSound c.args.n c.args.coef.now (row_start c.args.n c.args.u index) = c.requires.rows.0 index c.loop-i-test.true in
-    let r = row in let h = c.loop-i-test.true in omega (arith, r.rooms)
-
-pub offset_bounds-shi-i : goal.offset_bounds-shi-i
-offset_bounds-shi-i c =
-    let index : ℕ = c.loop-i.i in
-    let row : RowSound c.args.n c.args.coef.now (row_start c.args.n c.args.u index) = c.requires.rows.0 index c.loop-i-test.true in
-    let r = row in let h = c.loop-i-test.true in omega (arith, r.rooms)
-
-pub bounds-shi-i : goal.bounds-shi-i
-bounds-shi-i c =
-    let index : ℕ = c.loop-i.i in
-    let row : RowSound c.args.n c.args.coef.now (row_start c.args.n c.args.u index) = c.requires.rows.0 index c.loop-i-test.true in
-    let r = row in let h = c.loop-i-test.true in omega (arith, r.rooms)
-
-pub overflow_add-i : goal.overflow_add-i
-overflow_add-i c = let h = c.loop-i-test.true in omega arith
-
-pub loop-i-smaller : goal.loop-i-smaller
-loop-i-smaller c = let h = c.loop-i-test.true in omega arith
+    let least : Ex = let w = c.sums-s in var w.result.lo add_limit w.ensures.sizes.0 in
+    let greatest : Ex = let w = c.sums-s in var w.result.hi add_limit w.ensures.sizes.1 in
+    let tested : c.inside.result ≡ test index = (rw (exact least tt, exact greatest tt) at c.inside.ensures) ∙ ap (λ (z : Side). covers (side_in c.args.limits.now c.args.base index) z) c.sums-s.ensures.sides in
+    let l = c.loop-i in
+    fails-here l.invariant.3 c.loop-i-test.true (sym tested ∙ c.if-not-inside.true)
 
 pub loop-i-preserved : goal.loop-i-preserved
 loop-i-preserved c =
@@ -86,28 +45,18 @@ loop-i-preserved c =
     let h = c.loop-i-test.true in
     let r = row in
     let w = c.sums-s in
-    let a : l.i < length l.slo = omega (arith, l.invariant.0, r.rooms) in
-    let b : l.i < length l.shi = omega (arith, l.invariant.1, r.rooms) in (
+    let a : l.i < length l.lo = omega (arith, l.invariant.0, r.rooms) in
+    let b : l.i < length l.hi = omega (arith, l.invariant.1, r.rooms) in (
       simp length-set l.invariant.0,
       simp length-set l.invariant.1,
-      image-more sides l.slo l.shi l.i _ _ a b (rw (exact least tt, exact greatest tt) w.ensures.sides) l.invariant.2,
-      hold-more l.invariant.3 h (sym tested ∙ c.if-inside.true),
-      within_more l.slo l.shi (mach least) (mach greatest) a b l.invariant.4 (under least add_limit tt) (under greatest add_limit tt),
+      image-more sides l.lo l.hi l.i _ _ a b (rw (exact least tt, exact greatest tt) w.ensures.sides) l.invariant.2,
+      hold-more l.invariant.3 h (sym tested ∙ c.if-not-inside.false),
+      within_more l.lo l.hi (mach least) (mach greatest) a b l.invariant.4 (under least add_limit tt) (under greatest add_limit tt),
     )
-
-pub returns-else-inside : goal.returns-else-inside
-returns-else-inside c =
-    let test : ℕ → Bool = let a = c.args in covered_at a.n a.coef.now a.limits.now a.base a.u (box_in a.n a.boxes.now a.place) in
-    let index : ℕ = c.loop-i.i in
-    let least : Ex = let w = c.sums-s in var w.result.lo add_limit w.ensures.sizes.0 in
-    let greatest : Ex = let w = c.sums-s in var w.result.hi add_limit w.ensures.sizes.1 in
-    let tested : c.inside.result ≡ test index = (rw (exact least tt, exact greatest tt) at c.inside.ensures) ∙ ap (λ (z : Side). covers (side_in c.args.limits.now c.args.base index) z) c.sums-s.ensures.sides in
-    let l = c.loop-i in
-    record { stays = fails-here l.invariant.3 c.loop-i-test.true (sym tested ∙ c.if-inside.false); sums = λ e. never e; sizes = λ e. never e }
 
 pub returns : goal.returns
 returns c =
     let sides : ℕ → Side = let a = c.args in sums_at a.n a.coef.now a.u (box_in a.n a.boxes.now a.place) in
     let l = c.loop-i in
     let few = c.loop-i.invariant.3.few in
-    let q : l.i ≡ c.args.n = omega arith in record { stays = all_hold l.invariant.3 c.loop-i-test.false; sums = λ e. image-done sides l.slo l.shi c.args.n l.i q l.invariant.2; sizes = λ e. λ j h. l.invariant.4 j (omega arith) }
+    let q : l.i ≡ c.args.n = omega arith in record { stays = all_hold l.invariant.3 c.loop-i-test.false; sums = image-done sides l.lo l.hi c.args.n l.i q l.invariant.2; sizes = λ j h. l.invariant.4 j (omega arith) }

@@ -1,5 +1,4 @@
 -- `steps::stays`: the first i rows hold, and their sums are stored. Assumes nothing.
-use Prim.Native.Nat.{◌-◌}
 use mathlib.Core.Path.{◌≡◌}
 use lib.ListN.{length}
 use Rattle.laws.specs.Lists.{tab}
@@ -11,7 +10,4 @@ use Rattle.tables.proofs.steps.stays.Given as goal
 
 abbrev pub invariant-loop-i : goal.invariant-loop-i
 invariant-loop-i l =
-    (length l.slo ≡ 4) × (length l.shi ≡ 4) × (tab (side_at l.slo l.shi) l.i 0 ≡ tab (sums_at l.n l.coef l.u (box_in l.n l.boxes l.place)) l.i 0) × HoldUpTo (covered_at l.n l.coef l.limits l.base l.u (box_in l.n l.boxes l.place)) l.n l.i × Within add_limit l.i l.slo l.shi
-
-abbrev pub decreases-loop-i : goal.decreases-loop-i
-decreases-loop-i l = l.n - l.i
+    (length l.lo ≡ 4) × (length l.hi ≡ 4) × (tab (side_at l.lo l.hi) l.i 0 ≡ tab (sums_at l.n l.coef l.u (box_in l.n l.boxes l.place)) l.i 0) × HoldUpTo (covered_at l.n l.coef l.limits l.base l.u (box_in l.n l.boxes l.place)) l.n l.i × Within add_limit l.i l.lo l.hi

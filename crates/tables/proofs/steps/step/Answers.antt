@@ -1,42 +1,20 @@
 -- `steps::step`: the sums stay within the limits, and what they are divided to is the image. Assumes nothing.
-use Prim.Native.Nat.{◌+◌}
-use mathlib.Core.Path.{refl, sym, ap, ◌∙◌}
+use mathlib.Core.Path.{ap, ◌∙◌}
 use native.Mathlib.Omega.{arith}
 use Rattle.laws.specs.Tabs.{tab-same}
-use Rattle.laws.specs.Tests.{never}
 use Rattle.meaning.specs.Boxes.{Side, side_at}
-use Rattle.tables.specs.Levels.{wide, box_in}
+use Rattle.tables.specs.Levels.{box_in}
 use Rattle.meaning.specs.Plants.{band_side}
 use Rattle.tables.specs.Limits.{divided, sums_at, divided_in, divided_at}
-use Rattle.tables.proofs.levels.Laws.{beside_none}
 use Rattle.tables.proofs.steps.Laws.{tab-entry}
 use Rattle.tables.proofs.steps.step.Goals as goal
 
-pub stays-requires : goal.stays-requires
-stays-requires c = record { rows = (c.requires.step.0, c.requires.step.5); edges = (omega (arith, c.requires.edges.0), c.requires.edges.1, refl, refl) }
-
-pub divide-requires : goal.divide-requires
-divide-requires c =
-    let p = c.requires.step in
-    record { step = (p.1, p.2, p.3, p.4); sums = (c.stays.ensures.sizes c.if-stays.true, c.requires.edges.0, c.requires.edges.2) }
-
-pub returns-then-stays : goal.returns-then-stays
-returns-then-stays c =
+pub returns-in-Some-clause-image : goal.returns-in-Some-clause-image
+returns-in-Some-clause-image c = λ e.
     let a = c.args in
-    let t = c.if-stays.true in
     let box = box_in a.n a.boxes.now a.place in
-    let slo = c.stays.new.slo in
-    let shi = c.stays.new.shi in
-    let sums = c.stays.ensures.sums t in record {
-      stays = sym t ∙ c.stays.ensures.stays;
-      image = λ e. c.divide.ensures.sides
-          ∙ tab-same (divided_in a.n a.q a.bands.now a.u slo shi) (divided_at a.n a.q a.bands.now a.coef.now a.u box) a.n 0
-          (λ i l h. ap (λ (z : Side). divided a.q (band_side a.n a.bands.now a.u i) z) (tab-entry (side_at slo shi) (sums_at a.n a.coef.now a.u box) a.n i sums (omega arith)));
-      beside = c.divide.ensures.beside;
-      untouched = λ e. never (sym e);
-    }
-
-pub returns : goal.returns
-returns c =
-    let a = c.args in
-    record { stays = sym c.if-stays.false ∙ c.stays.ensures.stays; image = λ e. never e; beside = beside_none (a.place + wide) a.boxes.now; untouched = λ e. refl }
+    let lo = c.in-Some.sums.lo in
+    let hi = c.in-Some.sums.hi in
+    c.divide.ensures.sides
+    ∙ tab-same (divided_in a.n a.q a.bands.now a.u lo hi) (divided_at a.n a.q a.bands.now a.coef.now a.u box) a.n 0
+    (λ i l h. ap (λ (z : Side). divided a.q (band_side a.n a.bands.now a.u i) z) (tab-entry (side_at lo hi) (sums_at a.n a.coef.now a.u box) a.n i c.in-Some.ensures.sums (omega arith)))

@@ -1,10 +1,9 @@
 -- `tiles::tile_rule`: the rule from the present box on, over the modes that are left, is the whole. Assumes nothing.
-use mathlib.Core.Path.{◌≡◌, refl, sym, ap, ◌∙◌}
+use mathlib.Core.Path.{◌≡◌, sym, ap, ◌∙◌}
 use mathlib.Core.List.{List}
 use Prim.Native.Nat.{ℕ, ◌<◌}
 use native.Mathlib.Omega.{arith}
 use lib.IntN.{ℤ}
-use Rattle.laws.specs.Tabs.{tab-all}
 use Rattle.meaning.specs.declared.Tried.TheVariants.{Misses}
 use Rattle.meaning.specs.Boxes.{Side}
 use Rattle.meaning.specs.Rules.{Rules}
@@ -18,16 +17,6 @@ use Rattle.tables.proofs.frames.Laws.{step-in}
 use Rattle.tables.proofs.tiles.Laws.{rule-works, rule-misses, tile-leaves, tile-more, tile-small}
 use Rattle.tables.proofs.tiles.tile_rule.Goals as goal
 
-pub loop-i-init : goal.loop-i-init
-loop-i-init c =
-    (omega arith, c.requires.plant.1, rw (tab-all (mode_at c.args.us) c.args.k) refl)
-
-pub offset_bounds-us-i : goal.offset_bounds-us-i
-offset_bounds-us-i c = omega (arith, c.requires.pattern.longest)
-
-pub bounds-us-i : goal.bounds-us-i
-bounds-us-i c = omega (arith, c.requires.pattern.longest)
-
 pub image-c-requires : goal.image-c-requires
 image-c-requires c =
     let bands : List ℤ = c.args.bands.now in
@@ -38,14 +27,16 @@ image-c-requires c =
     let l = c.loop-i in
     (sound l.i c.loop-i-test.true, l.invariant.1)
 
-pub within-requires : goal.within-requires
-within-requires c = c.requires.plant.0.0.rooms
-
-pub overflow_add-i : goal.overflow_add-i
-overflow_add-i c = let h = c.loop-i-test.true in let k = c.requires.pattern.longest in omega arith
-
-pub loop-i-smaller : goal.loop-i-smaller
-loop-i-smaller c = let h = c.loop-i-test.true in omega arith
+pub returns-then-not-within : goal.returns-then-not-within
+returns-then-not-within c =
+    let bands : List ℤ = c.args.bands.now in
+    let coef : List ℤ = c.args.coef.now in
+    let frame : Frame = frame_from c.args.f c.args.edges.now in
+    let modes : ℕ → ℕ = mode_at c.args.us in
+    let box : Bx → List Side = λ b. box_of c.args.f.n b in
+    let l = c.loop-i in
+    let e = sym c.within.ensures ∙ c.if-not-within.true in
+    sym (tile-leaves frame bands coef modes c.args.k l.i (box l.c) (box c.image-c.result) c.loop-i-test.true c.image-c.ensures e) ∙ l.invariant.2
 
 pub loop-i-preserved : goal.loop-i-preserved
 loop-i-preserved c =
@@ -56,31 +47,14 @@ loop-i-preserved c =
     let box : Bx → List Side = λ b. box_of c.args.f.n b in
     let l = c.loop-i in
     let h = c.loop-i-test.true in
-    let e = sym c.within.ensures ∙ c.if-within.true in (
+    let e = sym c.within.ensures ∙ c.if-not-within.false in (
       omega arith,
       tile-small frame bands coef modes c.args.k l.i (box l.c) (box c.image-c.result) h c.image-c.ensures e c.requires.plant.0 (c.requires.pattern.each l.i h) l.invariant.1,
       sym (tile-more frame bands coef modes c.args.k l.i (box l.c) (box c.image-c.result) h c.image-c.ensures e) ∙ l.invariant.2,
     )
 
-pub overflow_add-result : goal.overflow_add-result
-overflow_add-result c = let h = c.loop-i-test.true in let k = c.requires.pattern.longest in omega arith
-
-pub returns-else-within : goal.returns-else-within
-returns-else-within c =
-    let bands : List ℤ = c.args.bands.now in
-    let coef : List ℤ = c.args.coef.now in
-    let frame : Frame = frame_from c.args.f c.args.edges.now in
-    let modes : ℕ → ℕ = mode_at c.args.us in
-    let box : Bx → List Side = λ b. box_of c.args.f.n b in
-    let l = c.loop-i in
-    let e = sym c.within.ensures ∙ c.if-within.false in
-    sym (tile-leaves frame bands coef modes c.args.k l.i (box l.c) (box c.image-c.result) c.loop-i-test.true c.image-c.ensures e) ∙ l.invariant.2
-
-pub within-requires-2 : goal.within-requires-2
-within-requires-2 c = c.requires.plant.0.0.rooms
-
-pub returns-then-within-2 : goal.returns-then-within-2
-returns-then-within-2 c =
+pub returns-then-within : goal.returns-then-within
+returns-then-within c =
     let bands : List ℤ = c.args.bands.now in
     let coef : List ℤ = c.args.coef.now in
     let frame : Frame = frame_from c.args.f c.args.edges.now in
@@ -88,10 +62,10 @@ returns-then-within-2 c =
     let modes : ℕ → ℕ = mode_at c.args.us in
     let box : Bx → List Side = λ b. box_of c.args.f.n b in
     let l = c.loop-i in
-    sym (rule-works rules modes c.args.k l.i (box l.c) c.loop-i-test.false (sym c.within-2.ensures ∙ c.if-within-2.true)) ∙ l.invariant.2
+    sym (rule-works rules modes c.args.k l.i (box l.c) c.loop-i-test.false (sym c.within-2.ensures ∙ c.if-within.true)) ∙ l.invariant.2
 
-pub returns-else-within-2 : goal.returns-else-within-2
-returns-else-within-2 c =
+pub returns-else-within : goal.returns-else-within
+returns-else-within c =
     let bands : List ℤ = c.args.bands.now in
     let coef : List ℤ = c.args.coef.now in
     let frame : Frame = frame_from c.args.f c.args.edges.now in
@@ -100,4 +74,4 @@ returns-else-within-2 c =
     let box : Bx → List Side = λ b. box_of c.args.f.n b in
     let l = c.loop-i in
     let q : c.args.k ≡ l.i = omega arith in
-    ap Misses q ∙ sym (rule-misses rules modes c.args.k l.i (box l.c) c.loop-i-test.false (sym c.within-2.ensures ∙ c.if-within-2.false)) ∙ l.invariant.2
+    ap Misses q ∙ sym (rule-misses rules modes c.args.k l.i (box l.c) c.loop-i-test.false (sym c.within-2.ensures ∙ c.if-within.false)) ∙ l.invariant.2

@@ -13,6 +13,3 @@ abbrev pub invariant-loop-i : goal.invariant-loop-i
 invariant-loop-i l =
     (l.i ≤ l.k) × Small edge_limit (box_of l.f.n l.c)
     × (rule_from (rules_in (frame_from l.f l.edges) l.bands l.coef) l.i (box_of l.f.n l.c) (tab (mode_at l.us) (l.k - l.i) l.i) ≡ rule (rules_in (frame_from l.f l.edges) l.bands l.coef) (box_of l.f.n l.initial.c) (pattern_of l.k l.us))
-
-abbrev pub decreases-loop-i : goal.decreases-loop-i
-decreases-loop-i l = l.k - l.i
