@@ -3,7 +3,7 @@
 use Rattle.std.specs.Prelude.{ℕ, ◌≡◌, refl, Bool, true, false, List, [], ◌∷◌, ◌++◌, map, ℤ, Float, Ok, Err}
 use Rattle.laws.specs.Guards.{guard}
 use Rattle.laws.specs.Lists.{tabs, all, first_false}
-use Rattle.meaning.specs.Answers.{Verdict, SheetRead}
+use Rattle.meaning.specs.Answers.{SheetRead}
 use Rattle.meaning.specs.declared.Room.{Room}
 use Rattle.meaning.specs.declared.Sheet.{Sheet}
 use Rattle.meaning.specs.Refusals.{not_in_safe, narrow}
@@ -101,12 +101,9 @@ sheet_beginning h = record {
 
 -- ---- the numbers of a sheet that was taken are in range
 
-abbrev pub SizedAs : Sheet → Verdict → Type 0
-SizedAs h (Ok _) = Sized h
-SizedAs h (Err e) = Unit {0}
-
 abbrev pub TakenSized : SheetRead → Type 0
-TakenSized r = SizedAs r.sheet r.verdict
+TakenSized (Ok h) = Sized h
+TakenSized (Err e) = Unit {0}
 
 -- ---- drafted: the two floats and the rooms behind the beginning
 

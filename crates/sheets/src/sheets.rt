@@ -57,29 +57,15 @@ fn read_body(
     ensures value { result ≡ body_read s.now b at }
     ensures sized { TakenSized result }
 {
-    match floats::read_two(s, at, Asked::Above) {
-        Err(e) => Err(e),
-        Ok((time, outside, mid)) => {
-            let n = b.n;
-            let read = rooms::read_rooms(s, mid, n);
-            let past = read.answer;
-            match past {
-                Err(e) => Err(e),
-                Ok(next) => {
-                    if next != s.len() {
-                        return Err(files::refusals::unfit(next));
-                    }
-                    match related {
-                        Err(e) => Err(e),
-                        Ok(()) => {
-                            let rooms = read.rooms;
-                            accepted(b, time, outside, rooms)
-                        }
-                    }
-                }
-            }
-        }
+    let (time, outside, mid) = floats::read_two(s, at, Asked::Above)?;
+    let read = rooms::read_rooms(s, mid, b.n);
+    let next = read.answer?;
+    if next != s.len() {
+        return Err(files::refusals::unfit(next));
     }
+    related?;
+    let rooms = read.rooms;
+    accepted(b, time, outside, rooms)
 }
 
 // A sheet's file, judged in order up to and with 5. The numbers of one that is taken are in range, which what is made of them relies on.
@@ -115,10 +101,7 @@ fn fitted(h: Sheet) -> Result<Sheet, Refusal>
 pub fn read_sheet(s: &[u8]) -> Result<Sheet, Refusal>
     ensures { result ≡ sheet_read s.now }
 {
-    match read_values(s) {
-        Err(e) => Err(e),
-        Ok(h) => fitted(h),
-    }
+    fitted(read_values(s)?)
 }
 
 // The file that the values would be, as far as there is room; the place behind it. Where n or r is out of range what follows is left out: the header is refused first.
