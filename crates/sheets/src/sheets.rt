@@ -58,13 +58,11 @@ fn read_body(
     ensures sized { TakenSized result }
 {
     let (time, outside, mid) = floats::read_two(s, at, Asked::Above)?;
-    let read = rooms::read_rooms(s, mid, b.n);
-    let next = read.answer?;
+    let (rooms, next) = rooms::read_rooms(s, mid, b.n)?;
     if next != s.len() {
         return Err(files::refusals::unfit(next));
     }
     related?;
-    let rooms = read.rooms;
     accepted(b, time, outside, rooms)
 }
 
