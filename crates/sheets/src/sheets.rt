@@ -5,11 +5,12 @@ ghost use Rattle.laws.specs.Writing.{Put};
 ghost use Rattle.meaning.specs.Files.{good, bad};
 ghost use Rattle.meaning.specs.Sheets.{sheet_read_of, sheet_read, sheet_left, made_left};
 ghost use Rattle.files.specs.Beginnings.{relation, Begun};
-ghost use Rattle.sheets.specs.Sheets.{unfitted, then_fitting, body_read, sheet_with, TakenSized, sheet_draft};
+ghost use Rattle.sheets.specs.Sheets.{unfitted, then_fitting, body_read, sheet_with, TakenSized, sheet_draft, planned_of};
 ghost use Rattle.sheets.specs.Sizes.{Sized};
 
 use crate::floats::Asked;
-use crate::{floats, made, refusals, rooms};
+use crate::made::Made;
+use crate::{floats, made, rooms};
 use files::beginnings::Beginning;
 use files::{beginnings, buffers, plants};
 use meaning::{Refusal, Room, Sheet};
@@ -88,11 +89,8 @@ fn fitted(h: Sheet) -> Result<Sheet, Refusal>
     requires { Sized h }
     ensures { result ≡ sheet_read_of (then_fitting (good h)) }
 {
-    let made = made::make(h);
-    if made.fits {
-        return Ok(h);
-    }
-    Err(refusals::bad_result(made.place))
+    made::make(h)?;
+    Ok(h)
 }
 
 // A sheet's file, judged in order: number, place and step of the first fault, or the sheet.
@@ -152,20 +150,20 @@ pub fn write_sheet(h: Sheet, buf: &mut [u8]) -> Result<usize, Refusal>
     buffers::leave(read_sheet(file), file, buf)
 }
 
+// The plant of a sheet's file, judged as the sheet, with its arrays.
+fn planned(sheet: &[u8]) -> Result<Made, Refusal>
+    ensures { result ≡ planned_of sheet.now }
+{
+    made::make(read_values(sheet)?)
+}
+
 // The plant file of a sheet's file, judged as the sheet, then 10. Finished, only the file's bytes are changed; refused, the buffer is all zeros.
 pub fn make_plant(sheet: &[u8], buf: &mut [u8]) -> Result<usize, Refusal>
     ensures answer { result ≡ (made_left sheet.now buf.old).answer }
     ensures bytes { buf.new ≡ (made_left sheet.now buf.old).buffer }
 {
-    match read_values(sheet) {
+    match planned(sheet) {
         Err(e) => buffers::refuse(e, buf),
-        Ok(h) => {
-            let made = made::make(h);
-            if made.fits {
-                let outline = made.outline;
-                return plants::write_plant(outline, &made.ends, &made.coef, buf);
-            }
-            buffers::refuse(refusals::bad_result(made.place), buf)
-        }
+        Ok(made) => plants::write_plant(made.outline, &made.ends, &made.coef, buf),
     }
 }
