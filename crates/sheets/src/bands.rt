@@ -35,13 +35,7 @@ fn widening(h: Sheet) -> usize
 fn end(v: i64) -> Option<i64>
     ensures { result ≡ limited_to band_limit v }
 {
-    if v < -1_000_000_000 {
-        return None;
-    }
-    if 1_000_000_000 < v {
-        return None;
-    }
-    Some(v)
+    (v.unsigned_abs() <= 1_000_000_000).then_some(v)
 }
 
 fn low_end(h: Sheet, i: usize) -> Option<i64>

@@ -12,10 +12,7 @@ fn limited(limit: usize, negative: bool, size: u64) -> Option<i64>
         return None;
     }
     let v = size as i64;
-    if negative {
-        return Some(0 - v);
-    }
-    Some(v)
+    Some(if negative { -v } else { v })
 }
 
 // The whole number nearest k·x, where it is within ± the limit.

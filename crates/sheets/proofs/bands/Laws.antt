@@ -1,4 +1,4 @@
--- M, the widening and the ends of a band: sizes, and what the code's tests say; the ends of all bands. Assumes nothing.
+-- M and the widening: sizes; the ends of all bands. Assumes nothing.
 use Rattle.std.specs.Prelude.{Some, None, Ok, Err}
 use Prim.Native.Nat.{ℕ, zero, suc, ◌+◌, ◌*◌, ◌/◌, ◌%◌, ◌≤◌, ◌<◌, max}
 use mathlib.Core.Path.{◌≡◌, refl, ◌∙◌}
@@ -6,23 +6,21 @@ use mathlib.Core.List.{List}
 use native.Mathlib.Omega.{arith}
 use native.Mathlib.Numerals.{add-one}
 use native.Mathlib.Nat.{mul-le-mul}
-use borrow.Author.Tests.{le-leb, lt-leb}
 use lib.ListN.{set}
-use lib.IntN.{ℤ, pos, negsuc, nat_abs}
-use lib.Signed.{◌≤ℤ◌, ◌<ℤ◌}
+use lib.IntN.{ℤ, pos, nat_abs}
 use mir.Syntax.{w64}
 use mir.Val.{SFits, to_z}
 use mir.Facts.{to_z-of_z}
 use Rattle.std.specs.Int.{div_ceil}
-use Rattle.laws.specs.Integers.{zarith, abs, apart, within, fits}
+use Rattle.laws.specs.Integers.{fits}
 use Rattle.laws.specs.Expressions as E
 use Rattle.laws.specs.Expressions.{Ex}
 use Rattle.laws.specs.Columns.{tabs-tab}
 use Rattle.laws.specs.Lists.{at, tab, tabs}
 use Rattle.meaning.specs.declared.Sheet.{Sheet}
-use Rattle.meaning.specs.Plants.{edge_limit, band_limit}
+use Rattle.meaning.specs.Plants.{edge_limit}
 use Rattle.meaning.specs.Refusals.{bad_result}
-use Rattle.meaning.specs.Sheets.{limited_to, largest_edge, widening, made_band}
+use Rattle.meaning.specs.Sheets.{largest_edge, widening, made_band}
 use Rattle.sheets.specs.Sizes.{Sized}
 use Rattle.sheets.specs.Bands.{low_end, high_end, end_at, most_ends, bands_of}
 use Rattle.sheets.proofs.wholes.Counts.{FitUpTo, fit-more, fit-out, fit-all}
@@ -66,17 +64,6 @@ module _ (h : Sheet) (s : Sized h) (w : ℕ) (e : w ≡ widening h) where
 
   abbrev pub width : Ex
   width = E.held (to_z w64 w) (pos w) 2000001 (to_z-of_z width_fits) (omega (arith, widening-small h s))
-
--- ---- an end of a band
-
-pub low-out : (v : ℤ) → v <ℤ negsuc 999999999 → None ≡ limited_to band_limit v
-low-out v h = simp (lt-leb (nat_abs v) band_limit (omega (zarith, abs v, apart v)))
-
-pub high-out : (v : ℤ) → pos 1000000000 <ℤ v → None ≡ limited_to band_limit v
-high-out v h = simp (lt-leb (nat_abs v) band_limit (omega (zarith, abs v, apart v)))
-
-pub end-in : (v : ℤ) → negsuc 999999999 ≤ℤ v → v ≤ℤ pos 1000000000 → Some v ≡ limited_to band_limit v
-end-in v h l = simp (le-leb (nat_abs v) band_limit (within band_limit h l))
 
 -- ---- the ends in plant order
 
