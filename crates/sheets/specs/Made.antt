@@ -1,14 +1,14 @@
--- The plant of a sheet as the code holds it: its coefficients one by one, and with the place of the first number that does not fit. Definitions alone.
-use Rattle.std.specs.Prelude.{ℕ, ◌+◌, ◌*◌, ◌/◌, ◌%◌, cond, List, map, ltb, ℤ}
-use Rattle.laws.specs.Lists.{tab, all, first_false}
+-- The plant of a sheet as the code holds it: its coefficients one by one, or the place of the first number that does not fit. Definitions alone.
+use Rattle.std.specs.Prelude.{ℕ, ◌+◌, ◌*◌, ◌/◌, ◌%◌, cond, List, ltb, ℤ, Result}
+use Rattle.laws.specs.Lists.{tab}
 use Rattle.meaning.specs.Answers.{Whole}
 use Rattle.meaning.specs.declared.Outline.{Outline}
+use Rattle.meaning.specs.declared.Refusal.{Refusal}
 use Rattle.meaning.specs.declared.Sheet.{Sheet}
 use Rattle.meaning.specs.Plants.{entry_limit, offset_limit, coef_count, Plant, plant_from}
-use Rattle.meaning.specs.Sheets.{whole_of, coefficient, offset, made_modes, made_numbers, is_near}
-use Rattle.sheets.specs.declared.made.Entries.{Entries}
+use Rattle.meaning.specs.Sheets.{whole_of, coefficient, offset, made_modes, made_numbers}
 use Rattle.sheets.specs.declared.made.Made.{Made}
-use Rattle.sheets.specs.Wholes.{first_out, held}
+use Rattle.sheets.specs.Wholes.{all_near, held}
 use Rattle.sheets.specs.Bands.{end_at, most_ends}
 
 -- as many coefficients as sixteen modes have
@@ -23,8 +23,8 @@ entry_at h p =
     let u = p / (h.n + 1) / h.n in
     cond (ltb j h.n) (whole_of entry_limit h.q (coefficient h u i j)) (whole_of offset_limit (h.q * h.r) (offset h u i))
 
-abbrev pub entries_of : Sheet → ℕ → Entries
-entries_of h count = record { first = first_out (tab (entry_at h) count 0); coef = held most_entries (entry_at h) count }
+abbrev pub entries_of : Sheet → ℕ → ℕ → Result (List ℤ) Refusal
+entries_of h place count = all_near place (tab (entry_at h) count 0) (held most_entries (entry_at h) count)
 
 -- the plant that is made, as the code holds it: 0 where a number is out, and the sheet's own arrays of edges
 abbrev pub held_outline : Sheet → Outline
@@ -50,5 +50,8 @@ held_coef h = held most_entries (entry_at h) (coef_count (made_modes h) h.n)
 abbrev pub held_plant : Sheet → Plant
 held_plant h = plant_from (held_outline h) (held_ends h) (held_coef h)
 
-abbrev pub made_of : Sheet → Made
-made_of h = let fit = map is_near (made_numbers h) in record { fits = all fit; place = first_false fit; outline = held_outline h; ends = held_ends h; coef = held_coef h }
+abbrev pub held_made : Sheet → Made
+held_made h = record { outline = held_outline h; ends = held_ends h; coef = held_coef h }
+
+abbrev pub made_of : Sheet → Result Made Refusal
+made_of h = all_near 0 (made_numbers h) (held_made h)

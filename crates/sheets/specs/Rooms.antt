@@ -4,7 +4,6 @@ use Rattle.std.specs.Prelude.{ℕ, ◌-◌, ◌<◌, ◌≡◌, List, [], ◌∷
 use Rattle.meaning.specs.declared.Refusal.{Refusal}
 use Rattle.laws.specs.Lists.{at, tab, tabs}
 use Rattle.laws.specs.Tabs.{FilledBy}
-use Rattle.meaning.specs.Answers.{Walk}
 use Rattle.meaning.specs.declared.Emitter.{Emitter}
 use Rattle.meaning.specs.declared.Room.{Room}
 use Rattle.meaning.specs.Files.{Form}
@@ -14,9 +13,6 @@ use Rattle.meaning.specs.Sheets.{zero_f, bits_of, floating, not_below, emitter_f
 use Rattle.promises.specs.Sheets.SheetRooms.{Held, HeldEmitter, HeldRoom, TidyRoom}
 use Rattle.files.specs.Parts.{Holds, Fails}
 use Rattle.sheets.specs.Floats.{float_bytes}
-use Rattle.sheets.specs.declared.rooms.Exchanges.{Exchanges}
-use Rattle.sheets.specs.declared.rooms.RoomRead.{RoomRead}
-use Rattle.sheets.specs.declared.rooms.Rooms.{Rooms}
 
 -- ---- exchanges
 
@@ -28,12 +24,9 @@ pub record ExchangesRead (s : List ℕ) (start m : ℕ) (xs : List Float) (next 
   pub filled : FilledBy zero_f 3 m xs
   pub held : (j : ℕ) → j < m → Held (get_or xs j zero_f)
 
-abbrev pub ExchangesAs : List ℕ → ℕ → ℕ → List Float → Walk → Type 0
-ExchangesAs s start m xs (Ok next) = ExchangesRead s start m xs next
-ExchangesAs s start m xs (Err e) = Fails (times m (floating not_below)) s start e
-
-abbrev pub ExchangesTold : List ℕ → ℕ → ℕ → Exchanges → Type 0
-ExchangesTold s start m r = ExchangesAs s start m r.exchange r.answer
+abbrev pub ExchangesTold : List ℕ → ℕ → ℕ → Result (List Float × ℕ) Refusal → Type 0
+ExchangesTold s start m (Ok (xs, next)) = ExchangesRead s start m xs next
+ExchangesTold s start m (Err e) = Fails (times m (floating not_below)) s start e
 
 -- ---- an emitter: its number and its own values
 
@@ -82,24 +75,18 @@ pub record RestRead (s : List ℕ) (start n : ℕ) (loss : Float) (room : Room) 
   pub exchanges : (j : ℕ) → j < n - 1 → Held (exchange_at room j)
   pub emitter : HeldEmitter room.emitter
 
-abbrev pub RestAs : List ℕ → ℕ → ℕ → Float → Room → Walk → Type 0
-RestAs s start n loss room (Ok next) = RestRead s start n loss room next
-RestAs s start n loss room (Err e) = Fails (rest_part n) s start e
-
-abbrev pub RestTold : List ℕ → ℕ → ℕ → Float → RoomRead → Type 0
-RestTold s start n loss r = RestAs s start n loss r.room r.answer
+abbrev pub RestTold : List ℕ → ℕ → ℕ → Float → Result (Room × ℕ) Refusal → Type 0
+RestTold s start n loss (Ok (room, next)) = RestRead s start n loss room next
+RestTold s start n loss (Err e) = Fails (rest_part n) s start e
 
 pub record RoomHeld (s : List ℕ) (start n : ℕ) (room : Room) (next : ℕ) : Type 0 where
   pub part : Holds (room_form n) s start (room_values n room) next
   pub tidy : TidyRoom n room
   pub held : HeldRoom n room
 
-abbrev pub RoomAs : List ℕ → ℕ → ℕ → Room → Walk → Type 0
-RoomAs s start n room (Ok next) = RoomHeld s start n room next
-RoomAs s start n room (Err e) = Fails (room_form n) s start e
-
-abbrev pub RoomTold : List ℕ → ℕ → ℕ → RoomRead → Type 0
-RoomTold s start n r = RoomAs s start n r.room r.answer
+abbrev pub RoomTold : List ℕ → ℕ → ℕ → Result (Room × ℕ) Refusal → Type 0
+RoomTold s start n (Ok (room, next)) = RoomHeld s start n room next
+RoomTold s start n (Err e) = Fails (room_form n) s start e
 
 -- ---- n rooms
 
@@ -112,12 +99,9 @@ pub record RoomsHeld (s : List ℕ) (start n : ℕ) (rooms : List Room) (next : 
   pub tidy : (i : ℕ) → i < n → TidyRoom n (get_or rooms i no_room)
   pub held : (i : ℕ) → i < n → HeldRoom n (get_or rooms i no_room)
 
-abbrev pub RoomsAs : List ℕ → ℕ → ℕ → List Room → Walk → Type 0
-RoomsAs s start n rooms (Ok next) = RoomsHeld s start n rooms next
-RoomsAs s start n rooms (Err e) = Fails (times n (room_form n)) s start e
-
-abbrev pub RoomsTold : List ℕ → ℕ → ℕ → Rooms → Type 0
-RoomsTold s start n r = RoomsAs s start n r.rooms r.answer
+abbrev pub RoomsTold : List ℕ → ℕ → ℕ → Result (List Room × ℕ) Refusal → Type 0
+RoomsTold s start n (Ok (rooms, next)) = RoomsHeld s start n rooms next
+RoomsTold s start n (Err e) = Fails (times n (room_form n)) s start e
 
 -- ---- the bytes written
 

@@ -1,9 +1,10 @@
 -- A sheet's file as the code reads it: all but 14, which the reader tells last; the parts behind the beginning, and the bytes as they are drafted.
 -- Assumes nothing.
-use Rattle.std.specs.Prelude.{ℕ, ◌≡◌, refl, Bool, true, false, List, [], ◌∷◌, ◌++◌, map, ℤ, Float, Ok, Err}
+use Rattle.std.specs.Prelude.{ℕ, ◌≡◌, refl, Bool, true, false, List, [], ◌∷◌, ◌++◌, map, ℤ, Float, Ok, Err, Result}
 use Rattle.laws.specs.Guards.{guard}
 use Rattle.laws.specs.Lists.{tabs, all, first_false}
-use Rattle.meaning.specs.Answers.{Verdict, SheetRead}
+use Rattle.meaning.specs.Answers.{SheetRead}
+use Rattle.meaning.specs.declared.Refusal.{Refusal}
 use Rattle.meaning.specs.declared.Room.{Room}
 use Rattle.meaning.specs.declared.Sheet.{Sheet}
 use Rattle.meaning.specs.Refusals.{not_in_safe, narrow}
@@ -17,6 +18,8 @@ use Rattle.files.specs.Drafts.{draft_bytes}
 use Rattle.sheets.specs.Floats.{two_part, float_bytes}
 use Rattle.sheets.specs.Rooms.{bytes_of_room}
 use Rattle.sheets.specs.Sizes.{Sized}
+use Rattle.sheets.specs.declared.made.Made.{Made}
+use Rattle.sheets.specs.Made.{made_of}
 
 -- ---- judged up to and with 5
 
@@ -101,12 +104,9 @@ sheet_beginning h = record {
 
 -- ---- the numbers of a sheet that was taken are in range
 
-abbrev pub SizedAs : Sheet → Verdict → Type 0
-SizedAs h (Ok _) = Sized h
-SizedAs h (Err e) = Unit {0}
-
 abbrev pub TakenSized : SheetRead → Type 0
-TakenSized r = SizedAs r.sheet r.verdict
+TakenSized (Ok h) = Sized h
+TakenSized (Err e) = Unit {0}
 
 -- ---- drafted: the two floats and the rooms behind the beginning
 
@@ -119,3 +119,12 @@ rest_bytes h = float_bytes h.time ++ (float_bytes h.outside ++ tabs (bytes_of_ro
 
 unfoldable pub sheet_draft : Sheet → List ℕ
 sheet_draft h = draft_bytes 1000 (sheet_beginning h) (rest_bytes h)
+
+-- ---- the plant of a sheet's file, with its arrays; 14 is told by what makes it
+
+abbrev pub planned_by : SheetRead → Result Made Refusal
+planned_by (Ok h) = made_of h
+planned_by (Err e) = Err e
+
+abbrev pub planned_of : List ℕ → Result Made Refusal
+planned_of s = planned_by (unfitted s)

@@ -1,21 +1,14 @@
 -- Numbers of the plant one behind another: the place of the first that is out, and what an array holds of them. Definitions alone.
-use Rattle.std.specs.Prelude.{ℕ, ◌+◌, cond, List, map, eqb, ℤ, pos, Some, None}
-use Rattle.laws.specs.Lists.{tab, padded, first_false}
+use Rattle.std.specs.Prelude.{ℕ, ◌+◌, cond, List, map, ℤ, pos, Ok, Err, Result}
+use Rattle.laws.specs.Lists.{tab, padded, all, first_false}
 use Rattle.meaning.specs.Answers.{Whole}
+use Rattle.meaning.specs.declared.Refusal.{Refusal}
+use Rattle.meaning.specs.Refusals.{bad_result}
 use Rattle.meaning.specs.Sheets.{is_near, near_value}
 
--- behind the end where all fit
-abbrev pub first_out : List Whole → ℕ
-first_out ws = first_false (map is_near ws)
-
--- m numbers, the first that is out at `first`, and behind them others, the first that is out at `more`
-abbrev pub joined : ℕ → ℕ → ℕ → ℕ
-joined first m more = cond (eqb first m) (m + more) first
-
--- the same place of one number
-abbrev pub near : Whole → ℕ
-near (Some v) = 1
-near None = 0
+-- what is made of numbers that all fit; else 14 at the first that is out, `place` being that of the first of them
+abbrev pub all_near : {A : Type 0} → ℕ → List Whole → A → Result A Refusal
+all_near place ws a = let fit = map is_near ws in cond (all fit) (Ok a) (Err (bad_result (place + first_false fit)))
 
 -- what an array of m holds of n numbers: 0 where one is out, and behind them
 abbrev pub held : ℕ → (ℕ → Whole) → ℕ → List ℤ

@@ -1,14 +1,14 @@
-// Each dimension's band, widened at each end by what rounding the coefficients can add (document 01, "The sheet"), one for all modes. Relies on wholes.
-// Leaves out the coefficients (made).
-ghost use Rattle.std.specs.Prelude.{◌≡◌, ◌<◌};
+// Each dimension's band, widened at each end by what rounding the coefficients can add (document 01, "The sheet"), one for all modes.
+// Relies on refusals. Leaves out the coefficients (made).
+ghost use Rattle.std.specs.Prelude.{◌≡◌, ◌≤◌, ◌<◌};
 ghost use Rattle.meaning.specs.Plants.{band_limit};
 ghost use Rattle.meaning.specs.Sheets as S;
 ghost use Rattle.meaning.specs.Sheets.{limited_to, largest_edge};
 ghost use Rattle.sheets.specs.Sizes.{Sized};
 ghost use Rattle.sheets.specs.Bands.{low_end, high_end, bands_of};
 
-use crate::wholes;
-use meaning::Sheet;
+use crate::refusals;
+use meaning::{Refusal, Sheet};
 
 // M, the largest absolute edge of S.
 fn largest_edge(h: Sheet) -> usize
@@ -35,13 +35,7 @@ fn widening(h: Sheet) -> usize
 fn end(v: i64) -> Option<i64>
     ensures { result ≡ limited_to band_limit v }
 {
-    if v < -1_000_000_000 {
-        return None;
-    }
-    if 1_000_000_000 < v {
-        return None;
-    }
-    Some(v)
+    (v.unsigned_abs() <= 1_000_000_000).then_some(v)
 }
 
 fn low_end(h: Sheet, i: usize) -> Option<i64>
@@ -65,27 +59,19 @@ fn high_end(h: Sheet, i: usize) -> Option<i64>
 // The ends of the bands of four rooms.
 pub const ENDS: usize = 8;
 
-// The widened bands in plant order, w lo and w hi of each dimension: which of these numbers is the first that is out (their count where none is), and what
-// the plant holds of them, zeros behind them and where one is out. A plant of form 1 is written with one band for all modes.
-#[derive(Clone, Copy)]
-pub struct Bands {
-    pub first: usize,
-    pub ends: [i64; ENDS],
-}
-
-pub fn widened(h: Sheet) -> Bands
-    requires { Sized h }
-    ensures { result ≡ bands_of h }
+// The widened bands in plant order, w lo and w hi of each dimension, zeros behind them; or 14 at the first number that is out, `place` being that of the
+// first of them. A plant of form 1 is written with one band for all modes.
+pub fn widened(h: Sheet, place: usize) -> Result<[i64; ENDS], Refusal>
+    requires fact_1 { Sized h }
+    requires fact_2 { place ≤ 100 }
+    ensures { result ≡ bands_of h place }
 {
     let mut ends = [0i64; ENDS];
-    let mut first: usize = 0;
     for i in 0..h.n {
-        let lo = low_end(h, i);
-        let hi = high_end(h, i);
-        ends[2 * i] = wholes::value(lo);
-        ends[2 * i + 1] = wholes::value(hi);
-        first = wholes::joined_one(first, 2 * i, lo);
-        first = wholes::joined_one(first, 2 * i + 1, hi);
+        let lo = low_end(h, i).ok_or(refusals::bad_result(place + 2 * i))?;
+        let hi = high_end(h, i).ok_or(refusals::bad_result(place + 2 * i + 1))?;
+        ends[2 * i] = lo;
+        ends[2 * i + 1] = hi;
     }
-    Bands { first, ends }
+    Ok(ends)
 }

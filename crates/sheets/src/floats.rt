@@ -1,4 +1,4 @@
-// Floats of a sheet, 8 bytes low first, read with what is asked of them, and written. Relies on files' numbers for a byte written.
+// Floats of a sheet, 8 bytes low first, read with what is asked of them, and written. Relies on files' buffers for bytes written.
 // Leaves out what a float is for: that is its room's or its sheet's.
 ghost use Rattle.std.specs.Prelude.{◌≡◌, ◌+◌, ◌≤◌, pos, length};
 ghost use Rattle.std.specs.Float.{binary64};
@@ -8,7 +8,7 @@ ghost use Rattle.meaning.specs.Files.{taken, float_at};
 ghost use Rattle.sheets.specs.Floats.{ok_of, bits_taken, FloatTold, TwoTold, float_bytes};
 
 use crate::refusals;
-use files::numbers;
+use files::buffers;
 use meaning::Refusal;
 
 // What is asked of a float besides being finite: nothing, not below 0 (minus zero is not), or above 0.
@@ -54,9 +54,7 @@ fn passes(x: f64, asked: Asked) -> bool
 pub fn read_float(s: &[u8], at: usize, asked: Asked) -> Result<(f64, usize), Refusal>
     ensures { FloatTold (ok_of asked) s.now at result }
 {
-    let Some((b, next)) = read_bits(s, at) else {
-        return Err(files::refusals::broken(at));
-    };
+    let (b, next) = read_bits(s, at).ok_or(files::refusals::broken(at))?;
     // all exponent bits set: an infinity, or no number, which passes every `<`
     if b % 0x8000_0000_0000_0000 / 0x10_0000_0000_0000 == 2047 {
         return Err(refusals::bad_float(at));
@@ -72,13 +70,9 @@ pub fn read_float(s: &[u8], at: usize, asked: Asked) -> Result<(f64, usize), Ref
 pub fn read_two(s: &[u8], at: usize, asked: Asked) -> Result<(f64, f64, usize), Refusal>
     ensures { TwoTold (ok_of asked) s.now at result }
 {
-    match read_float(s, at, asked) {
-        Err(e) => Err(e),
-        Ok((x, mid)) => match read_float(s, mid, Asked::Any) {
-            Err(e) => Err(e),
-            Ok((y, next)) => Ok((x, y, next)),
-        },
-    }
+    let (x, mid) = read_float(s, at, asked)?;
+    let (y, next) = read_float(s, mid, Asked::Any)?;
+    Ok((x, y, next))
 }
 
 // A float's bits; of no number those that document 01's meaning gives it.
@@ -96,9 +90,5 @@ pub fn put_float(buf: &mut [u8], at: usize, x: f64) -> usize
     requires { at ≤ length buf.old + 1 }
     ensures { Put buf.old at (float_bytes x) result buf.new }
 {
-    let mut p = at;
-    for b in bits(x).to_le_bytes() {
-        p = numbers::put_byte(buf, p, b);
-    }
-    p
+    buffers::put_bytes(buf, at, &bits(x).to_le_bytes())
 }

@@ -1,4 +1,4 @@
-// The plant made of a sheet: its numbers in plant order, and the place of the first that the plant cannot hold. Relies on bands, equations
+// The plant made of a sheet: its numbers in plant order, or the place of the first that the plant cannot hold. Relies on bands, equations
 // and wholes. Leaves out the files (the sheet's and the plant's).
 ghost use Rattle.std.specs.Prelude.{◌≡◌, ◌≤◌};
 ghost use Rattle.meaning.specs.Sheets.{made_modes};
@@ -7,8 +7,8 @@ ghost use Rattle.sheets.specs.Equations.{sums_of, bits_of};
 ghost use Rattle.sheets.specs.Made.{most_entries, entry_at, entries_of, made_of};
 
 use crate::bands::ENDS;
-use crate::{bands, equations, wholes};
-use meaning::{Outline, Sheet};
+use crate::{bands, equations, refusals, wholes};
+use meaning::{Outline, Refusal, Sheet};
 
 // The coefficients of the largest plant that a sheet makes: sixteen modes, four rows of five numbers each.
 pub const ENTRIES: usize = 320;
@@ -35,29 +35,21 @@ fn entry(h: Sheet, sums: [f64; 4], bits: [usize; 4], p: usize) -> Option<i64>
     wholes::whole(10_000_000_000, h.q * h.r, equations::offset(h, bit, u, i))
 }
 
-// The coefficients: which is the first that is out (their count where none is), and what the plant holds of them, zeros behind them and
-// where one is out.
-#[derive(Clone, Copy)]
-struct Entries {
-    first: usize,
-    coef: [i64; ENTRIES],
-}
-
-fn coefficients(h: Sheet, count: usize) -> Entries
+// The coefficients, zeros behind them; or 14 at the first that is out, `place` being that of the first of them.
+fn coefficients(h: Sheet, place: usize, count: usize) -> Result<[i64; ENTRIES], Refusal>
     requires fact_1 { Sized h }
     requires fact_2 { count ≤ most_entries }
-    ensures { result ≡ entries_of h count }
+    requires fact_3 { place ≤ 100 }
+    ensures { result ≡ entries_of h place count }
 {
     let sums = equations::loss_sums(h);
     let bits = equations::bits(h);
     let mut coef = [0i64; ENTRIES];
-    let mut first: usize = 0;
     for p in 0..count {
-        let w = entry(h, sums, bits, p);
-        coef[p] = wholes::value(w);
-        first = wholes::joined_one(first, p, w);
+        let v = entry(h, sums, bits, p).ok_or(refusals::bad_result(place + p))?;
+        coef[p] = v;
     }
-    Entries { first, coef }
+    Ok(coef)
 }
 
 // N is 2 to the number of rooms that have an emitter.
@@ -68,33 +60,28 @@ fn modes(h: Sheet) -> usize
     1 << equations::emitters(h, h.n)
 }
 
-// Whether all numbers of the plant fit, which of the plant file's numbers is the first that does not, its form being 0 (their count where all
-// fit), and the plant, with its arrays.
+// The plant, with its arrays.
 #[derive(Clone, Copy)]
 pub struct Made {
-    pub fits: bool,
-    pub place: usize,
     pub outline: Outline,
     pub ends: [i64; ENDS],
     pub coef: [i64; ENTRIES],
 }
 
-pub fn make(h: Sheet) -> Made
+// The plant of a sheet; or 14 at the first of the plant file's numbers, its form being 0, that the plant cannot hold. Those in front of the bands it can.
+pub fn make(h: Sheet) -> Result<Made, Refusal>
     requires { Sized h }
     ensures { result ≡ made_of h }
 {
     let n = h.n;
     let modes = modes(h);
-    let count = modes * n * (n + 1);
-    let b = bands::widened(h);
-    let c = coefficients(h, count);
-    let first = wholes::joined(b.first, 2 * n, c.first);
+    let place = 6 + 4 * n;
+    let ends = bands::widened(h, place)?;
+    let coef = coefficients(h, place + 2 * n, modes * n * (n + 1))?;
     let rlo = h.rlo;
     let rhi = h.rhi;
     let slo = h.slo;
     let shi = h.shi;
-    let ends = b.ends;
-    let coef = c.coef;
     let outline = Outline {
         form: 1,
         n,
@@ -107,11 +94,9 @@ pub fn make(h: Sheet) -> Made
         slo,
         shi,
     };
-    Made {
-        fits: first == 2 * n + count,
-        place: 6 + 4 * n + first,
+    Ok(Made {
         outline,
         ends,
         coef,
-    }
+    })
 }

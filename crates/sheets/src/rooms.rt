@@ -11,87 +11,77 @@ use files::{numbers, refusals};
 use meaning::{Emitter, Refusal, Room};
 
 // The exchanges, zeros beyond the first m, and the place behind them.
-#[derive(Clone, Copy)]
-pub struct Exchanges {
-    pub answer: Result<usize, Refusal>,
-    pub exchange: [f64; 3],
-}
-
-fn read_exchanges(s: &[u8], at: usize, m: usize) -> Exchanges
+fn read_exchanges(s: &[u8], at: usize, m: usize) -> Result<([f64; 3], usize), Refusal>
     requires { m ≤ 3 }
     ensures { ExchangesTold s.now at m result }
 {
     let mut exchange = [0.0f64; 3];
     let mut p = at;
-    let mut j: usize = 0;
-    while j < m {
-        match floats::read_float(s, p, Asked::NotBelow) {
-            Err(e) => {
-                return Exchanges {
-                    answer: Err(e),
-                    exchange,
-                };
-            }
-            Ok((g, next)) => {
-                exchange[j] = g;
-                p = next;
-            }
-        }
-        j += 1;
+    for j in 0..m {
+        let (g, next) = floats::read_float(s, p, Asked::NotBelow)?;
+        exchange[j] = g;
+        p = next;
     }
-    Exchanges {
-        answer: Ok(p),
-        exchange,
-    }
+    Ok((exchange, p))
 }
 
 // A heater's own values: its coefficient, then its water's temperature.
 fn read_heater(s: &[u8], at: usize) -> Result<(Emitter, usize), Refusal>
     ensures { OwnTold 1 s.now at result }
 {
-    match floats::read_two(s, at, Asked::NotBelow) {
-        Err(e) => Err(e),
-        Ok((coefficient, water, next)) => { Ok((Emitter::Heater { coefficient, water }, next)) }
-    }
+    let (coefficient, water, next) = floats::read_two(s, at, Asked::NotBelow)?;
+    Ok((Emitter::Heater { coefficient, water }, next))
 }
 
 // A steady emitter's rate.
 fn read_steady(s: &[u8], at: usize) -> Result<(Emitter, usize), Refusal>
     ensures { OwnTold 2 s.now at result }
 {
-    match floats::read_float(s, at, Asked::Any) {
-        Err(e) => Err(e),
-        Ok((rate, next)) => Ok((Emitter::Steady { rate }, next)),
-    }
+    let (rate, next) = floats::read_float(s, at, Asked::Any)?;
+    Ok((Emitter::Steady { rate }, next))
 }
 
 // An emitter: its number, then its own values.
 fn read_emitter(s: &[u8], at: usize) -> Result<(Emitter, usize), Refusal>
     ensures { EmitterTold s.now at result }
 {
-    let Some((kind, next)) = numbers::number(s, at) else {
-        return Err(refusals::broken(at));
-    };
-    if 2 < kind {
-        return Err(refusals::unfit(at));
+    let (kind, next) = numbers::number(s, at).ok_or(refusals::broken(at))?;
+    match kind {
+        0 => Ok((Emitter::None, next)),
+        1 => read_heater(s, next),
+        2 => read_steady(s, next),
+        _ => Err(refusals::unfit(at)),
     }
-    if kind == 0 {
-        return Ok((Emitter::None, next));
-    }
-    if kind == 1 {
-        return read_heater(s, next);
-    }
-    read_steady(s, next)
 }
 
-// A room and the place behind it.
-#[derive(Clone, Copy)]
-pub struct RoomRead {
-    pub answer: Result<usize, Refusal>,
-    pub room: Room,
+// What stands behind a room's loss; the room, and the place behind it.
+fn read_rest(s: &[u8], at: usize, n: usize, loss: f64) -> Result<(Room, usize), Refusal>
+    requires fact_1 { 1 ≤ n }
+    requires fact_2 { n ≤ 4 }
+    ensures { RestTold s.now at n loss result }
+{
+    let (exchange, mid) = read_exchanges(s, at, n - 1)?;
+    let (emitter, next) = read_emitter(s, mid)?;
+    Ok((
+        Room {
+            loss,
+            exchange,
+            emitter,
+        },
+        next,
+    ))
 }
 
-pub fn no_room() -> Room
+fn read_room(s: &[u8], at: usize, n: usize) -> Result<(Room, usize), Refusal>
+    requires fact_1 { 1 ≤ n }
+    requires fact_2 { n ≤ 4 }
+    ensures { RoomTold s.now at n result }
+{
+    let (loss, next) = floats::read_float(s, at, Asked::NotBelow)?;
+    read_rest(s, next, n, loss)
+}
+
+fn no_room() -> Room
     ensures { result ≡ no_room }
 {
     Room {
@@ -101,92 +91,20 @@ pub fn no_room() -> Room
     }
 }
 
-fn refused(e: Refusal) -> RoomRead
-    ensures { result.answer ≡ Err e }
-{
-    let room = no_room();
-    RoomRead {
-        answer: Err(e),
-        room,
-    }
-}
-
-// What stands behind a room's loss.
-fn read_rest(s: &[u8], at: usize, n: usize, loss: f64) -> RoomRead
-    requires fact_1 { 1 ≤ n }
-    requires fact_2 { n ≤ 4 }
-    ensures { RestTold s.now at n loss result }
-{
-    let exchanges = read_exchanges(s, at, n - 1);
-    let past = exchanges.answer;
-    match past {
-        Err(e) => refused(e),
-        Ok(mid) => match read_emitter(s, mid) {
-            Err(e) => refused(e),
-            Ok((emitter, next)) => {
-                let exchange = exchanges.exchange;
-                RoomRead {
-                    answer: Ok(next),
-                    room: Room {
-                        loss,
-                        exchange,
-                        emitter,
-                    },
-                }
-            }
-        },
-    }
-}
-
-pub fn read_room(s: &[u8], at: usize, n: usize) -> RoomRead
-    requires fact_1 { 1 ≤ n }
-    requires fact_2 { n ≤ 4 }
-    ensures { RoomTold s.now at n result }
-{
-    match floats::read_float(s, at, Asked::NotBelow) {
-        Err(e) => refused(e),
-        Ok((loss, next)) => read_rest(s, next, n, loss),
-    }
-}
-
 // The rooms, none beyond n, and the place behind them.
-#[derive(Clone, Copy)]
-pub struct Rooms {
-    pub answer: Result<usize, Refusal>,
-    pub rooms: [Room; 4],
-}
-
-pub fn read_rooms(s: &[u8], at: usize, n: usize) -> Rooms
+pub fn read_rooms(s: &[u8], at: usize, n: usize) -> Result<([Room; 4], usize), Refusal>
     requires fact_1 { 1 ≤ n }
     requires fact_2 { n ≤ 4 }
     ensures { RoomsTold s.now at n result }
 {
-    let none = no_room();
-    let mut rooms = [none; 4];
+    let mut rooms = [no_room(); 4];
     let mut p = at;
-    let mut i: usize = 0;
-    while i < n {
-        let r = read_room(s, p, n);
-        let past = r.answer;
-        match past {
-            Err(e) => {
-                return Rooms {
-                    answer: Err(e),
-                    rooms,
-                };
-            }
-            Ok(next) => {
-                let room = r.room;
-                rooms[i] = room;
-                p = next;
-            }
-        }
-        i += 1;
+    for i in 0..n {
+        let (room, next) = read_room(s, p, n)?;
+        rooms[i] = room;
+        p = next;
     }
-    Rooms {
-        answer: Ok(p),
-        rooms,
-    }
+    Ok((rooms, p))
 }
 
 // The first m exchanges from `at` on, as far as there is room; the place behind them.

@@ -5,11 +5,12 @@ ghost use Rattle.laws.specs.Writing.{Put};
 ghost use Rattle.meaning.specs.Files.{good, bad};
 ghost use Rattle.meaning.specs.Sheets.{sheet_read_of, sheet_read, sheet_left, made_left};
 ghost use Rattle.files.specs.Beginnings.{relation, Begun};
-ghost use Rattle.sheets.specs.Sheets.{unfitted, then_fitting, body_read, sheet_with, TakenSized, sheet_draft};
+ghost use Rattle.sheets.specs.Sheets.{unfitted, then_fitting, body_read, sheet_with, TakenSized, sheet_draft, planned_of};
 ghost use Rattle.sheets.specs.Sizes.{Sized};
 
 use crate::floats::Asked;
-use crate::{floats, made, refusals, rooms};
+use crate::made::Made;
+use crate::{floats, made, rooms};
 use files::beginnings::Beginning;
 use files::{beginnings, buffers, plants};
 use meaning::{Refusal, Room, Sheet};
@@ -57,29 +58,13 @@ fn read_body(
     ensures value { result ≡ body_read s.now b at }
     ensures sized { TakenSized result }
 {
-    match floats::read_two(s, at, Asked::Above) {
-        Err(e) => Err(e),
-        Ok((time, outside, mid)) => {
-            let n = b.n;
-            let read = rooms::read_rooms(s, mid, n);
-            let past = read.answer;
-            match past {
-                Err(e) => Err(e),
-                Ok(next) => {
-                    if next != s.len() {
-                        return Err(files::refusals::unfit(next));
-                    }
-                    match related {
-                        Err(e) => Err(e),
-                        Ok(()) => {
-                            let rooms = read.rooms;
-                            accepted(b, time, outside, rooms)
-                        }
-                    }
-                }
-            }
-        }
+    let (time, outside, mid) = floats::read_two(s, at, Asked::Above)?;
+    let (rooms, next) = rooms::read_rooms(s, mid, b.n)?;
+    if next != s.len() {
+        return Err(files::refusals::unfit(next));
     }
+    related?;
+    accepted(b, time, outside, rooms)
 }
 
 // A sheet's file, judged in order up to and with 5. The numbers of one that is taken are in range, which what is made of them relies on.
@@ -104,21 +89,15 @@ fn fitted(h: Sheet) -> Result<Sheet, Refusal>
     requires { Sized h }
     ensures { result ≡ sheet_read_of (then_fitting (good h)) }
 {
-    let made = made::make(h);
-    if made.fits {
-        return Ok(h);
-    }
-    Err(refusals::bad_result(made.place))
+    made::make(h)?;
+    Ok(h)
 }
 
 // A sheet's file, judged in order: number, place and step of the first fault, or the sheet.
 pub fn read_sheet(s: &[u8]) -> Result<Sheet, Refusal>
     ensures { result ≡ sheet_read s.now }
 {
-    match read_values(s) {
-        Err(e) => Err(e),
-        Ok(h) => fitted(h),
-    }
+    fitted(read_values(s)?)
 }
 
 // The file that the values would be, as far as there is room; the place behind it. Where n or r is out of range what follows is left out: the header is refused first.
@@ -171,20 +150,20 @@ pub fn write_sheet(h: Sheet, buf: &mut [u8]) -> Result<usize, Refusal>
     buffers::leave(read_sheet(file), file, buf)
 }
 
+// The plant of a sheet's file, judged as the sheet, with its arrays.
+fn planned(sheet: &[u8]) -> Result<Made, Refusal>
+    ensures { result ≡ planned_of sheet.now }
+{
+    made::make(read_values(sheet)?)
+}
+
 // The plant file of a sheet's file, judged as the sheet, then 10. Finished, only the file's bytes are changed; refused, the buffer is all zeros.
 pub fn make_plant(sheet: &[u8], buf: &mut [u8]) -> Result<usize, Refusal>
     ensures answer { result ≡ (made_left sheet.now buf.old).answer }
     ensures bytes { buf.new ≡ (made_left sheet.now buf.old).buffer }
 {
-    match read_values(sheet) {
+    match planned(sheet) {
         Err(e) => buffers::refuse(e, buf),
-        Ok(h) => {
-            let made = made::make(h);
-            if made.fits {
-                let outline = made.outline;
-                return plants::write_plant(outline, &made.ends, &made.coef, buf);
-            }
-            buffers::refuse(refusals::bad_result(made.place), buf)
-        }
+        Ok(made) => plants::write_plant(made.outline, &made.ends, &made.coef, buf),
     }
 }

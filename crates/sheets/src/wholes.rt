@@ -1,9 +1,7 @@
 // A float times a count, rounded to a whole number of the plant: exact, halves away from zero (document 01, "The sheet"). Relies on
 // meaning's Whole. Leaves out where the floats come from (equations).
 ghost use Rattle.std.specs.Prelude.{◌≡◌, ◌≤◌};
-ghost use Rattle.meaning.specs.Sheets.{signed_by, limited_to, whole_of, near_value};
-ghost use Rattle.sheets.specs.Wholes as W;
-ghost use Rattle.sheets.specs.Wholes.{near};
+ghost use Rattle.meaning.specs.Sheets.{signed_by, limited_to, whole_of};
 
 // A size with its sign, where it is within the limit.
 fn limited(limit: usize, negative: bool, size: u64) -> Option<i64>
@@ -14,10 +12,7 @@ fn limited(limit: usize, negative: bool, size: u64) -> Option<i64>
         return None;
     }
     let v = size as i64;
-    if negative {
-        return Some(0 - v);
-    }
-    Some(v)
+    Some(if negative { -v } else { v })
 }
 
 // The whole number nearest k·x, where it is within ± the limit.
@@ -27,8 +22,7 @@ pub fn whole(limit: usize, k: usize, x: f64) -> Option<i64>
     requires fact_3 { limit ≤ 10000000000 }
     ensures { result ≡ whole_of limit k x }
 {
-    // NaN alone differs from itself
-    if x != x {
+    if x.is_nan() {
         return None;
     }
     let bits = f64::to_bits(x);
@@ -48,38 +42,4 @@ pub fn whole(limit: usize, k: usize, x: f64) -> Option<i64>
     // the whole part of 2·k·x
     let twice = high >> (1056 - e);
     limited(limit, 0x8000_0000_0000_0000 <= bits, (twice + 1) / 2)
-}
-
-// What the plant holds of a number: 0 where it is out.
-pub fn value(w: Option<i64>) -> i64
-    ensures { result ≡ near_value w }
-{
-    match w {
-        Some(v) => v,
-        None => 0,
-    }
-}
-
-// `many` numbers, the first that is out at `first`, and behind them others, the first that is out at `more`: the first of them all. It is
-// behind the end where all fit.
-pub fn joined(first: usize, many: usize, more: usize) -> usize
-    requires fact_1 { many ≤ 1000 }
-    requires fact_2 { more ≤ 1000 }
-    ensures { result ≡ W.joined first many more }
-{
-    if first == many {
-        return many + more;
-    }
-    first
-}
-
-// The same with one number behind them.
-pub fn joined_one(first: usize, many: usize, w: Option<i64>) -> usize
-    requires { many ≤ 1000 }
-    ensures { result ≡ W.joined first many (near w) }
-{
-    match w {
-        Some(_) => joined(first, many, 1),
-        None => joined(first, many, 0),
-    }
 }

@@ -1,30 +1,24 @@
 -- The coefficients of a plant one by one: each is that of its column, row and mode, so that they are the definition's rows; and how many there are. Relies on
 -- promises' pages SheetPlants, for how many emitters there are.
 use Prim.Native.Nat.{ℕ, zero, suc, ◌+◌, ◌*◌, ◌/◌, ◌%◌, ◌≤◌, ◌<◌}
-use mathlib.Core.Path.{◌≡◌, refl, sym, ap, ◌∙◌, subst}
+use mathlib.Core.Path.{◌≡◌, refl, sym, ap, ◌∙◌}
 use mathlib.Core.Bool.{cond}
-use mathlib.Core.List.{List, [], ◌∷◌, ◌++◌}
 use native.Mathlib.Omega.{arith}
 use native.Mathlib.Nat.{le_trans, lt_of_lt_of_le, mod-lt, zero-add, add-zero, mul_comm, mul_assoc, mul-add, mul-le-mul, one-le-mul, mod-eq_of_lt, div-eq_of_lt, mul-add-div, mul-add-mod_self_left}
 use borrow.Author.Tests.{lt-ltb, le-ltb}
 use lib.Dec.{ltb}
 use lib.Pow.{pow_mono}
-use lib.ListN.{set, replicate}
-use lib.IntN.{ℤ, pos}
 use lib.Ieee.{Float}
-use Rattle.laws.specs.Lists.{tab, tabs, first_false}
-use Rattle.laws.specs.Tabs.{length-tab, tab-snoc}
+use Rattle.laws.specs.Lists.{tab, tabs}
+use Rattle.laws.specs.Tabs.{tab-snoc}
 use Rattle.laws.specs.Columns.{tabs-tab}
 use Rattle.meaning.specs.Answers.{Whole}
 use Rattle.meaning.specs.declared.Sheet.{Sheet}
 use Rattle.meaning.specs.Plants.{entry_limit, offset_limit, coef_count}
-use Rattle.meaning.specs.Sheets.{whole_of, coefficient, offset, made_row, made_modes, near_value}
+use Rattle.meaning.specs.Sheets.{whole_of, coefficient, offset, made_row, made_modes}
 use Rattle.promises.specs.Sheets.SheetPlants.{emitters-few}
-use Rattle.sheets.specs.declared.made.Entries.{Entries}
 use Rattle.sheets.specs.Sizes.{Sized}
-use Rattle.sheets.specs.Wholes.{first_out, joined, near, held}
-use Rattle.sheets.specs.Made.{most_entries, entry_at, entries_of}
-use Rattle.sheets.proofs.wholes.Counts.{joined-one, Holding, holding-none, holding-more, holding-all}
+use Rattle.sheets.specs.Made.{most_entries, entry_at}
 
 -- ---- what the code reads of a place: an entry of A, or b
 
@@ -125,33 +119,3 @@ module _ (h : Sheet) (s : Sized h) where
 
   pub scaled : (1 ≤ h.q * h.r) × (h.q * h.r ≤ 10000000)
   scaled = (one-le-mul s.counts.0 s.degrees.0, mul-le-mul s.counts.1 s.degrees.1)
-
--- ---- the first p of them
-
-pub record EntriesUpTo (h : Sheet) (count p : ℕ) (coef : List ℤ) (first : ℕ) : Type 0 where
-  pub few : p ≤ count
-  pub values : Holding most_entries (entry_at h) p coef
-  pub out : first ≡ first_out (tab (entry_at h) p 0)
-
-pub entries_none : (h : Sheet) (count : ℕ) → EntriesUpTo h count 0 (replicate most_entries (pos 0)) 0
-unfolding tab first_false
-entries_none h count = record { few = omega arith; values = holding-none most_entries (entry_at h); out = refl }
-
-pub entries-more : {h : Sheet} {count p : ℕ} {coef : List ℤ} {first : ℕ} → EntriesUpTo h count p coef first → p < count → count ≤ most_entries
-    → EntriesUpTo h count (p + 1) (set coef p (near_value (entry_at h p))) (joined first p (near (entry_at h p)))
-entries-more {h} {count} {p} {coef} {first} e l few = record {
-  few = omega arith;
-  values = holding-more most_entries (entry_at h) p coef (omega arith) e.values;
-  out = joined-one (tab (entry_at h) p 0) (entry_at h p) first p e.out (sym (length-tab (entry_at h) p 0)) ∙ ap first_out (sym behind);
-}
-  where
-    behind : tab (entry_at h) (p + 1) 0 ≡ tab (entry_at h) p 0 ++ entry_at h p ∷ []
-    behind = tab-snoc (entry_at h) p 0 ∙ rw zero-add refl
-
-pub entries-all : {h : Sheet} {count p : ℕ} {coef : List ℤ} {first : ℕ} → EntriesUpTo h count p coef first → count ≤ p → count ≤ most_entries
-    → ◌≡◌ {A = Entries} (record { first = first; coef = coef }) (entries_of h count)
-entries-all {h} {count} {p} {coef} {first} e l few =
-    let q : p ≡ count = omega (arith, e.few) in
-    let values : coef ≡ held most_entries (entry_at h) count = holding-all most_entries (entry_at h) count coef few (subst (λ (k : ℕ). Holding most_entries (entry_at h) k coef) q e.values) in
-    let out : first ≡ first_out (tab (entry_at h) count 0) = e.out ∙ ap (λ (k : ℕ). first_out (tab (entry_at h) k 0)) q in
-    rw (out, values) refl

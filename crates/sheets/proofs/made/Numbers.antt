@@ -1,39 +1,36 @@
--- The numbers of the made plant are those of the definition, and the place of the first that is out. Relies on page Laws, and on promises' page SheetNumbers.
-use Rattle.std.specs.Prelude.{Some}
-use Prim.Native.Nat.{ℕ, suc, ◌+◌, ◌*◌, ◌≤◌, ◌<◌}
+-- The numbers of the made plant are those of the definition, and the first that is out is told as the definition tells it. Relies on page Laws, and on promises' page SheetNumbers.
+use Rattle.std.specs.Prelude.{Some, Ok, Err, Result}
+use Prim.Native.Nat.{ℕ, ◌+◌, ◌*◌, ◌<◌}
 use mathlib.Core.Path.{◌≡◌, refl, sym, ap, ◌∙◌}
-use mathlib.Core.Bool.{Bool}
+use mathlib.Core.Bool.{true}
 use mathlib.Core.List.{List, [], ◌∷◌, ◌++◌, map, map-append}
 use native.Mathlib.Omega.{arith}
 use native.Mathlib.Nat.{zero-add}
-use native.Mathlib.Decide.{dec_lt}
-use lib.Dec.{eqb}
-use borrow.Author.Tests.{eq-eqb, ne_eqb}
-use lib.ListN.{length, length-append, length-map}
+use lib.ListN.{length, length-map}
 use lib.IntN.{ℤ, pos}
-use Rattle.laws.specs.Lists.{at, tab, tabs, all, first_false}
+use Rattle.laws.specs.Lists.{at, tab, tabs, all}
 use Rattle.laws.specs.Columns.{tabs-tab}
-use Rattle.laws.specs.Tabs.{length-tab, length-tabs, map-tab, map-tabs, tab-same, padded-at}
-use Rattle.laws.specs.Tests.{first-within, first-behind}
+use Rattle.laws.specs.Tabs.{length-tabs, map-tab, map-tabs, tab-same, padded-at}
 use Rattle.meaning.specs.Answers.{Whole}
+use Rattle.meaning.specs.declared.Refusal.{Refusal}
 use Rattle.meaning.specs.declared.Sheet.{Sheet}
 use Rattle.meaning.specs.Plants.{coef_count, edges_of, band_numbers, row_numbers, numbers_of}
 use Rattle.meaning.specs.Sheets.{sheet_edges, made_band, made_modes, made_numbers, is_near, near_value}
 use Rattle.promises.specs.Sheets.SheetNumbers.{map-values}
 use Rattle.sheets.specs.Sizes.{Sized}
-use Rattle.sheets.specs.Wholes.{first_out, joined, held}
-use Rattle.sheets.specs.Bands.{end_at, most_ends}
+use Rattle.sheets.specs.Wholes.{all_near, held}
+use Rattle.sheets.specs.Bands.{end_at, most_ends, bands_of}
 use Rattle.sheets.specs.declared.made.Made.{Made}
-use Rattle.sheets.specs.Made.{most_entries, entry_at, held_outline, held_ends, held_coef, held_plant, made_of}
-use Rattle.sheets.proofs.wholes.Counts.{first-few, out-all, joined_is}
+use Rattle.sheets.specs.Made.{most_entries, entry_at, held_outline, held_ends, held_coef, held_plant, held_made, entries_of, made_of}
+use Rattle.sheets.proofs.wholes.Counts.{near-behind, near-more, near-stops, near-same, near-fits, near-holds}
 use Rattle.sheets.proofs.bands.Laws.{low-at, high-at}
-use Rattle.sheets.proofs.made.Laws.{rows_are, count-few}
+use Rattle.sheets.proofs.made.Laws.{rows_are}
 
 -- numbers that are taken over as they are are all near
-near-all : (l : List ℤ) → first_out (map Some l) ≡ length (map Some l)
-unfolding first_false
+near-all : (l : List ℤ) → all (map is_near (map Some l)) ≡ true
+unfolding all
 near-all [] = refl
-near-all (v ∷ l) = ap suc (near-all l)
+near-all (v ∷ l) = near-all l
 
 module _ (h : Sheet) (s : Sized h) where
   abbrev head : List Whole
@@ -95,7 +92,7 @@ module _ (h : Sheet) (s : Sized h) where
       ∙ map-append near_value head (edges ++ (bands ++ entries))
       ∙ rw (map-append near_value edges (bands ++ entries), map-append near_value bands entries, map-values (sheet_edges h), bands-held, entries-held) refl)
 
-  -- ---- the place of the first that is out
+  -- ---- told part by part: those in front of the bands fit
 
   edges-long : length edges ≡ 4 * h.n
   edges-long = length-map (sheet_edges h) Some ∙ length-tabs (edges_of h.rlo h.rhi h.slo h.shi) 4 (λ k. refl) h.n 0
@@ -103,42 +100,27 @@ module _ (h : Sheet) (s : Sized h) where
   bands-long : length bands ≡ 2 * h.n
   bands-long = length-tabs (made_band h) 2 (λ k. refl) h.n 0
 
-  fits-long : length (map is_near (made_numbers h)) ≡ 6 + 4 * h.n + (2 * h.n + count)
-  fits-long =
-      length-map (made_numbers h) is_near ∙ ap length numbers-are
-      ∙ omega (arith, edges-long, bands-long, length-tab (entry_at h) count 0, length-append head (edges ++ (bands ++ entries)), length-append edges (bands ++ entries), length-append bands entries)
+  front-fits : made_of h ≡ all_near (6 + 4 * h.n) (bands ++ entries) (held_made h)
+  unfolding all
+  front-fits =
+      ap (λ (ws : List Whole). all_near 0 ws (held_made h)) numbers-are
+      ∙ near-behind 0 head (edges ++ (bands ++ entries)) (held_made h) refl
+      ∙ near-behind 6 edges (bands ++ entries) (held_made h) (near-all (sheet_edges h))
+      ∙ ap (λ (k : ℕ). all_near (6 + k) (bands ++ entries) (held_made h)) edges-long
 
-  -- as the code finds it: that of the bands or, where these fit, of the coefficients, and behind the end where all fit
-  abbrev pub behind : ℕ
-  behind = joined (first_out bands) (2 * h.n) (first_out entries)
+  pub bands-stop : (e : Refusal) → bands_of h (6 + 4 * h.n) ≡ Err e → made_of h ≡ Err e
+  bands-stop e q = front-fits ∙ near-stops (6 + 4 * h.n) bands entries (held_made h) (held_ends h) e q
 
-  behind-is : behind ≡ first_out (bands ++ entries)
-  behind-is = joined_is bands entries (first_out bands) (2 * h.n) (first_out entries) refl (sym bands-long) refl
+  module _ (ends' : List ℤ) (q : bands_of h (6 + 4 * h.n) ≡ Ok ends') where
+    bands-fit : made_of h ≡ all_near (6 + 4 * h.n + 2 * h.n) entries (held_made h)
+    bands-fit =
+        front-fits ∙ near-more (6 + 4 * h.n) bands entries (held_made h) (held_ends h) ends' q
+        ∙ ap (λ (k : ℕ). all_near (6 + 4 * h.n + k) entries (held_made h)) bands-long
 
-  made-place : 6 + 4 * h.n + behind ≡ first_false (map is_near (made_numbers h))
-  unfolding first_false
-  made-place =
-      let e = out-all head (edges ++ (bands ++ entries)) refl in
-      let f = out-all edges (bands ++ entries) (near-all (sheet_edges h)) in
-      omega (arith, behind-is, edges-long, e, f) ∙ ap first_out (sym numbers-are)
+    pub entries-stop : (e : Refusal) → entries_of h (6 + 4 * h.n + 2 * h.n) count ≡ Err e → made_of h ≡ Err e
+    entries-stop e g = bands-fit ∙ near-same (6 + 4 * h.n + 2 * h.n) entries (held_made h) (held_coef h) e g
 
-  pub behind-few : behind ≤ 2 * h.n + count
-  behind-few = omega (arith, made-place, fits-long, first-few (map is_near (made_numbers h)))
-
-  pub entries-few : first_out entries ≤ most_entries
-  entries-few = omega (arith, count-few h s, first-few (map is_near entries), length-map entries is_near, length-tab (entry_at h) count 0)
-
-  made-fits : eqb behind (2 * h.n + count) ≡ all (map is_near (made_numbers h))
-  made-fits = go (dec_lt behind (2 * h.n + count))
-    where
-      ts : List Bool
-      ts = map is_near (made_numbers h)
-
-      go : Dec (behind < 2 * h.n + count) → eqb behind (2 * h.n + count) ≡ all ts
-      go (yes l) = ne_eqb behind (2 * h.n + count) (λ e. absurd (omega arith)) ∙ sym (first-within ts (omega (arith, made-place, fits-long)))
-      go (no l) = eq-eqb behind (2 * h.n + count) (omega (arith, behind-few)) ∙ sym (first-behind ts (omega (arith, made-place, fits-long)))
-
-  -- ---- what the code puts together
-
-  pub made-is : ◌≡◌ {A = Made} (record { fits = eqb behind (2 * h.n + count); place = 6 + 4 * h.n + behind; outline = held_outline h; ends = held_ends h; coef = held_coef h }) (made_of h)
-  made-is = rw (made-fits, made-place) refl
+    pub made-is : (coef' : List ℤ) → entries_of h (6 + 4 * h.n + 2 * h.n) count ≡ Ok coef' → ◌≡◌ {A = Result Made Refusal} (Ok (record { outline = held_outline h; ends = ends'; coef = coef' })) (made_of h)
+    made-is coef' g =
+        rw (near-holds (6 + 4 * h.n) bands (held_ends h) ends' q, near-holds (6 + 4 * h.n + 2 * h.n) entries (held_coef h) coef' g)
+        (sym (bands-fit ∙ near-fits (6 + 4 * h.n + 2 * h.n) entries (held_made h) (held_coef h) coef' g))

@@ -16,7 +16,6 @@ use Rattle.std.proofs.lemmas.List.{get_or_default}
 use Rattle.laws.specs.Columns.{tab-tabs}
 use Rattle.laws.specs.Tabs.{FilledBy, filling-none, filling-more, get_d-below}
 use Rattle.laws.specs.Writing.{Put}
-use Rattle.meaning.specs.Answers.{Walk}
 use Rattle.meaning.specs.declared.Refusal.{Refusal}
 use Rattle.meaning.specs.declared.Emitter.{Emitter}
 use Rattle.meaning.specs.declared.Room.{Room}
@@ -29,7 +28,7 @@ use Rattle.promises.specs.Sheets.SheetRooms.{Held, HeldRoom, TidyRoom}
 use Rattle.files.specs.FieldLaws.{taken-right, taken-wrong, not_taken}
 use Rattle.files.specs.Parts.{behind, Fails, holds_then, holds-fails, fails-then, Rows, rows_none, rows_more, rows-fails, rows_all}
 use Rattle.sheets.specs.Floats.{Floated, TwoFloated}
-use Rattle.sheets.specs.Rooms.{exchange_bits, ExchangesRead, kind_of, own_values, own_part, emitter_part, OwnRead, OwnTold, EmitterHeld, EmitterTold, rest_part, RestRead, RestAs, values_of_room, RoomHeld, RoomAs, RoomsHeld, room_bytes, bytes_of_room}
+use Rattle.sheets.specs.Rooms.{exchange_bits, ExchangesRead, kind_of, own_values, own_part, emitter_part, OwnRead, OwnTold, EmitterHeld, EmitterTold, rest_part, RestRead, RestTold, values_of_room, RoomHeld, RoomTold, RoomsHeld, room_bytes, bytes_of_room}
 
 -- ---- the loop over exchanges: j of m are done
 
@@ -154,9 +153,9 @@ module _ (s : List ℕ) (start n : ℕ) where
       held = record { loss = rw u.same t.held; exchanges = u.exchanges; emitter = u.emitter };
     }
 
-    pub rest-told : (room : Room) (r : Walk) → RestAs s mid n loss room r → RoomAs s start n room r
-    rest-told room (Ok next) u = room-held room next u
-    rest-told room (Err e) u = rest-cut e u
+    pub rest-told : (r : Result (Room × ℕ) Refusal) → RestTold s mid n loss r → RoomTold s start n r
+    rest-told (Ok (room, next)) u = room-held room next u
+    rest-told (Err e) u = rest-cut e u
 
 -- ---- the loop over rooms: i of n are done
 

@@ -8,7 +8,7 @@ use native.Mathlib.Nat.{mul-suc}
 use lib.ListN.{length, get_or, replicate, length-append}
 use lib.IntN.{ℤ}
 use lib.Ieee.{Float}
-use Rattle.meaning.specs.Answers.{SheetRead}
+use Rattle.meaning.specs.Answers.{SheetRead, verdict_in}
 use Rattle.laws.specs.Columns.{tab-tabs}
 use Rattle.laws.specs.Lists.{tab, tabs}
 use Rattle.laws.specs.Writing.{Put}
@@ -135,12 +135,12 @@ module _ (h : Sheet) where
 
   -- ---- what the writer leaves, s being the draft and x what was read of it
 
-  pub sheet-left : (s : List ℕ) (x : SheetRead) → s ≡ sheet_draft h → x ≡ sheet_read s → (buf : List ℕ) → left (by_verdict x.verdict λ _. good s) buf ≡ sheet_left h buf
+  pub sheet-left : (s : List ℕ) (x : SheetRead) → s ≡ sheet_draft h → x ≡ sheet_read s → (buf : List ℕ) → left (by_verdict (verdict_in x) λ _. good s) buf ≡ sheet_left h buf
   unfolding rest sheet_draft sheet_left sheet_judged sheet_form sheet_values
   sheet-left s x e q buf =
       draft-left 1 1000 (omega arith) (omega arith) b (rest_bytes h) sheet_related (λ e. refl) (λ form n r. edges_and_bands n (rooms_form form n r)) (edges_in b ++ (bands_in b ++ rest))
-      (λ _ _ _. says) s x.verdict e (ap (λ (y : SheetRead). y.verdict) q ∙ told (sheet_judged s)) buf
+      (λ _ _ _. says) s (verdict_in x) e (ap (λ (y : SheetRead). verdict_in y) q ∙ told (sheet_judged s)) buf
     where
-      told : (j : Judged Sheet) → (sheet_read_of j).verdict ≡ verdict_of j
+      told : (j : Judged Sheet) → verdict_in (sheet_read_of j) ≡ verdict_of j
       told (good y) = refl
       told (bad r) = refl

@@ -1,13 +1,15 @@
 -- A sheet's file judged to the end: what was read up to and with 5, then 14 of the plant that is made; and what sheet to plant leaves. Relies on page Sheets,
 -- and for the plant on made's page Written.
 use Rattle.std.specs.Prelude.{Ok, Err}
-use Prim.Native.Nat.{ℕ}
+use Prim.Native.Nat.{ℕ, ◌+◌}
 use mathlib.Core.Path.{◌≡◌, refl, sym, ap, ◌∙◌}
-use mathlib.Core.Bool.{true, false}
+use mathlib.Core.Bool.{Bool, true, false, cond}
 use mathlib.Core.List.{List, map}
-use Rattle.meaning.specs.Answers.{SheetRead}
-use Rattle.laws.specs.Lists.{all}
+use Rattle.laws.specs.Guards.{guard}
+use Rattle.laws.specs.Lists.{all, first_false}
 use Rattle.laws.specs.Tests.{never}
+use native.Mathlib.Nat.{zero-add}
+use Rattle.meaning.specs.Answers.{SheetRead}
 use Rattle.meaning.specs.declared.Refusal.{Refusal}
 use Rattle.meaning.specs.declared.Sheet.{Sheet}
 use Rattle.meaning.specs.Refusals.{bad_result}
@@ -17,51 +19,68 @@ use Rattle.meaning.specs.Plants.{plant_from, plant_left}
 use Rattle.meaning.specs.Sheets.{sheet_form, made_numbers, is_near, sheet_judged, sheet_read_of, made_left}
 use Rattle.promises.specs.Sheets.SheetPlants.{made-refused}
 use Rattle.sheets.specs.declared.made.Made.{Made}
-use Rattle.sheets.specs.Made.{made_of}
-use Rattle.sheets.specs.Sheets.{unfitted_of, unfitted, then_fitting, fitted}
+use Rattle.sheets.specs.Made.{held_made, made_of}
+use Rattle.sheets.specs.Sheets.{unfitted_of, unfitted, then_fitting, fitted, planned_by, planned_of}
+use Rattle.sheets.proofs.wholes.Counts.{near-holds}
 use Rattle.sheets.proofs.made.Written.{held-left}
 
--- ---- a verdict says how a file was judged
+-- ---- what a reader answers says how a file was judged
 
-pub refused-judged : (j : Judged Sheet) (e : Refusal) → (sheet_read_of j).verdict ≡ Err e → j ≡ bad e
+pub refused-judged : (j : Judged Sheet) (e : Refusal) → sheet_read_of j ≡ Err e → j ≡ bad e
 refused-judged (good h) e v = never cc
 refused-judged (bad r) e v = let q : r ≡ e = cc in ap bad q
 
-pub taken-judged : (j : Judged Sheet) → (sheet_read_of j).verdict ≡ Ok tt → j ≡ good (sheet_read_of j).sheet
-taken-judged (good h) v = refl
-taken-judged (bad r) v = never cc
+pub taken-judged : (j : Judged Sheet) (h : Sheet) → sheet_read_of j ≡ Ok h → j ≡ good h
+taken-judged (good x) h v = let q : x ≡ h = cc in ap good q
+taken-judged (bad r) h v = never cc
 
 -- ---- 14 behind it
 
-module _ (h : Sheet) (m : Made) (e : m ≡ made_of h) where
-  pub not-fitting : m.fits ≡ false → then_fitting (good h) ≡ bad (bad_result m.place)
-  not-fitting f = let q : all (map is_near (made_numbers h)) ≡ false = ap (λ (x : Made). x.fits) (sym e) ∙ f in rw e (simp q)
+module _ (h : Sheet) where
+  pub not-fitting : (e : Refusal) → made_of h ≡ Err e → then_fitting (good h) ≡ bad e
+  not-fitting e = go (all (map is_near (made_numbers h)))
+    where
+      go : (t : Bool) → cond t (Ok (held_made h)) (Err (bad_result (0 + first_false (map is_near (made_numbers h))))) ≡ Err e
+          → guard t (bad (bad_result (first_false (map is_near (made_numbers h))))) (λ _. good h) ≡ bad e
+      go true q = never cc
+      go false q = let r : bad_result (0 + first_false (map is_near (made_numbers h))) ≡ e = cc in ap bad (rw zero-add at r)
 
-  pub all-fitting : m.fits ≡ true → then_fitting (good h) ≡ good h
-  all-fitting f = let q : all (map is_near (made_numbers h)) ≡ true = ap (λ (x : Made). x.fits) (sym e) ∙ f in simp q
+  module _ (m : Made) (q : made_of h ≡ Ok m) where
+    pub all-fitting : then_fitting (good h) ≡ good h
+    all-fitting = go (all (map is_near (made_numbers h))) q
+      where
+        go : (t : Bool) → cond t (Ok (held_made h)) (Err (bad_result (0 + first_false (map is_near (made_numbers h))))) ≡ Ok m
+            → guard t (bad (bad_result (first_false (map is_near (made_numbers h))))) (λ _. good h) ≡ good h
+        go true q = refl
+        go false q = never cc
 
-module _ (s : List ℕ) (r : SheetRead) (e : r ≡ unfitted s) where
-  pub values-refused : (x : Refusal) → r.verdict ≡ Err x → sheet_judged s ≡ bad x
+    pub made_held : m ≡ held_made h
+    made_held = near-holds 0 (made_numbers h) (held_made h) m q
+
+module _ (s : List ℕ) where
+  pub values-refused : (x : Refusal) → unfitted s ≡ Err x → sheet_judged s ≡ bad x
   unfolding sheet_judged unfitted
-  values-refused x v =
-      let j = unfitted_of (values_of sheet_form s) in
-      fitted (values_of sheet_form s) ∙ ap then_fitting (refused-judged j x (ap (λ (z : SheetRead). z.verdict) (sym e) ∙ v))
+  values-refused x v = let j = unfitted_of (values_of sheet_form s) in fitted (values_of sheet_form s) ∙ ap then_fitting (refused-judged j x v)
 
-  module _ (v : r.verdict ≡ Ok tt) where
-    pub values-taken : sheet_judged s ≡ then_fitting (good r.sheet)
-    unfolding sheet_judged unfitted
-    values-taken =
-        let j = unfitted_of (values_of sheet_form s) in
-        fitted (values_of sheet_form s) ∙ ap then_fitting (taken-judged j (ap (λ (z : SheetRead). z.verdict) (sym e) ∙ v))
-        ∙ ap (λ (z : SheetRead). then_fitting (good z.sheet)) (sym e)
+  pub values-taken : (h : Sheet) → unfitted s ≡ Ok h → sheet_judged s ≡ then_fitting (good h)
+  unfolding sheet_judged unfitted
+  values-taken h v = let j = unfitted_of (values_of sheet_form s) in fitted (values_of sheet_form s) ∙ ap then_fitting (taken-judged j h v)
 
-    -- ---- what sheet to plant leaves
+  -- ---- what sheet to plant leaves
 
-    module _ (m : Made) (w : m ≡ made_of r.sheet) (buf : List ℕ) where
-      pub unfit-left : m.fits ≡ false → made_left s buf ≡ refused_with (bad_result m.place) buf
-      unfit-left f = made-refused s (bad_result m.place) (values-taken ∙ not-fitting r.sheet m w f) buf
+  module _ (buf : List ℕ) where
+    pub unfit-left : (e : Refusal) → planned_of s ≡ Err e → made_left s buf ≡ refused_with e buf
+    unfit-left e q = made-refused s e (go (unfitted s) refl q) buf
+      where
+        go : (r : SheetRead) → unfitted s ≡ r → planned_by r ≡ Err e → sheet_judged s ≡ bad e
+        go (Ok h) v q = values-taken h v ∙ not-fitting h e q
+        go (Err x) v q = let r : x ≡ e = cc in values-refused x v ∙ ap bad r
 
-      pub fit-left : m.fits ≡ true → made_left s buf ≡ plant_left (plant_from m.outline m.ends m.coef) buf
-      fit-left f =
-          sym (ap (λ (x : Made). plant_left (plant_from x.outline x.ends x.coef) buf) w
-          ∙ held-left s r.sheet buf (values-taken ∙ all-fitting r.sheet m w f))
+    pub fit-left : (m : Made) → planned_of s ≡ Ok m → made_left s buf ≡ plant_left (plant_from m.outline m.ends m.coef) buf
+    fit-left m q = go (unfitted s) refl q
+      where
+        go : (r : SheetRead) → unfitted s ≡ r → planned_by r ≡ Ok m → made_left s buf ≡ plant_left (plant_from m.outline m.ends m.coef) buf
+        go (Ok h) v q =
+            sym (ap (λ (x : Made). plant_left (plant_from x.outline x.ends x.coef) buf) (made_held h m q)
+            ∙ held-left s h buf (values-taken h v ∙ all-fitting h m q))
+        go (Err x) v q = never cc

@@ -3,18 +3,17 @@
 use Rattle.std.specs.Prelude.{Some, None}
 use Prim.Native.Nat.{ℕ, zero, suc, ◌+◌, ◌-◌, ◌*◌, ◌/◌, ◌%◌, ◌^◌, ◌≤◌, ◌<◌}
 use mathlib.Core.Path.{◌≡◌, refl, sym, ap, ◌∙◌, subst}
-use mathlib.Core.Bool.{Bool, true, false, not, cond, true≢false}
+use mathlib.Core.Bool.{Bool, true, false, cond}
 use native.Mathlib.Nat.{le_trans, le_of_lt, le_of_suc-le-suc, le-add_right, lt_of_le_of_lt, zero-lt-suc, mul_comm, mul_assoc, mul-add, one-mul, mul-le-mul, mul-le-mul_left, mul-le-mul_right, div-add-mod', div-eq_of_lt, add-div_right, mul-add-div_right, div-div-eq-div-mul, mul-div-mul_left, mul-div-mul_right, le-div_iff_mul-le}
 use native.Mathlib.Omega.{arith}
 use borrow.Author.Tests.{le-leb, lt-leb, eqb-true, eqb-false}
-use lib.Dec.{T, eqb, lit<, lit≤}
+use lib.Dec.{eqb, lit<, lit≤}
 use lib.Pow.{pow-add, pow_pos, pow_mono, shr-shr}
 use lib.IntN.{pos, nat_abs}
-use lib.Ieee.{Float, nan, inf, fin, binary64, up, down, of_fields, is_nan, ne}
+use lib.Ieee.{Float, nan, inf, fin, binary64, up, down, of_fields, is_nan}
 use lib.Ieee.Fits.{down_pos}
 use lib.Ieee.Exact.{HasValue}
 use lib.Ieee.Nearest.{div_same}
-use lib.Ieee.Compare.{nan_differs}
 use Rattle.meaning.specs.Sheets.{signed_by, limited_to, whole_of}
 use Rattle.promises.specs.Sheets.Nearest.{signed-size, crossed}
 use Rattle.sheets.proofs.wholes.Fields.{top-is, low_value, field-value}
@@ -45,16 +44,11 @@ whole-at limit k (fin t m e) s u l p h =
 
 -- ---- not a number, and what lies outside every limit
 
-pub nan-out : (limit k : ℕ) → whole_of limit k nan ≡ None
-unfolding whole_of
-nan-out limit k = refl
-
--- a float that equals itself is no NaN
-pub itself : (x : Float) → ne x x ≡ false → T (not (is_nan x))
-unfolding is_nan
-itself nan h = absurd (true≢false (sym nan_differs ∙ h))
-itself (inf s) h = tt
-itself (fin s m e) h = tt
+pub nan-out : (limit k : ℕ) (x : Float) → is_nan x ≡ true → None ≡ whole_of limit k x
+unfolding whole_of is_nan
+nan-out limit k nan h = refl
+nan-out limit k (inf s) h = cc
+nan-out limit k (fin s m e) h = cc
 
 top-out : (limit k : ℕ) (b s : Bool) → whole_of limit k (cond b (inf s) nan) ≡ None
 unfolding whole_of

@@ -1,34 +1,46 @@
 -- `bands::widened` goes dimension by dimension. Assumes nothing.
-use Prim.Native.Nat.{ℕ, ◌+◌, ◌*◌}
-use mathlib.Core.Path.{ap, ◌∙◌}
+use Prim.Native.Nat.{◌+◌, ◌*◌}
+use mathlib.Core.Path.{◌≡◌, sym, ◌∙◌}
 use native.Mathlib.Omega.{arith}
+use mir.Syntax.{w64}
+use mir.Val.{SFits}
 use mir.Facts.{to_z-of_z}
-use Rattle.laws.specs.Integers.{ok64}
-use Rattle.meaning.specs.Answers.{Whole}
-use Rattle.meaning.specs.Sheets.{near_value}
-use Rattle.sheets.specs.Wholes.{joined, near}
-use Rattle.sheets.specs.Bands.{low_end}
-use Rattle.sheets.proofs.bands.Laws.{bands-none, bands-more, bands-all}
+use Rattle.std.proofs.lemmas.Result.{err_from_is_err_and}
+use Rattle.meaning.specs.Refusals.{bad_result}
+use Rattle.sheets.specs.Bands.{most_ends, end_at}
+use Rattle.sheets.proofs.wholes.Counts.{fit-none}
+use Rattle.sheets.proofs.bands.Laws.{low-stops, high-stops, bands-more, bands-all}
 use Rattle.sheets.proofs.bands.widened.Goals as goal
 
 pub loop-i-init : goal.loop-i-init
-loop-i-init c = bands-none c.args.h
+loop-i-init c = fit-none most_ends (end_at c.args.h) (2 * c.args.h.n)
+
+pub returns-in_err-lo : goal.returns-in_err-lo
+returns-in_err-lo c =
+    let z = c.args in
+    let i = c.loop-i.i in
+    let p = err_from_is_err_and c.from_residual.result c.from_residual.ensures.1 in
+    let w = c.in_err-lo.ensures in
+    let e : c.in_err-lo.field-0.0 ≡ bad_result (z.place + 2 * i) = grind (arith, w.value, w.ok_part, c.bad_result.ensures) in
+    rw (p.1, p.2, e) (sym (low-stops z.h i c.loop-i.ends z.place c.loop-i.invariant (omega arith) (sym c.low_end.ensures ∙ w.ok_part)))
+
+pub returns-in_err-hi : goal.returns-in_err-hi
+returns-in_err-hi c =
+    let z = c.args in
+    let i = c.loop-i.i in
+    let p = err_from_is_err_and c.from_residual-in_err-hi.result c.from_residual-in_err-hi.ensures.1 in
+    let w = c.in_err-hi.ensures in
+    let e : c.in_err-hi.field-0.0 ≡ bad_result (z.place + 2 * i + 1) = grind (arith, w.value, w.ok_part, c.bad_result-in-loop-i.ensures) in
+    rw (p.1, p.2, e) (sym (high-stops z.h i c.loop-i.ends z.place c.loop-i.invariant c.requires.fact_1.few (omega arith) c.in_ok-lo.lo (sym c.low_end.ensures ∙ c.in_ok-lo.ensures.ok_part) (sym c.high_end.ensures ∙ w.ok_part)))
 
 pub loop-i-preserved : goal.loop-i-preserved
 loop-i-preserved c =
-    let h = c.args.h in
-    let i = c.loop-i.i in
-    let s = c.requires in
-    let low = c.low_end-lo.ensures in
-    let high = c.high_end-hi.ensures in
-    let v = c.value in
-    let w = c.value-in-loop-i in
-    let lo = to_z-of_z (ok64 v.result v.type_inv) ∙ v.ensures ∙ ap near_value low in
-    let hi = to_z-of_z (ok64 w.result w.type_inv) ∙ w.ensures ∙ ap near_value high in
-    let one = c.joined_one-first.ensures ∙ ap (λ (w : Whole). joined c.loop-i.first (2 * i) (near w)) low in
-    let two = c.joined_one-first-in-loop-i.ensures ∙ ap (λ (first : ℕ). joined first (2 * i + 1) (near c.high_end-hi.result)) one
-    ∙ ap (λ (w : Whole). joined (joined c.loop-i.first (2 * i) (near (low_end h i))) (2 * i + 1) (near w)) high in
-    rw (lo, hi, two) (bands-more c.loop-i.invariant (omega arith) s.few)
+    let z = c.args in
+    let lo = c.in_ok-lo in
+    let hi = c.in_ok-hi in
+    let l : SFits w64 lo.lo = record { sfits = omega arith } in
+    let m : SFits w64 hi.hi = record { sfits = omega arith } in
+    rw (to_z-of_z l, to_z-of_z m) (bands-more z.h c.loop-i.i c.loop-i.ends z.place c.loop-i.invariant c.requires.fact_1.few (omega arith) lo.lo (sym c.low_end.ensures ∙ lo.ensures.ok_part) hi.hi (sym c.high_end.ensures ∙ hi.ensures.ok_part))
 
 pub returns : goal.returns
-returns c = bands-all c.loop-i.invariant (omega arith) c.requires.few
+returns c = sym (bands-all c.args.h c.loop-i.i c.loop-i.ends c.args.place c.loop-i.invariant c.requires.fact_1.few (omega arith))

@@ -3,4 +3,4 @@ use Rattle.sheets.proofs.bands.Laws.{BandsUpTo}
 use Rattle.sheets.proofs.bands.widened.Given as goal
 
 abbrev pub invariant-loop-i : goal.invariant-loop-i
-invariant-loop-i l = BandsUpTo l.h l.i l.ends l.first
+invariant-loop-i l = BandsUpTo l.h l.i l.ends

@@ -1,23 +1,16 @@
 -- `floats::read_two`: the first, then the second. Assumes nothing.
-use mathlib.Core.Path.{subst}
-use Rattle.meaning.specs.Sheets.{any_float}
-use Rattle.sheets.specs.Floats.{ok_of, FloatTold}
-use Rattle.sheets.proofs.floats.Laws.{first-cut, second-cut, two-read}
+use Rattle.std.proofs.Common.{rules}
+use Rattle.std.proofs.lemmas.Result.{err_from_is_err_and}
+use Rattle.sheets.specs.Floats.{ok_of}
+use Rattle.sheets.proofs.floats.Laws.{second-cut, two-read}
 use Rattle.sheets.proofs.floats.read_two.Goals as goal
 
-pub returns-in-Err : goal.returns-in-Err
-returns-in-Err c =
+pub returns-in_err-y : goal.returns-in_err-y
+returns-in_err-y c =
     let z = c.args in
-    first-cut (ok_of z.asked) z.s.now z.at c.in-Err.e (subst (FloatTold (ok_of z.asked) z.s.now z.at) c.in-Err.is c.read_float.ensures)
+    let x = c.in_ok-x in
+    let p = err_from_is_err_and c.from_residual-in_err-y.result c.from_residual-in_err-y.ensures.1 in
+    rw (p.1, p.2) (second-cut (ok_of z.asked) z.s.now z.at x.x x.mid x.ensures _ c.in_err-y.ensures)
 
-pub returns-in-Err-read_float : goal.returns-in-Err-read_float
-returns-in-Err-read_float c =
-    let z = c.args in
-    let t = subst (FloatTold (ok_of z.asked) z.s.now z.at) c.in-Ok.is c.read_float.ensures in
-    second-cut (ok_of z.asked) z.s.now z.at c.in-Ok.x c.in-Ok.mid t c.in-Err-read_float.e (subst (FloatTold any_float z.s.now c.in-Ok.mid) c.in-Err-read_float.is c.read_float-in-Ok.ensures)
-
-pub returns-in-Ok-read_float : goal.returns-in-Ok-read_float
-returns-in-Ok-read_float c =
-    let z = c.args in
-    let t = subst (FloatTold (ok_of z.asked) z.s.now z.at) c.in-Ok.is c.read_float.ensures in
-    two-read (ok_of z.asked) z.s.now z.at c.in-Ok.x c.in-Ok.mid t c.in-Ok-read_float.y c.in-Ok-read_float.next (subst (FloatTold any_float z.s.now c.in-Ok.mid) c.in-Ok-read_float.is c.read_float-in-Ok.ensures)
+pub returns : goal.returns
+returns c = search (rules, two-read)

@@ -2,35 +2,40 @@
 use Rattle.std.specs.Prelude.{Ok}
 use mathlib.Core.Path.{◌≡◌, sym, ◌∙◌}
 use native.Mathlib.Omega.{arith}
+use Rattle.std.proofs.lemmas.Result.{err_from_is_err_and}
 use Rattle.meaning.specs.declared.Emitter.{Emitter}
+use Rattle.meaning.specs.Refusals.{broken}
 use Rattle.sheets.proofs.rooms.Laws.{kind-cut, kind-over, own-told, none_read}
 use Rattle.sheets.proofs.rooms.read_emitter.Goals as goal
+
+pub returns-in_err-kind : goal.returns-in_err-kind
+returns-in_err-kind c =
+    let z = c.args in
+    let p = err_from_is_err_and c.from_residual.result c.from_residual.ensures.1 in
+    let h = c.in_err-kind.ensures in
+    let e : c.in_err-kind.field-0.0 ≡ broken z.at = grind (arith, h.value, h.ok_part, c.broken.ensures) in
+    rw (p.1, p.2, e) (kind-cut z.s.now z.at (sym c.number.ensures ∙ h.ok_part))
+
+pub returns-in-0 : goal.returns-in-0
+returns-in-0 c =
+    let z = c.args in
+    let k = c.in_ok-kind in
+    own-told z.s.now z.at k.kind k.next (sym c.number.ensures ∙ k.ensures.ok_part) (omega arith) (Ok (Emitter.None, k.next)) (rw c.in-0.is (none_read z.s.now k.next))
+
+pub returns-in-1 : goal.returns-in-1
+returns-in-1 c =
+    let z = c.args in
+    let k = c.in_ok-kind in
+    own-told z.s.now z.at k.kind k.next (sym c.number.ensures ∙ k.ensures.ok_part) (omega arith) c.read_heater.result (rw c.in-1.is c.read_heater.ensures)
+
+pub returns-in-2 : goal.returns-in-2
+returns-in-2 c =
+    let z = c.args in
+    let k = c.in_ok-kind in
+    own-told z.s.now z.at k.kind k.next (sym c.number.ensures ∙ k.ensures.ok_part) (omega arith) c.read_steady.result (rw c.in-2.is c.read_steady.ensures)
 
 pub returns-in_default : goal.returns-in_default
 returns-in_default c =
     let z = c.args in
-    rw c.broken.ensures (kind-cut z.s.now z.at (sym c.number.ensures ∙ c.in_default.is))
-
-pub returns-then-kind-gt2 : goal.returns-then-kind-gt2
-returns-then-kind-gt2 c =
-    let z = c.args in
-    rw c.unfit.ensures (kind-over z.s.now z.at c.in-Some.kind c.in-Some.next (sym c.number.ensures ∙ c.in-Some.is) c.if-kind-gt2.true)
-
-pub returns-then-kind-eq0 : goal.returns-then-kind-eq0
-returns-then-kind-eq0 c =
-    let z = c.args in
-    let e = sym c.number.ensures ∙ c.in-Some.is in
-    own-told z.s.now z.at c.in-Some.kind c.in-Some.next e c.if-kind-gt2.false (Ok (Emitter.None, c.in-Some.next)) (rw c.if-kind-eq0.true (none_read z.s.now c.in-Some.next))
-
-pub returns-then-kind-eq1 : goal.returns-then-kind-eq1
-returns-then-kind-eq1 c =
-    let z = c.args in
-    let e = sym c.number.ensures ∙ c.in-Some.is in
-    own-told z.s.now z.at c.in-Some.kind c.in-Some.next e c.if-kind-gt2.false c.read_heater.result (rw c.if-kind-eq1.true c.read_heater.ensures)
-
-pub returns : goal.returns
-returns c =
-    let z = c.args in
-    let e = sym c.number.ensures ∙ c.in-Some.is in
-    let two : c.in-Some.kind ≡ 2 = omega arith in
-    own-told z.s.now z.at c.in-Some.kind c.in-Some.next e c.if-kind-gt2.false c.read_steady.result (rw two c.read_steady.ensures)
+    let k = c.in_ok-kind in
+    rw c.unfit.ensures (kind-over z.s.now z.at k.kind k.next (sym c.number.ensures ∙ k.ensures.ok_part) (omega arith))

@@ -1,20 +1,13 @@
 -- `rooms::read_room`: the loss, then the rest. Assumes nothing.
-use mathlib.Core.Path.{sym, subst}
-use Rattle.meaning.specs.Sheets.{not_below}
-use Rattle.sheets.specs.Floats.{FloatTold}
-use Rattle.sheets.specs.Rooms.{RoomAs}
+use Rattle.std.proofs.Common.{rules}
+use Rattle.std.proofs.lemmas.Result.{err_from_is_err_and}
 use Rattle.sheets.proofs.rooms.Laws.{loss-cut, rest-told}
 use Rattle.sheets.proofs.rooms.read_room.Goals as goal
 
-pub returns-in-Err : goal.returns-in-Err
-returns-in-Err c =
-    let z = c.args in
-    subst (RoomAs z.s.now z.at z.n c.refused.result.room) (sym c.refused.ensures)
-    (loss-cut z.s.now z.at z.n c.in-Err.e (subst (FloatTold not_below z.s.now z.at) c.in-Err.is c.read_float.ensures))
+pub returns-in_err-loss : goal.returns-in_err-loss
+returns-in_err-loss c =
+    let p = err_from_is_err_and c.from_residual.result c.from_residual.ensures.1 in
+    rw (p.1, p.2) (loss-cut c.args.s.now c.args.at c.args.n _ c.in_err-loss.ensures)
 
-pub returns-in-Ok : goal.returns-in-Ok
-returns-in-Ok c =
-    let z = c.args in
-    let t = subst (FloatTold not_below z.s.now z.at) c.in-Ok.is c.read_float.ensures in
-    let r = c.read_rest.result in
-    rest-told z.s.now z.at z.n c.in-Ok.loss c.in-Ok.next t r.room r.answer c.read_rest.ensures
+pub returns : goal.returns
+returns c = search (rules, rest-told)

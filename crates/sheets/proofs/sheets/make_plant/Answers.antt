@@ -1,41 +1,19 @@
--- `sheets::make_plant`: what was read up to and with 5, then 14 of the plant that is made, then the plant's writer. Assumes nothing.
-use mathlib.Core.Path.{sym, ap, ◌∙◌, subst}
-use Rattle.meaning.specs.declared.Refusal.{Refusal}
-use Rattle.meaning.specs.Buffers.{Left, refused_with}
-use Rattle.promises.specs.Sheets.SheetPlants.{made-refused}
-use Rattle.sheets.specs.Sheets.{SizedAs}
-use Rattle.sheets.proofs.sheets.Fitting.{values-refused, unfit-left, fit-left}
+-- `sheets::make_plant`: the plant, or what its sheet is refused by, then the plant's writer. Assumes nothing.
+use mathlib.Core.Path.{sym, ap, ◌∙◌}
+use Rattle.meaning.specs.Buffers.{Left}
+use Rattle.sheets.proofs.sheets.Fitting.{unfit-left, fit-left}
 use Rattle.sheets.proofs.sheets.make_plant.Goals as goal
-
-pub make-made-requires : goal.make-made-requires
-make-made-requires c =
-    let r = c.read_values-read in
-    subst (SizedAs r.result.sheet) c.in-Ok.is r.ensures.sized
-
-pub returns-then-made : goal.returns-then-made
-returns-then-made c =
-    let z = c.args in
-    let r = c.read_values-read in
-    let m = c.make-made in
-    let w = c.write_plant in
-    let e = fit-left z.sheet.now r.result r.ensures.value c.in-Ok.is m.result m.ensures z.buf.now c.if-made.true in
-    record { answer = w.ensures.answer ∙ ap (λ (x : Left). x.answer) (sym e); bytes = w.ensures.bytes ∙ ap (λ (x : Left). x.buffer) (sym e) }
 
 pub returns-in-Err : goal.returns-in-Err
 returns-in-Err c =
     let z = c.args in
-    let r = c.read_values-read in
-    let e = made-refused z.sheet.now c.in-Err.e (values-refused z.sheet.now r.result r.ensures.value c.in-Err.e c.in-Err.is) z.buf.now in
     let w = c.refuse in
+    let e = unfit-left z.sheet.now z.buf.now c.in-Err.e (sym c.in-Err.ensures) in
     record { answer = w.ensures.answer ∙ ap (λ (x : Left). x.answer) (sym e); bytes = w.ensures.bytes ∙ ap (λ (x : Left). x.buffer) (sym e) }
 
-pub returns-else-made : goal.returns-else-made
-returns-else-made c =
+pub returns-in-Ok : goal.returns-in-Ok
+returns-in-Ok c =
     let z = c.args in
-    let r = c.read_values-read in
-    let m = c.make-made in
-    let e =
-    ap (λ (x : Refusal). refused_with x z.buf.now) c.bad_result.ensures
-    ∙ sym (unfit-left z.sheet.now r.result r.ensures.value c.in-Ok.is m.result m.ensures z.buf.now c.if-made.false) in
-    let w = c.refuse-in-Ok in
-    record { answer = w.ensures.answer ∙ ap (λ (x : Left). x.answer) e; bytes = w.ensures.bytes ∙ ap (λ (x : Left). x.buffer) e }
+    let w = c.write_plant in
+    let e = fit-left z.sheet.now z.buf.now c.in-Ok.made (sym c.in-Ok.ensures) in
+    record { answer = w.ensures.answer ∙ ap (λ (x : Left). x.answer) (sym e); bytes = w.ensures.bytes ∙ ap (λ (x : Left). x.buffer) (sym e) }

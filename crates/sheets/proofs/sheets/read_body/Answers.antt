@@ -1,62 +1,43 @@
 -- `sheets::read_body`: each return cites the law of the part that it stops at. Assumes nothing.
-use mathlib.Core.Path.{sym, ap, ◌∙◌, subst}
+use mathlib.Core.Path.{sym, ap, ◌∙◌}
+use Rattle.std.proofs.lemmas.Result.{err_from_is_err_and}
 use Rattle.meaning.specs.declared.Refusal.{Refusal}
 use Rattle.meaning.specs.Files.{bad}
-use Rattle.meaning.specs.Sheets.{above, sheet_read_of}
-use Rattle.sheets.specs.Rooms.{RoomsAs}
-use Rattle.sheets.specs.Floats.{TwoTold}
-use Rattle.sheets.proofs.sheets.Laws.{time-refused, rooms-refused, left_over, by-verdict, refused-sized, taken-sized}
+use Rattle.meaning.specs.Sheets.{sheet_read_of}
+use Rattle.sheets.proofs.sheets.Laws.{time-refused, rooms-refused, left_over, by-verdict}
 use Rattle.sheets.proofs.sheets.read_body.Goals as goal
 
-pub returns-then-next-s : goal.returns-then-next-s
-returns-then-next-s c =
+pub returns-in_err-time-clause-value : goal.returns-in_err-time-clause-value
+returns-in_err-time-clause-value c =
     let z = c.args in
-    let s = c.args.s.now in
-    let f = c.read_two in
-    let u = subst (TwoTold above s z.at) c.in-Ok.is f.ensures in
-    let m = c.read_rooms-read in
-    let v = subst (RoomsAs s c.in-Ok.mid z.b.n m.result.rooms) c.in-Ok-past.is m.ensures in record {
-      value = c.refused-then-next-s.ensures ∙ ap (λ (k : Refusal). sheet_read_of (bad k)) c.unfit.ensures
-          ∙ sym (left_over s z.b z.at c.in-Ok.time c.in-Ok.outside c.in-Ok.mid u m.result.rooms c.in-Ok-past.next v c.if-next-s.true);
-      sized = refused-sized c.refused-then-next-s.result _ c.refused-then-next-s.ensures;
-    }
+    let p = err_from_is_err_and c.from_residual.result c.from_residual.ensures.1 in
+    rw (p.1, p.2) (sym (time-refused z.s.now z.b z.at _ c.in_err-time.ensures))
 
-pub returns-in-Err : goal.returns-in-Err
-returns-in-Err c =
+pub returns-in_err-rooms-clause-value : goal.returns-in_err-rooms-clause-value
+returns-in_err-rooms-clause-value c =
     let z = c.args in
-    let s = c.args.s.now in
-    let f = c.read_two in
-    record { value = c.refused.ensures ∙ sym (time-refused s z.b z.at c.in-Err.e (subst (TwoTold above s z.at) c.in-Err.is f.ensures)); sized = refused-sized c.refused.result _ c.refused.ensures }
+    let u = c.in_ok-time in
+    let p = err_from_is_err_and c.from_residual-in_err-rooms.result c.from_residual-in_err-rooms.ensures.1 in
+    rw (p.1, p.2) (sym (rooms-refused z.s.now z.b z.at u.time u.outside u.mid u.ensures _ c.in_err-rooms.ensures))
 
-pub returns-in-Err-past : goal.returns-in-Err-past
-returns-in-Err-past c =
+pub returns-then-next-s-clause-value : goal.returns-then-next-s-clause-value
+returns-then-next-s-clause-value c =
     let z = c.args in
-    let s = c.args.s.now in
-    let f = c.read_two in
-    let u = subst (TwoTold above s z.at) c.in-Ok.is f.ensures in
-    let m = c.read_rooms-read in
-    record {
-      value = c.refused-in-Err-past.ensures
-          ∙ sym (rooms-refused s z.b z.at c.in-Ok.time c.in-Ok.outside c.in-Ok.mid u c.in-Err-past.e (subst (RoomsAs s c.in-Ok.mid z.b.n m.result.rooms) c.in-Err-past.is m.ensures));
-      sized = refused-sized c.refused-in-Err-past.result _ c.refused-in-Err-past.ensures;
-    }
+    let u = c.in_ok-time in
+    let v = c.in_ok-rooms in
+    ap (λ (k : Refusal). sheet_read_of (bad k)) c.unfit.ensures ∙ sym (left_over z.s.now z.b z.at u.time u.outside u.mid u.ensures v.rooms v.next v.ensures c.if-next-s.true)
 
-pub returns-in-Err-related : goal.returns-in-Err-related
-returns-in-Err-related c =
+pub returns-in_err-related-clause-value : goal.returns-in_err-related-clause-value
+returns-in_err-related-clause-value c =
     let z = c.args in
-    let s = c.args.s.now in
-    let f = c.read_two in
-    let u = subst (TwoTold above s z.at) c.in-Ok.is f.ensures in
-    let m = c.read_rooms-read in
-    let v = subst (RoomsAs s c.in-Ok.mid z.b.n m.result.rooms) c.in-Ok-past.is m.ensures in
-    record { value = c.refused-in-Err-related.ensures ∙ sym (by-verdict s z.b z.at c.in-Ok.time c.in-Ok.outside c.in-Ok.mid u m.result.rooms c.in-Ok-past.next v c.requires.fact_1 c.if-next-s.false z.related _ c.requires.fact_2 c.in-Err-related.is); sized = refused-sized c.refused-in-Err-related.result _ c.refused-in-Err-related.ensures }
+    let u = c.in_ok-time in
+    let v = c.in_ok-rooms in
+    let p = err_from_is_err_and c.from_residual-in_err-related.result c.from_residual-in_err-related.ensures.1 in
+    rw (p.1, p.2) (sym (by-verdict z.s.now z.b z.at u.time u.outside u.mid u.ensures v.rooms v.next v.ensures c.requires.fact_1 c.if-next-s.false z.related _ c.requires.fact_2 c.in_err-related.was))
 
-pub returns-in-Ok-related : goal.returns-in-Ok-related
-returns-in-Ok-related c =
+pub returns-clause-value : goal.returns-clause-value
+returns-clause-value c =
     let z = c.args in
-    let s = c.args.s.now in
-    let f = c.read_two in
-    let u = subst (TwoTold above s z.at) c.in-Ok.is f.ensures in
-    let m = c.read_rooms-read in
-    let v = subst (RoomsAs s c.in-Ok.mid z.b.n m.result.rooms) c.in-Ok-past.is m.ensures in
-    record { value = c.accepted.ensures ∙ sym (by-verdict s z.b z.at c.in-Ok.time c.in-Ok.outside c.in-Ok.mid u m.result.rooms c.in-Ok-past.next v c.requires.fact_1 c.if-next-s.false z.related _ c.requires.fact_2 c.in-Ok-related.is); sized = taken-sized c.accepted.result s z.b z.at c.in-Ok.time c.in-Ok.outside m.result.rooms c.accepted.ensures c.requires.fact_1 }
+    let u = c.in_ok-time in
+    let v = c.in_ok-rooms in
+    c.accepted.ensures ∙ sym (by-verdict z.s.now z.b z.at u.time u.outside u.mid u.ensures v.rooms v.next v.ensures c.requires.fact_1 c.if-next-s.false z.related _ c.requires.fact_2 c.in_ok-related.was)

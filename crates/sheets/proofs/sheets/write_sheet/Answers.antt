@@ -20,7 +20,7 @@ pub returns : goal.returns
 returns c =
     let z = c.args in
     let d = c.put_sheet-drafted in
-    let x = c.read_sheet-read in
+    let x = c.read_sheet in
     let w = c.leave in
     let i = in-draft z.h d.result d.new.buf d.ensures in
     let e = sheet-left z.h (take d.result d.new.buf) x.result i.front x.ensures z.buf.now in

@@ -36,8 +36,8 @@ returns-then-negative c =
     ap Some (turned-is a.size (omega arith) ∙ ap (λ (s : Bool). signed_by s a.size) (sym c.if-negative.true))
     ∙ sym (limited-in a.limit a.negative a.size (omega arith))
 
-pub returns : goal.returns
-returns c =
+pub returns-else-negative : goal.returns-else-negative
+returns-else-negative c =
     let a = c.args in
     ap Some (plain a.size (omega arith) ∙ ap (λ (s : Bool). signed_by s a.size) (sym c.if-negative.false))
     ∙ sym (limited-in a.limit a.negative a.size (omega arith))

@@ -5,19 +5,13 @@ use native.Mathlib.Omega.{arith}
 use lib.Dec.{T}
 use lib.Pow.{shr_le}
 use lib.Ieee.{binary64, of_fields, to_bits}
-use lib.Ieee.Compare.{differs_from_itself}
 use Rattle.meaning.specs.Sheets.{whole_of}
 use Rattle.sheets.proofs.wholes.Fields.{sign, exponent, digits, digits-few, of-fields}
-use Rattle.sheets.proofs.wholes.Laws.{nan-out, itself, far-out, near-zero, near-shifted, high, first_small, second-small, high_small}
+use Rattle.sheets.proofs.wholes.Laws.{nan-out, far-out, near-zero, near-shifted, high, first_small, second-small, high_small}
 use Rattle.sheets.proofs.wholes.whole.Goals as goal
 
-pub returns-then-x : goal.returns-then-x
-returns-then-x c =
-    let a = c.args in
-    sym (ap (whole_of a.limit a.k) (differs_from_itself a.x (subst T (sym c.if-x.true) tt)) ∙ nan-out a.limit a.k)
-
-pub float_to_bits-bits : goal.float_to_bits-bits
-float_to_bits-bits c = itself c.args.x c.if-x.false
+pub returns-then-is_nan : goal.returns-then-is_nan
+returns-then-is_nan c = nan-out c.args.limit c.args.k c.args.x (sym c.if-is_nan.ensures.value)
 
 pub returns-then-e-ge1057 : goal.returns-then-e-ge1057
 returns-then-e-ge1057 c =
