@@ -92,4 +92,3 @@ pub struct Sheet {
     pub outside: f64,
     pub rooms: [Room; 4],
 }
-

@@ -72,16 +72,8 @@ fn read_values(s: &[u8]) -> Result<Sheet, Refusal>
     ensures value { result ≡ unfitted s.now }
     ensures sized { TakenSized result }
 {
-    let read = beginnings::read_beginning(s, 1, 1_000);
-    let past = read.answer;
-    match past {
-        Err(e) => Err(e),
-        Ok(at) => {
-            let b = read.beginning;
-            let related = read.related;
-            read_body(s, b, related, at)
-        }
-    }
+    let read = beginnings::read_beginning(s, 1, 1_000)?;
+    read_body(s, read.beginning, read.related, read.next)
 }
 
 // 14, told of the plant that a sheet makes.
