@@ -64,19 +64,11 @@ fn read_edges(s: &[u8], at: usize, count: usize, edges: &mut [i64; EDGES]) -> Re
     ensures { EdgesTold s.now at count edges.new result }
 {
     let mut p = at;
-    let mut i: usize = 0;
-    while i < count {
-        match spans::read_span(s, p, -1_000_000, 1_000_000) {
-            Err(e) => {
-                return Err(e);
-            }
-            Ok((lo, hi, next)) => {
-                edges[2 * i] = lo;
-                edges[2 * i + 1] = hi;
-                p = next;
-            }
-        }
-        i += 1;
+    for i in 0..count {
+        let (lo, hi, next) = spans::read_span(s, p, -1_000_000, 1_000_000)?;
+        edges[2 * i] = lo;
+        edges[2 * i + 1] = hi;
+        p = next;
     }
     Ok(p)
 }
@@ -89,13 +81,9 @@ fn box_on(n: usize, edges: &[i64; EDGES], i: usize) -> Bx
     let mut lo = [0i64; 4];
     let mut hi = [0i64; 4];
     let from = 2 * (i * n);
-    let mut j: usize = 0;
-    while j < n {
-        let l = edges[from + 2 * j];
-        let h = edges[from + 1 + 2 * j];
-        lo[j] = l;
-        hi[j] = h;
-        j += 1;
+    for j in 0..n {
+        lo[j] = edges[from + 2 * j];
+        hi[j] = edges[from + 1 + 2 * j];
     }
     Bx { lo, hi }
 }
@@ -127,20 +115,10 @@ pub fn frame_at(f: Frame, edges: &[i64; EDGES], i: usize) -> Frame
     requires { (f.n ≤ 4) × (i ≤ most_above) }
     ensures { result ≡ frame_at f edges.now i }
 {
-    let own = f.root;
-    let root = box_at(f.n, own, edges, i);
-    let goal = box_below(f.n, own, edges, i);
-    let safe = f.safe;
     Frame {
-        form: f.form,
-        n: f.n,
-        modes: f.modes,
-        q: f.q,
-        k: f.k,
-        d: f.d,
-        root,
-        goal,
-        safe,
+        root: box_at(f.n, f.root, edges, i),
+        goal: box_below(f.n, f.root, edges, i),
+        ..f
     }
 }
 
@@ -149,11 +127,7 @@ fn keeps(n: usize, below: Bx, b: Bx, safe: Bx) -> bool
     requires { n ≤ 4 }
     ensures { result ≡ keeps n below b safe }
 {
-    if boxes::within(n, below, b) {
-        boxes::within(n, b, safe)
-    } else {
-        false
-    }
+    boxes::within(n, below, b) && boxes::within(n, b, safe)
 }
 
 // The first box above R, from 0, that does not hold the one below it or is not in S; m where there is none.
@@ -162,24 +136,21 @@ fn first_unheld(n: usize, root: Bx, safe: Bx, edges: &[i64; EDGES], m: usize) ->
     ensures { result ≡ first_false (tab (held n (box_of n root) (values_in m edges.now) (box_of n safe)) m 0) }
 {
     let mut below = root;
-    let mut i: usize = 0;
-    while i < m {
+    for i in 0..m {
         let b = box_on(n, edges, i);
-        if keeps(n, below, b, safe) {
-            below = b;
-            i += 1;
-        } else {
+        if !keeps(n, below, b, safe) {
             return i;
         }
+        below = b;
     }
-    i
+    m
 }
 
 // Whether bytes are left over that are to be told.
 fn left_over(whole: bool, next: usize, size: usize) -> bool
     ensures { result ≡ (whole && not (eqb next size)) }
 {
-    if whole { next != size } else { false }
+    whole && next != size
 }
 
 // The chain at a file's beginning; where it is the whole file, bytes left over are told before 15.
