@@ -1,7 +1,7 @@
 // The checker (document 01, "Table file" and the order of judgement): plant, then the table in order, one pass; leftover bytes last.
 // Relies on crate files for the plant, on headers and walks for the table's parts. Leaves out how a table is made, and whether it is the defined
 // one: any table whose tiles work is accepted.
-ghost use Rattle.std.specs.Prelude.{◌≡◌};
+ghost use Rattle.std.specs.Prelude.{◌≡◌, ◌≤◌, pos, replicate};
 ghost use Rattle.meaning.specs.Tables.{form_of, checked};
 ghost use Rattle.meaning.specs.Verdicts.{table_end, verdict};
 ghost use Rattle.tables.specs.Arrays.{RoomFor};
@@ -18,20 +18,16 @@ fn end_by(f: Frame, bands: &[i64], coef: &[i64], table: &[u8]) -> Result<usize, 
     requires { PlantSound f bands.now coef.now }
     ensures { result ≡ table_end (rules_in f bands.now coef.now) table.now }
 {
-    match headers::header(f.form, f.n, table) {
-        Err(e) => Err(e),
-        Ok(at) => {
-            let root = f.root;
-            let depth = frames::depth(f.form, f.n, f.d);
-            let edges = frames::edges_of(f);
-            let counts = frames::counts_of(f);
-            // A form that tells lengths and those that tell none have a walk each.
-            if f.form == 2 {
-                walks::walk_told(counts, &edges, bands, coef, true, table, depth, at, root)
-            } else {
-                walks::walk(counts, &edges, bands, coef, true, table, depth, at, root)
-            }
-        }
+    let at = headers::header(f.form, f.n, table)?;
+    let root = f.root;
+    let depth = frames::depth(f.form, f.n, f.d);
+    let edges = frames::edges_of(f);
+    let counts = frames::counts_of(f);
+    // A form that tells lengths and those that tell none have a walk each.
+    if f.form == 2 {
+        walks::walk_told(counts, &edges, bands, coef, true, table, depth, at, root)
+    } else {
+        walks::walk(counts, &edges, bands, coef, true, table, depth, at, root)
     }
 }
 
@@ -58,36 +54,24 @@ fn judge<'a>(f: Frame, bands: &'a [i64], coef: &'a [i64], table: &[u8]) -> Resul
     requires { PlantSound f bands.now coef.now }
     ensures { result ≡ verdict (rules_by f bands.now coef.now (form_of table.now)) table.now }
 {
-    match table_end(f, bands, coef, table) {
-        Err(e) => Err(e),
-        Ok(next) => {
-            if next == table.len() {
-                Ok(())
-            } else {
-                Err(refusals::bad_table(next))
-            }
-        }
+    let next = table_end(f, bands, coef, table)?;
+    if next == table.len() {
+        Ok(())
+    } else {
+        Err(refusals::bad_table(next))
     }
 }
 
-// The verdict on a table's file for a plant's file, the plant being read into arrays that have room for it.
-fn check_in(plant: &[u8], bands: &mut [i64], coef: &mut [i64], table: &[u8]) -> Result<(), Refusal>
-    requires { RoomFor plant.now bands.old coef.old }
+// In arrays of these sizes, which have room for the plant.
+fn check_in<const B: usize, const C: usize>(plant: &[u8], table: &[u8]) -> Result<(), Refusal>
+    requires room { RoomFor plant.now (replicate B (pos 0)) (replicate C (pos 0)) }
+    requires sizes { (B ≤ 2_048) × (C ≤ 5_120) }
     ensures { result ≡ checked plant.now table.now }
 {
-    match plants::read_plant(plant, bands, coef) {
-        Err(e) => Err(e),
-        Ok(outline) => judge(frames::framed(outline), bands, coef, table),
-    }
-}
-
-// In arrays for any plant.
-fn check_many(plant: &[u8], table: &[u8]) -> Result<(), Refusal>
-    ensures { result ≡ checked plant.now table.now }
-{
-    let mut bands = [0i64; BANDS];
-    let mut coef = [0i64; COEFFICIENTS];
-    check_in(plant, &mut bands, &mut coef, table)
+    let mut bands = [0i64; B];
+    let mut coef = [0i64; C];
+    let outline = plants::read_plant(plant, &mut bands, &mut coef)?;
+    judge(frames::framed(outline), &bands, &coef, table)
 }
 
 // The verdict on a table's file for a plant's file: number, place and step of the first fault, or accepted.
@@ -95,9 +79,7 @@ pub fn check(plant: &[u8], table: &[u8]) -> Result<(), Refusal>
     ensures { result ≡ checked plant.now table.now }
 {
     if FEW_MODES < plants::modes_told(plant) {
-        return check_many(plant, table);
+        return check_in::<BANDS, COEFFICIENTS>(plant, table);
     }
-    let mut bands = [0i64; FEW_BANDS];
-    let mut coef = [0i64; FEW_COEFFICIENTS];
-    check_in(plant, &mut bands, &mut coef, table)
+    check_in::<FEW_BANDS, FEW_COEFFICIENTS>(plant, table)
 }

@@ -44,17 +44,11 @@ fn idle_call(
     requires { FrameSound f }
     ensures { result ≡ idle_call (rules_in f [] []) table.now at place x }
 {
-    match admit(place == 0, f.n, f.root, x) {
-        Err(e) => Err(e),
-        Ok(()) => {
-            let depth = frames::depth(f.form, f.n, f.d);
-            let edges = frames::edges_of(f);
-            match finds::find(frames::counts_of(f), &edges, table, depth, at, f.root, x) {
-                Err(e) => Err(e),
-                Ok((from, k)) => states::answer(table, from, k),
-            }
-        }
-    }
+    admit(place == 0, f.n, f.root, x)?;
+    let depth = frames::depth(f.form, f.n, f.d);
+    let edges = frames::edges_of(f);
+    let (from, k) = finds::find(frames::counts_of(f), &edges, table, depth, at, f.root, x)?;
+    states::answer(table, from, k)
 }
 
 // Running: the reading must be in S; the mode at the place is answered.
@@ -69,10 +63,8 @@ fn running_call(
     ensures { result ≡ running_call (rules_in f [] []) table.now place left x }
 {
     let can = states::can_run(f.k, f.modes, table, place, left);
-    match admit(can, f.n, f.safe, x) {
-        Err(e) => Err(e),
-        Ok(()) => states::answer(table, place, left),
-    }
+    admit(can, f.n, f.safe, x)?;
+    states::answer(table, place, left)
 }
 
 // A call on a plant that was read, by the form that the table says. A running call hangs on no form.
@@ -86,15 +78,11 @@ pub(crate) fn call(
     ensures { result ≡ call (rules_by f [] [] (form_of table.now)) table.now st x }
 {
     let form = headers::form_of(table);
-    match headers::header(form, f.n, table) {
-        Err(e) => Err(e),
-        Ok(at) => {
-            if st.left == 0 {
-                idle_call(frames::formed(f, form), table, at, st.place, x)
-            } else {
-                running_call(f, table, st.place, st.left, x)
-            }
-        }
+    let at = headers::header(form, f.n, table)?;
+    if st.left == 0 {
+        idle_call(frames::formed(f, form), table, at, st.place, x)
+    } else {
+        running_call(f, table, st.place, st.left, x)
     }
 }
 
@@ -107,8 +95,6 @@ pub fn control(
 ) -> Result<(usize, State), Refusal>
     ensures { result ≡ controlled plant.now table.now st x }
 {
-    match plants::judge_plant(plant) {
-        Err(e) => Err(e),
-        Ok(outline) => { call(frames::framed(outline), table, st, x) }
-    }
+    let outline = plants::judge_plant(plant)?;
+    call(frames::framed(outline), table, st, x)
 }

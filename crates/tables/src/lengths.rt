@@ -14,13 +14,11 @@ use meaning::Refusal;
 pub fn told(form: usize, children: usize) -> usize
     ensures { result ≡ lengths_count (tells form) children }
 {
-    if form != 2 {
-        return 0;
+    if form == 2 {
+        children.saturating_sub(1)
+    } else {
+        0
     }
-    if children == 0 {
-        return 0;
-    }
-    children - 1
 }
 
 // The place behind the k lengths at `at`.
@@ -28,13 +26,9 @@ pub fn behind(k: usize, table: &[u8], at: usize) -> Result<usize, Refusal>
     ensures { result ≡ behind_at k table.now at }
 {
     let mut place = at;
-    let mut left = k;
-    while 0 < left {
-        let Some((_, next)) = numbers::number(table, place) else {
-            return Err(files::refusals::broken(place));
-        };
+    for _ in 0..k {
+        let (_, next) = numbers::number(table, place).ok_or(files::refusals::broken(place))?;
         place = next;
-        left -= 1;
     }
     Ok(place)
 }
@@ -45,9 +39,7 @@ pub fn held(told: bool, table: &[u8], at: usize, from: usize, end: usize) -> Res
     ensures { result ≡ held_at told table.now at from end }
 {
     if told {
-        let Some((size, next)) = numbers::number(table, at) else {
-            return Err(files::refusals::broken(at));
-        };
+        let (size, next) = numbers::number(table, at).ok_or(files::refusals::broken(at))?;
         if end < from {
             return Err(refusals::bad_table(at));
         }
@@ -66,18 +58,14 @@ pub fn ends(k: usize, table: &[u8], at: usize, from: usize) -> Result<usize, Ref
 {
     let mut cursor = at;
     let mut place = from;
-    let mut left = k;
-    while 0 < left {
-        let Some((size, next)) = numbers::number(table, cursor) else {
-            return Err(files::refusals::broken(cursor));
-        };
+    for _ in 0..k {
+        let (size, next) = numbers::number(table, cursor).ok_or(files::refusals::broken(cursor))?;
         let room = table.len() - place;
         if room < size {
             return Err(refusals::bad_table(cursor));
         }
         place += size;
         cursor = next;
-        left -= 1;
     }
     Ok(place)
 }
@@ -89,14 +77,10 @@ pub fn total(k: usize, table: &[u8], at: usize) -> Option<(usize, usize)>
 {
     let mut place = at;
     let mut sum: usize = 0;
-    let mut left = k;
-    while 0 < left {
-        let Some((size, next)) = numbers::number(table, place) else {
-            return None;
-        };
+    for _ in 0..k {
+        let (size, next) = numbers::number(table, place)?;
         sum += size;
         place = next;
-        left -= 1;
     }
     Some((sum, place))
 }

@@ -1,7 +1,7 @@
 // The checker of start files (document 02, request 2026-03): plant; the chain, with 15; then each table's length and the table, read within it; bytes left
 // over last.
 // Relies on crate files for the plant, on chains for the boxes, on parts and checks for a table. Leaves out how the tables are made.
-ghost use Rattle.std.specs.Prelude.{◌≡◌, ◌+◌};
+ghost use Rattle.std.specs.Prelude.{◌≡◌, ◌+◌, ◌≤◌, pos, replicate};
 ghost use Rattle.meaning.specs.Starts.{tables_at, start_checked};
 ghost use Rattle.tables.specs.Arrays.{RoomFor};
 ghost use Rattle.tables.specs.Chains.{FramesSound};
@@ -26,19 +26,15 @@ fn table_at(
     requires { PlantSound f bands.now coef.now }
     ensures { result ≡ table_at (rules_by f bands.now coef.now) start.now at }
 {
-    match parts::part_at(start, at) {
-        Err(e) => Err(e),
-        Ok((first, size)) => {
-            let end = first + size;
-            match checks::table_end(f, bands, coef, &start[first..end]) {
-                Err(e) => Err(refusals::moved(first, e)),
-                Ok(next) => {
-                    if next == size {
-                        Ok(end)
-                    } else {
-                        Err(files::refusals::unfit(at))
-                    }
-                }
+    let (first, size) = parts::part_at(start, at)?;
+    let end = first + size;
+    match checks::table_end(f, bands, coef, &start[first..end]) {
+        Err(e) => Err(refusals::moved(first, e)),
+        Ok(next) => {
+            if next == size {
+                Ok(end)
+            } else {
+                Err(files::refusals::unfit(at))
             }
         }
     }
@@ -58,17 +54,8 @@ fn tables_at<'a>(
     ensures { result ≡ tables_at (rules_at f edges.now bands.now coef.now) start.now (m + 1) 0 at }
 {
     let mut place = at;
-    let mut i: usize = 0;
-    while i <= m {
-        match table_at(chains::frame_at(f, edges, i), bands, coef, start, place) {
-            Err(e) => {
-                return Err(e);
-            }
-            Ok(next) => {
-                place = next;
-            }
-        }
-        i += 1;
+    for i in 0..m + 1 {
+        place = table_at(chains::frame_at(f, edges, i), bands, coef, start, place)?;
     }
     if place == start.len() {
         Ok(())
@@ -77,37 +64,19 @@ fn tables_at<'a>(
     }
 }
 
-// The verdict on a start file for a plant's file, the plant being read into arrays that have room for it.
-fn start_check_in(
-    plant: &[u8],
-    bands: &mut [i64],
-    coef: &mut [i64],
-    start: &[u8],
-) -> Result<(), Refusal>
-    requires { RoomFor plant.now bands.old coef.old }
+// In arrays of these sizes, which have room for the plant.
+fn start_check_in<const B: usize, const C: usize>(plant: &[u8], start: &[u8]) -> Result<(), Refusal>
+    requires room { RoomFor plant.now (replicate B (pos 0)) (replicate C (pos 0)) }
+    requires sizes { (B ≤ 2_048) × (C ≤ 5_120) }
     ensures { result ≡ start_checked plant.now start.now }
 {
-    match plants::read_plant(plant, bands, coef) {
-        Err(e) => Err(e),
-        Ok(outline) => {
-            let f = frames::framed(outline);
-            let chain = chains::read_chain(f, false, start);
-            let kept = chain.verdict;
-            match kept {
-                Err(e) => Err(e),
-                Ok(()) => { tables_at(f, &chain.edges, bands, coef, start, chain.m, chain.next) }
-            }
-        }
-    }
-}
-
-// In arrays for any plant.
-fn start_check_many(plant: &[u8], start: &[u8]) -> Result<(), Refusal>
-    ensures { result ≡ start_checked plant.now start.now }
-{
-    let mut bands = [0i64; BANDS];
-    let mut coef = [0i64; COEFFICIENTS];
-    start_check_in(plant, &mut bands, &mut coef, start)
+    let mut bands = [0i64; B];
+    let mut coef = [0i64; C];
+    let outline = plants::read_plant(plant, &mut bands, &mut coef)?;
+    let f = frames::framed(outline);
+    let chain = chains::read_chain(f, false, start);
+    chain.verdict?;
+    tables_at(f, &chain.edges, &bands, &coef, start, chain.m, chain.next)
 }
 
 // The verdict on a start file for a plant's file: number, place and step of the first fault, or accepted.
@@ -115,9 +84,7 @@ pub fn start_check(plant: &[u8], start: &[u8]) -> Result<(), Refusal>
     ensures { result ≡ start_checked plant.now start.now }
 {
     if FEW_MODES < plants::modes_told(plant) {
-        return start_check_many(plant, start);
+        return start_check_in::<BANDS, COEFFICIENTS>(plant, start);
     }
-    let mut bands = [0i64; FEW_BANDS];
-    let mut coef = [0i64; FEW_COEFFICIENTS];
-    start_check_in(plant, &mut bands, &mut coef, start)
+    start_check_in::<FEW_BANDS, FEW_COEFFICIENTS>(plant, start)
 }

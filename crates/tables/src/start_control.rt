@@ -29,15 +29,13 @@ fn lowest(n: usize, root: Bx, edges: &[i64; EDGES], m: usize, x: [i64; 4]) -> us
     requires { (n ≤ 4) × (m ≤ most_above) }
     ensures { result ≡ chosen n (box_of n root) (values_in m edges.now) x }
 {
-    let mut i: usize = 0;
-    while i <= m {
+    for i in 0..m + 1 {
         let b = chains::box_at(n, root, edges, i);
         if n <= boxes::missed(n, b, x) {
             return i;
         }
-        i += 1;
     }
-    i
+    m + 1
 }
 
 // Idle: no index may be kept, and the reading must be in Rm; of the boxes that hold it the lowest index.
@@ -53,10 +51,8 @@ fn idle_choice(
     ensures { result ≡ idle_choice n (box_of n root) (values_in m edges.now) i x }
 {
     let top = chains::box_at(n, root, edges, m);
-    match control::admit(i == 0, n, top, x) {
-        Err(e) => Err(e),
-        Ok(()) => Ok(lowest(n, root, edges, m, x)),
-    }
+    control::admit(i == 0, n, top, x)?;
+    Ok(lowest(n, root, edges, m, x))
 }
 
 // The table that a state and a reading call: an index over m cannot be.
@@ -110,15 +106,11 @@ fn call_behind(
     requires { FrameSound f }
     ensures { result ≡ call_behind f start.now at i st x }
 {
-    match parts::part_behind(i, start, at) {
-        Err(e) => Err(e),
-        Ok((first, size)) => {
-            let end = first + size;
-            match control::call(f, &start[first..end], st, x) {
-                Err(e) => Err(refusals::moved(first, e)),
-                Ok((u, then)) => Ok((u, state_in(i, then))),
-            }
-        }
+    let (first, size) = parts::part_behind(i, start, at)?;
+    let end = first + size;
+    match control::call(f, &start[first..end], st, x) {
+        Err(e) => Err(refusals::moved(first, e)),
+        Ok((u, then)) => Ok((u, state_in(i, then))),
     }
 }
 
@@ -137,10 +129,8 @@ fn start_call(
 {
     let root = f.root;
     let state = st.state;
-    match choose_table(f.n, root, edges, m, st, x) {
-        Err(e) => Err(e),
-        Ok(i) => { call_behind(chains::frame_at(f, edges, i), start, at, i, state, x) }
-    }
+    let i = choose_table(f.n, root, edges, m, st, x)?;
+    call_behind(chains::frame_at(f, edges, i), start, at, i, state, x)
 }
 
 // What the controller answers to a reading, for every plant, start file, state and reading. Numbers of the reading beyond n are ignored.
@@ -152,16 +142,9 @@ pub fn start_control(
 ) -> Result<(usize, StartState), Refusal>
     ensures { result ≡ start_controlled plant.now start.now st x }
 {
-    match plants::judge_plant(plant) {
-        Err(e) => Err(e),
-        Ok(outline) => {
-            let f = frames::framed(outline);
-            let chain = chains::read_chain(f, false, start);
-            let kept = chain.verdict;
-            match kept {
-                Err(e) => Err(e),
-                Ok(()) => { start_call(f, &chain.edges, start, chain.m, chain.next, st, x) }
-            }
-        }
-    }
+    let outline = plants::judge_plant(plant)?;
+    let f = frames::framed(outline);
+    let chain = chains::read_chain(f, false, start);
+    chain.verdict?;
+    start_call(f, &chain.edges, start, chain.m, chain.next, st, x)
 }

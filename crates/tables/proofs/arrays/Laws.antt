@@ -10,9 +10,9 @@ use lib.IntN.{ℤ, pos}
 use lib.ListN.{length, replicate, length-replicate}
 use lib.Seq.{sets, length-sets}
 use Rattle.meaning.specs.Answers.{PlantRead}
+use Rattle.meaning.specs.declared.Outline.{Outline}
 use Rattle.laws.specs.Lists.{at}
 use Rattle.laws.specs.Stored.{stored_at}
-use Rattle.meaning.specs.declared.Outline.{Outline}
 use Rattle.meaning.specs.Files.{Judged, good}
 use Rattle.meaning.specs.Plants.{Plant, most_modes, plant_judged, plant_read, array_left, bands_left, coef_left}
 use Rattle.promises.specs.Files.Judged.{judged-sound}
@@ -97,10 +97,10 @@ pub record ReadInto (s : List ℕ) (f : Frame) (bands coef : List ℤ) : Type 1 
   pub sound : PlantSound f bands coef
   pub rules : (g : Frame) → rules_in g bands coef ≡ rules_in g plant.bands plant.coef
 
-pub read-into : (s : List ℕ) (bands coef : List ℤ) → RoomFor s bands coef → (x : PlantRead) (bands' coef' : List ℤ)
-    → (x ≡ plant_read s) × ((bands' ≡ bands_left s bands) × (coef' ≡ coef_left s coef)) → (o : Outline) → x ≡ Ok o
+pub read-into : {o : Outline} (s : List ℕ) (bands coef : List ℤ) → RoomFor s bands coef → (x : PlantRead) (bands' coef' : List ℤ)
+    → (x ≡ plant_read s) × ((bands' ≡ bands_left s bands) × (coef' ≡ coef_left s coef)) → x ≡ Ok o
     → (f : Frame) → f ≡ frame_of o → ReadInto s f bands' coef'
-read-into s bands coef room x bands' coef' e o h f q =
+read-into {o} s bands coef room x bands' coef' e h f q =
     let t = read-good (plant_judged s) x e.0 o h in
     let own = q ∙ ap frame_of t.outline in
     record {

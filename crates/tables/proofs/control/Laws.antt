@@ -1,30 +1,37 @@
--- Laws of the controller's call for the proofs of modules control and start_control: each answer of each part, in the terms of the code, at any rules; and
--- that a call hangs on no band and no coefficient. Assumes nothing.
+-- Laws of the controller's call for the proofs of modules control and start_control: each answer of each part, in the terms of the code, at any rules; that a
+-- call hangs on no band and no coefficient; and the frame of a plant that was judged good. Assumes nothing.
 use Rattle.std.specs.Prelude.{Ok, Err}
 use Prim.Native.Nat.{ℕ, zero, suc, ◌≤◌, ◌<◌}
 use mathlib.Core.Path.{◌≡◌, refl, sym, ap, ◌∙◌}
 use mathlib.Core.Bool.{Bool, true, false}
-use mathlib.Core.List.{List}
+use mathlib.Core.List.{List, []}
 use native.Mathlib.Omega.{arith}
 use lib.IntN.{ℤ}
 use lib.Dec.{eqb}
 use Rattle.laws.specs.Guards.{guard}
 use Rattle.laws.specs.Lists.{all, first_false}
 use Rattle.laws.specs.Tests.{never}
-use Rattle.meaning.specs.Answers.{Walk, Verdict, Answer}
+use Rattle.meaning.specs.Answers.{Walk, Verdict, Found, PlantRead, Answer}
+use Rattle.meaning.specs.declared.Outline.{Outline}
 use Rattle.meaning.specs.declared.Refusal.{Refusal}
 use Rattle.meaning.specs.declared.State.{State}
 use Rattle.meaning.specs.Boxes as B
 use Rattle.meaning.specs.Control.{can_run, mode_at, on_found, find, idle_call, running_call, state_call, call}
+use Rattle.meaning.specs.Files.{good}
+use Rattle.meaning.specs.Plants.{Plant, plant_judged, plant_read}
 use Rattle.meaning.specs.Refusals.{outside, bad_state}
 use Rattle.meaning.specs.Rules.{Rules}
-use Rattle.meaning.specs.Tables.{reading_of}
+use Rattle.meaning.specs.Tables.{depth_by, reading_of}
 use Rattle.meaning.specs.Verdicts.{on_walk, header}
+use Rattle.promises.specs.Files.Judged.{judged-sound}
+use Rattle.promises.specs.Files.Sound.{Sound}
+use Rattle.promises.specs.Tables.PlantRules.{read-good}
 use Rattle.promises.specs.Tables.Steps.{call_same}
+use Rattle.tables.specs.declared.frames.Counts.{Counts}
 use Rattle.tables.specs.declared.frames.Frame.{Frame}
 use Rattle.tables.specs.Boxes.{box_of}
 use Rattle.tables.specs.Control.{admission}
-use Rattle.tables.specs.Frames.{step_in, rules_in}
+use Rattle.tables.specs.Frames.{frame_of, frame_from, own_frame, counts_of, edges_of, step_in, rules_in}
 use Rattle.tables.proofs.finds.Laws.{held, not-held}
 
 -- ---- whether a call may go on
@@ -127,3 +134,32 @@ module _ (r : Rules) (s : List ℕ) (x : Rules.Reading r) where
 pub call_by : (f : Frame) (bands coef bands' coef' : List ℤ) (s : List ℕ) (st : State) (x : List ℤ) → call (rules_in f bands coef) s st x ≡ call (rules_in f bands' coef') s st x
 call_by f bands coef bands' coef' s st x =
     call_same f.form f.n f.modes f.k f.d (box_of f.n f.root) (box_of f.n f.goal) (box_of f.n f.safe) (step_in f bands coef) (step_in f bands' coef') s st x
+
+-- what an idle call goes on with where it may, by what a frame is lent as
+module _ (f : Frame) (s : List ℕ) (x : List ℤ) (at place : ℕ) {v : Verdict} (q : v ≡ admission (eqb place 0) (B.fits (box_of f.n f.root) (reading_of f.n x))) (h : v ≡ Ok tt)
+    {c : Counts} {edges : List (List ℤ)} {d : ℕ} (p : c ≡ counts_of f) (e : edges ≡ edges_of f) (o : d ≡ depth_by f.form f.n f.d)
+    {w : Found} (g : w ≡ find (rules_in (frame_from c edges) [] []) d s at (box_of c.n f.root) x) where
+  goes : (y : Found) → w ≡ y → on_found s y ≡ idle_call (rules_in f [] []) s at place x
+  goes y k =
+      let r : Rules = rules_in f [] [] in
+      let sought : w ≡ find r r.D s at (box_of f.n f.root) x = rw (p, e, o) at g in
+      ap (on_found s) (sym k ∙ sought) ∙ idle-finds r s x at place v q h
+
+  pub found-refused : {r : Refusal} → w ≡ Err r → Err r ≡ idle_call (rules_in f [] []) s at place x
+  found-refused {r} k = goes (Err r) k
+
+  pub found-answers : {from k : ℕ} → w ≡ Ok (from, k) → mode_at s from k ≡ idle_call (rules_in f [] []) s at place x
+  found-answers {from} {k} j = goes (Ok (from, k)) j
+
+-- ---- the frame of a plant that was judged good
+
+pub record Own (s : List ℕ) (f : Frame) : Type 0 where
+  pub plant : Plant
+  pub was : plant_judged s ≡ good plant
+  pub sound : Sound plant
+  pub framed : f ≡ own_frame plant
+
+pub framed-own : (s : List ℕ) {x : PlantRead} → x ≡ plant_read s → {o : Outline} → x ≡ Ok o → {f : Frame} → f ≡ frame_of o → Own s f
+framed-own s {x} e {o} h q =
+    let t = read-good (plant_judged s) x e o h in
+    record { plant = t.plant; was = t.was; sound = judged-sound s t.plant t.was; framed = q ∙ ap frame_of t.outline }

@@ -71,19 +71,21 @@ after-before l (refused x) = refl
 after-before l (read ls m) = refl
 
 module _ (s : List ℕ) where
-  pub behind-none : (at : ℕ) → Ok at ≡ behind_at 0 s at
-  unfolding lengths_at
-  behind-none at = refl
+  -- i of them are passed
+  module _ (k i at : ℕ) where
+    pub behind-done : k ≤ i → Ok at ≡ behind_at (k - i) s at
+    unfolding lengths_at
+    behind-done h = let e : k - i ≡ 0 = omega arith in rw e refl
 
-  module _ (left at : ℕ) (h : 0 < left) where
-    one_more : lengths_at left s at ≡ lengths_at (suc (left - 1)) s at
-    one_more = let e : left ≡ suc (left - 1) = omega arith in ap (λ (k : ℕ). lengths_at k s at) e
+    module _ (h : i < k) where
+      one_more : lengths_at (k - i) s at ≡ lengths_at (suc (k - (i + 1))) s at
+      one_more = let e : k - i ≡ suc (k - (i + 1)) = omega arith in ap (λ (k : ℕ). lengths_at k s at) e
 
-    pub behind-broken : number_at s at ≡ None → Err (broken at) ≡ behind_at left s at
-    behind-broken e = sym (ap after (one_more ∙ lengths-broken (left - 1) s at e))
+      pub behind-broken : number_at s at ≡ None → Err (broken at) ≡ behind_at (k - i) s at
+      behind-broken e = sym (ap after (one_more ∙ lengths-broken (k - (i + 1)) s at e))
 
-    pub behind_more : (size next : ℕ) → number_at s at ≡ Some (size, next) → behind_at (left - 1) s next ≡ behind_at left s at
-    behind_more size next e = sym (ap after (one_more ∙ lengths-more (left - 1) s at size next e) ∙ after-before (length_at at size) (lengths_at (left - 1) s next))
+      pub behind_more : {size next : ℕ} → number_at s at ≡ Some (size, next) → behind_at (k - (i + 1)) s next ≡ behind_at (k - i) s at
+      behind_more {size} {next} e = sym (ap after (one_more ∙ lengths-more (k - (i + 1)) s at size next e) ∙ after-before (length_at at size) (lengths_at (k - (i + 1)) s next))
 
   module _ (k at : ℕ) where
     pub behind-read : (first : ℕ) → behind_at k s at ≡ Ok first → (ls : List Length) × (lengths_at k s at ≡ read ls first)
@@ -123,28 +125,30 @@ module _ (told : Bool) (s : List ℕ) (at from end : ℕ) where
 -- ---- where children end by them
 
 module _ (s : List ℕ) where
-  pub ends-none : (at from : ℕ) → Ok from ≡ ends_at 0 s at from
-  unfolding ends_at
-  ends-none at from = refl
-
   ends-unfold : (k at from : ℕ) → ends_at (suc k) s at from
       ≡ on_number (number_at s at) (Err (broken at)) λ size next. guard (leb (from + size) (length s)) (Err (bad_table at)) λ _. ends_at k s next (from + size)
   unfolding ends_at
   ends-unfold k at from = refl
 
-  module _ (left at from : ℕ) (h : 0 < left) where
-    ends-one : ends_at left s at from ≡ ends_at (suc (left - 1)) s at from
-    ends-one = let e : left ≡ suc (left - 1) = omega arith in ap (λ (k : ℕ). ends_at k s at from) e
+  -- i children are behind
+  module _ (k i at from : ℕ) where
+    pub ends-done : k ≤ i → Ok from ≡ ends_at (k - i) s at from
+    unfolding ends_at
+    ends-done h = let e : k - i ≡ 0 = omega arith in rw e refl
 
-    pub ends-broken : number_at s at ≡ None → Err (broken at) ≡ ends_at left s at from
-    ends-broken e = sym (ends-one ∙ ends-unfold (left - 1) at from ∙ rw e refl)
+    module _ (h : i < k) where
+      ends-one : ends_at (k - i) s at from ≡ ends_at (suc (k - (i + 1))) s at from
+      ends-one = let e : k - i ≡ suc (k - (i + 1)) = omega arith in ap (λ (k : ℕ). ends_at k s at from) e
 
-    module _ (size next : ℕ) (e : number_at s at ≡ Some (size, next)) where
-      pub ends-past : length s < from + size → Err (bad_table at) ≡ ends_at left s at from
-      ends-past l = sym (ends-one ∙ ends-unfold (left - 1) at from ∙ rw (e, lt-leb (from + size) (length s) l) refl)
+      pub ends-broken : number_at s at ≡ None → Err (broken at) ≡ ends_at (k - i) s at from
+      ends-broken e = sym (ends-one ∙ ends-unfold (k - (i + 1)) at from ∙ rw e refl)
 
-      pub ends_more : from + size ≤ length s → ends_at (left - 1) s next (from + size) ≡ ends_at left s at from
-      ends_more l = sym (ends-one ∙ ends-unfold (left - 1) at from ∙ rw (e, le-leb (from + size) (length s) l) refl)
+      module _ {size next : ℕ} (e : number_at s at ≡ Some (size, next)) where
+        pub ends-past : length s < from + size → Err (bad_table at) ≡ ends_at (k - i) s at from
+        ends-past l = sym (ends-one ∙ ends-unfold (k - (i + 1)) at from ∙ rw (e, lt-leb (from + size) (length s) l) refl)
+
+        pub ends_more : from + size ≤ length s → ends_at (k - (i + 1)) s next (from + size) ≡ ends_at (k - i) s at from
+        ends_more l = sym (ends-one ∙ ends-unfold (k - (i + 1)) at from ∙ rw (e, le-leb (from + size) (length s) l) refl)
 
   -- as the definitions say it of lengths that were read
   pub ends-are : (k at from : ℕ) (ls : List Length) (first : ℕ) → lengths_at k s at ≡ read ls first
@@ -184,21 +188,25 @@ module _ (s : List ℕ) where
 -- ---- k of them added up: what is added so far, and those that are left
 
 module _ (s : List ℕ) where
-  pub total-none : (sum at : ℕ) → Some (sum, at) ≡ total_of sum (lengths_at 0 s at)
-  unfolding lengths_at sum_of
-  total-none sum at = let e : sum + 0 ≡ sum = omega arith in rw e refl
-
   total-before : (sum : ℕ) (l : Length) (o : Read (List Length)) → total_of sum (before l o) ≡ total_of (sum + l.size) o
   unfolding sum_of
   total-before sum l (refused x) = refl
   total-before sum l (read ls m) = let e : sum + (l.size + sum_of ls) ≡ sum + l.size + sum_of ls = omega arith in rw e refl
 
-  module _ (left sum at : ℕ) (h : 0 < left) where
-    pub total-broken : number_at s at ≡ None → None ≡ total_of sum (lengths_at left s at)
-    total-broken e = sym (ap (total_of sum) (one_more s left at h ∙ lengths-broken (left - 1) s at e))
+  module _ (k i sum at : ℕ) where
+    pub total-done : k ≤ i → Some (sum, at) ≡ total_of sum (lengths_at (k - i) s at)
+    unfolding lengths_at sum_of
+    total-done h =
+        let a : k - i ≡ 0 = omega arith in
+        let b : sum + 0 ≡ sum = omega arith in
+        rw (a, b) refl
 
-    pub total-more : (size next : ℕ) → number_at s at ≡ Some (size, next) → total_of (sum + size) (lengths_at (left - 1) s next) ≡ total_of sum (lengths_at left s at)
-    total-more size next e = sym (ap (total_of sum) (one_more s left at h ∙ lengths-more (left - 1) s at size next e) ∙ total-before sum (length_at at size) (lengths_at (left - 1) s next))
+    module _ (h : i < k) where
+      pub total-broken : number_at s at ≡ None → None ≡ total_of sum (lengths_at (k - i) s at)
+      total-broken e = sym (ap (total_of sum) (one_more s k i at h ∙ lengths-broken (k - (i + 1)) s at e))
+
+      pub total-more : {size next : ℕ} → number_at s at ≡ Some (size, next) → total_of (sum + size) (lengths_at (k - (i + 1)) s next) ≡ total_of sum (lengths_at (k - i) s at)
+      total-more {size} {next} e = sym (ap (total_of sum) (one_more s k i at h ∙ lengths-more (k - (i + 1)) s at size next e) ∙ total-before sum (length_at at size) (lengths_at (k - (i + 1)) s next))
 
   -- one behind another
   pub total-read : (k at sum next : ℕ) → total_at k s at ≡ Some (sum, next) → (ls : List Length) × (lengths_at k s at ≡ read ls next) × (sum ≡ sum_of ls)

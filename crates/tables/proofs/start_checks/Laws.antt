@@ -7,7 +7,7 @@ use mathlib.Core.List.{List}
 use native.Mathlib.Omega.{arith}
 use native.Mathlib.Numerals.{add-one}
 use lib.Dec.{leb, eqb}
-use lib.ListN.{length, drop, length-take}
+use lib.ListN.{length, take, drop, length-take}
 use borrow.Author.Tests.{eq-eqb, ne_eqb}
 use Rattle.laws.specs.Guards.{guard}
 use Rattle.meaning.specs.Answers.{Number, Walk}
@@ -23,10 +23,14 @@ use Rattle.meaning.specs.Tables.{form_of}
 use Rattle.meaning.specs.Verdicts.{on_number, on_walk, table_end}
 use Rattle.tables.specs.Parts.{part_at, Movable}
 use Rattle.tables.specs.StartChecks.{table_at}
-use Rattle.tables.proofs.parts.Laws.{by_length}
-use Rattle.tables.proofs.parts.Places.{Inside}
+use Rattle.tables.proofs.parts.Laws.{by_length, part-within, slice-part}
+use Rattle.tables.proofs.parts.Places.{Inside, end-inside}
 
 -- ---- one table
+
+-- a refusal with its place in a table can be moved to the file that holds the table
+pub movable : (s : List ℕ) (first size : ℕ) → first + size ≤ length s → length s < 2 ^ 64 → (e : Refusal) → Inside (length (part s first size)) e → Movable first e
+movable s first size h l e i b = omega (arith, i b, length-take size (drop first s))
 
 module _ (r : ℕ → Rules) (s : List ℕ) (at : ℕ) where
   -- what is made of the walk over a table at `first`
@@ -36,27 +40,29 @@ module _ (r : ℕ → Rules) (s : List ℕ) (at : ℕ) where
       guard (eqb next size) (Err (unfit at)) λ _.
       Ok (first + size)
 
-  module _ (p : Result (ℕ × ℕ) Refusal) (q : p ≡ part_at s at) where
-    pub length-stopped : (e : Refusal) → p ≡ Err e → Err e ≡ table_at r s at
-    length-stopped e h = sym (by_length s at Err (λ first size. walked first size (table_end (r (form_of (part s first size))) (part s first size))) ∙ rw (← q, h) refl)
+  -- w is the walk over the bytes between
+  module _ {p : Result (ℕ × ℕ) Refusal} (q : p ≡ part_at s at) {first size : ℕ} (h : p ≡ Ok (first, size)) {w : Walk}
+      (t : w ≡ table_end (r (form_of (take (first + size - first) (drop first s)))) (take (first + size - first) (drop first s))) where
+    ended : w ≡ table_end (r (form_of (part s first size))) (part s first size)
+    ended = t ∙ ap (λ (t : List ℕ). table_end (r (form_of t)) t) (slice-part s first size)
 
-    module _ (first size : ℕ) (h : p ≡ Ok (first, size)) (w : Walk) (t : w ≡ table_end (r (form_of (part s first size))) (part s first size)) where
-      found : walked first size w ≡ table_at r s at
-      found = ap (walked first size) t ∙ sym (by_length s at Err (λ first size. walked first size (table_end (r (form_of (part s first size))) (part s first size))) ∙ rw (← q, h) refl)
+    found : walked first size w ≡ table_at r s at
+    found = ap (walked first size) ended ∙ sym (by_length s at Err (λ first size. walked first size (table_end (r (form_of (part s first size))) (part s first size))) ∙ rw (← q, h) refl)
 
-      pub table-refused : (e : Refusal) → w ≡ Err e → Err (moved first e) ≡ table_at r s at
-      table-refused e g = ap (walked first size) (sym g) ∙ found
+    pub table-refused : {e : Refusal} → w ≡ Err e → Err (moved first e) ≡ table_at r s at
+    table-refused g = ap (walked first size) (sym g) ∙ found
 
-      module _ (next : ℕ) (g : w ≡ Ok next) where
-        pub table-ends : next ≡ size → Ok (first + size) ≡ table_at r s at
-        table-ends z = sym (simp (eq-eqb next size z)) ∙ ap (walked first size) (sym g) ∙ found
+    pub table-movable : Rules.K (r (form_of (part s first size))) ≤ 6 → length s < 2 ^ 64 → {e : Refusal} → w ≡ Err e → Movable first e
+    table-movable most short {e} g =
+        movable s first size (part-within s at first size (sym q ∙ h)) short e
+        (end-inside (r (form_of (part s first size))) (part s first size) most e (sym ended ∙ g))
 
-        pub table-over : (next ≡ size → ⊥) → Err (unfit at) ≡ table_at r s at
-        table-over z = sym (simp (ne_eqb next size z)) ∙ ap (walked first size) (sym g) ∙ found
+    module _ {next : ℕ} (g : w ≡ Ok next) where
+      pub table-ends : next ≡ size → Ok (first + size) ≡ table_at r s at
+      table-ends z = sym (simp (eq-eqb next size z)) ∙ ap (walked first size) (sym g) ∙ found
 
--- a refusal with its place in a table can be moved to the file that holds the table
-pub movable : (s : List ℕ) (first size : ℕ) → first + size ≤ length s → length s < 2 ^ 64 → (e : Refusal) → Inside (length (part s first size)) e → Movable first e
-movable s first size h l e i b = omega (arith, i b, length-take size (drop first s))
+      pub table-over : (next ≡ size → ⊥) → Err (unfit at) ≡ table_at r s at
+      table-over z = sym (simp (ne_eqb next size z)) ∙ ap (walked first size) (sym g) ∙ found
 
 -- ---- the tables one after another
 

@@ -1,7 +1,7 @@
 -- A call on a start file in the terms that the code has: the table that is called, by the boxes that hold the reading; the call on it; the whole. Assumes
 -- nothing.
 use Rattle.std.specs.Prelude.{Ok, Err, Result, ℕ}
-use Prim.Native.Nat.{ℕ, zero, suc, ◌+◌, ◌≤◌, ◌<◌}
+use Prim.Native.Nat.{ℕ, zero, suc, ◌+◌, ◌-◌, ◌^◌, ◌≤◌, ◌<◌}
 use mathlib.Core.Path.{◌≡◌, refl, sym, ap, ◌∙◌, fun_ext}
 use mathlib.Core.Bool.{Bool, true, false, ◌&&◌, ◌||◌, not, cond}
 use mathlib.Core.List.{List, []}
@@ -9,6 +9,7 @@ use native.Mathlib.Omega.{arith}
 use native.Mathlib.Nat.{zero-add}
 use lib.Dec.{leb, eqb}
 use lib.IntN.{ℤ}
+use lib.ListN.{length, take, drop}
 use borrow.Author.Tests.{leb-true, eqb-true, le-leb, lt-leb}
 use Rattle.laws.specs.Guards.{guard, choose}
 use Rattle.laws.specs.Lists as L
@@ -23,7 +24,7 @@ use Rattle.meaning.specs.Boxes.{Side, fits}
 use Rattle.meaning.specs.Control.{idle, call}
 use Rattle.meaning.specs.Files.{good, bad}
 use Rattle.meaning.specs.Plants.{Plant, plant_judged, root_of}
-use Rattle.meaning.specs.Refusals.{outside, bad_state}
+use Rattle.meaning.specs.Refusals.{outside, bad_state, moved}
 use Rattle.meaning.specs.Starts as S
 use Rattle.meaning.specs.Starts.{above, box_at, chosen, part, is_idle, state_in, answer_in, on_part, on_start, call_in, start_call, start_controlled}
 use Rattle.meaning.specs.Tables.{reading_of, form_of, table_rules}
@@ -33,12 +34,14 @@ use Rattle.tables.specs.Boxes.{box_of}
 use Rattle.tables.specs.Chains.{values_in, bx_at, frame_at}
 use Rattle.tables.specs.Control.{admission}
 use Rattle.tables.specs.Frames.{own_frame, formed, rules_by}
-use Rattle.tables.specs.Parts.{part_behind, on_found}
+use Rattle.tables.specs.Parts.{part_behind, on_found, Movable}
 use Rattle.tables.specs.StartControl.{fits_at, misses_at, idle_choice, choice_of, on_choice, call_behind, start_answer}
 use Rattle.tables.proofs.chains.Laws.{Edged, in-edged, box-same, answers_at}
 use Rattle.tables.proofs.control.Laws.{call_by}
 use Rattle.tables.proofs.finds.Laws.{held, not-held}
-use Rattle.tables.proofs.parts.Laws.{by_part}
+use Rattle.tables.proofs.parts.Laws.{behind-within, by_part, slice-part}
+use Rattle.tables.proofs.parts.Places.{call-inside}
+use Rattle.tables.proofs.start_checks.Laws.{movable}
 
 -- ---- idle
 
@@ -152,15 +155,32 @@ module _ (n : ℕ) (root : List Side) (vs : List ℤ) (x : List ℤ) where
 
 -- ---- the call on it
 
-module _ (f : Frame) (s : List ℕ) (at i : ℕ) (st : State) (x : List ℤ) (p : Result (ℕ × ℕ) Refusal) (q : p ≡ part_behind i s at) where
+module _ (f : Frame) (s : List ℕ) (at i : ℕ) (st : State) (x : List ℤ) {p : Result (ℕ × ℕ) Refusal} (q : p ≡ part_behind i s at) where
   abbrev behind : ℕ → ℕ → StartAnswer
   behind first size = let t = part s first size in answer_in i first (call (rules_by f [] [] (form_of t)) t st x)
 
-  pub behind-refused : (e : Refusal) → p ≡ Err e → Err e ≡ call_behind f s at i st x
-  behind-refused e h = sym (by_part s i at Err behind ∙ ap (λ (o : Result (ℕ × ℕ) Refusal). on_found o Err behind) (sym q ∙ h))
+  pub behind-refused : {e : Refusal} → p ≡ Err e → Err e ≡ call_behind f s at i st x
+  behind-refused {e} h = sym (by_part s i at Err behind ∙ ap (λ (o : Result (ℕ × ℕ) Refusal). on_found o Err behind) (sym q ∙ h))
 
-  pub behind-answered : (first size : ℕ) → p ≡ Ok (first, size) → (a : Answer) → a ≡ call (rules_by f [] [] (form_of (part s first size))) (part s first size) st x → answer_in i first a ≡ call_behind f s at i st x
-  behind-answered first size h a t = ap (answer_in i first) t ∙ sym (by_part s i at Err behind ∙ ap (λ (o : Result (ℕ × ℕ) Refusal). on_found o Err behind) (sym q ∙ h))
+  -- a is the answer on the bytes between
+  module _ {first size : ℕ} (h : p ≡ Ok (first, size)) {a : Answer}
+      (c : a ≡ call (rules_by f [] [] (form_of (take (first + size - first) (drop first s)))) (take (first + size - first) (drop first s)) st x) where
+    called : a ≡ call (rules_by f [] [] (form_of (part s first size))) (part s first size) st x
+    called = c ∙ ap (λ (t : List ℕ). call (rules_by f [] [] (form_of t)) t st x) (slice-part s first size)
+
+    answered : (b : Answer) → a ≡ b → answer_in i first b ≡ call_behind f s at i st x
+    answered b g = ap (answer_in i first) (sym g ∙ called) ∙ sym (by_part s i at Err behind ∙ ap (λ (o : Result (ℕ × ℕ) Refusal). on_found o Err behind) (sym q ∙ h))
+
+    pub behind-moved : {e : Refusal} → a ≡ Err e → Err (moved first e) ≡ call_behind f s at i st x
+    behind-moved {e} g = answered (Err e) g
+
+    pub behind-answered : {u : ℕ} {then : State} → a ≡ Ok (u, then) → Ok (u, state_in i then) ≡ call_behind f s at i st x
+    behind-answered {u} {then} g = answered (Ok (u, then)) g
+
+    pub behind-movable : length s < 2 ^ 64 → {e : Refusal} → a ≡ Err e → Movable first e
+    behind-movable short {e} g =
+        movable s first size (behind-within s i at first size (sym q ∙ h)) short e
+        (call-inside (rules_by f [] [] (form_of (part s first size))) (part s first size) x st e (sym called ∙ g))
 
 -- ---- the whole, for a plant
 

@@ -1,33 +1,19 @@
 -- `lengths::behind`: what is left from here is the whole. Assumes nothing.
 use Rattle.std.specs.Prelude.{Err}
-use Prim.Native.Nat.{ℕ}
-use mathlib.Core.Path.{◌≡◌, refl, sym, ap, ◌∙◌}
+use Rattle.std.proofs.lemmas.Result.{err_from_is_err_and}
+use mathlib.Core.Path.{sym, ap, ◌∙◌}
 use native.Mathlib.Omega.{arith}
-use Rattle.tables.specs.Lengths.{behind_at}
-use Rattle.tables.proofs.lengths.Laws.{behind-none, behind-broken, behind_more}
+use Rattle.tables.proofs.lengths.Laws.{behind-done, behind-broken, behind_more}
+use Rattle.tables.proofs.refusals.Laws.{there, handed}
 use Rattle.tables.proofs.lengths.behind.Goals as goal
 
-pub loop-left-init : goal.loop-left-init
-loop-left-init c = refl
+pub returns-in_err-next : goal.returns-in_err-next
+returns-in_err-next c =
+    let p = err_from_is_err_and c.from_residual.result c.from_residual.ensures.1 in
+    rw (p.1, p.2) (handed c.number.result c.broken.result c.in_err-next.ensures.value (λ v. ap Err c.broken.ensures ∙ behind-broken c.args.table.now c.args.k c.loop.counter c.loop.place (omega arith) (sym c.number.ensures ∙ v) ∙ c.loop.invariant))
 
-pub returns-in_default : goal.returns-in_default
-returns-in_default c =
-    let v = sym c.number.ensures ∙ c.in_default.is in
-    ap Err c.broken.ensures ∙ behind-broken c.args.table.now c.loop-left.left c.loop-left.place c.loop-left-test.true v ∙ c.loop-left.invariant
-
-pub overflow_sub-left : goal.overflow_sub-left
-overflow_sub-left c = omega arith
-
-pub loop-left-smaller : goal.loop-left-smaller
-loop-left-smaller c = omega arith
-
-pub loop-left-preserved : goal.loop-left-preserved
-loop-left-preserved c =
-    let v = sym c.number.ensures ∙ c.in-Some.is in
-    behind_more c.args.table.now c.loop-left.left c.loop-left.place c.loop-left-test.true c.in-Some.field-0-0 c.in-Some.next v ∙ c.loop-left.invariant
+pub loop-preserved : goal.loop-preserved
+loop-preserved c = behind_more c.args.table.now c.args.k c.loop.counter c.loop.place (omega arith) (sym c.number.ensures ∙ there c.number.result c.broken.result c.in_ok-next.ensures.value) ∙ c.loop.invariant
 
 pub returns : goal.returns
-returns c =
-    let s = c.args.table.now in
-    let e : 0 ≡ c.loop-left.left = omega (arith, c.loop-left-test.false) in
-    behind-none s c.loop-left.place ∙ ap (λ (i : ℕ). behind_at i s c.loop-left.place) e ∙ c.loop-left.invariant
+returns c = behind-done c.args.table.now c.args.k c.loop.counter c.loop.place (omega arith) ∙ c.loop.invariant

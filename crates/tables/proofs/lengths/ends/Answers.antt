@@ -1,50 +1,28 @@
 -- `lengths::ends`: what is left from here is the whole. Assumes nothing.
 use Rattle.std.specs.Prelude.{Err}
-use Prim.Native.Nat.{ℕ, ◌+◌, ◌≤◌}
-use mathlib.Core.Path.{◌≡◌, refl, sym, ap, ◌∙◌}
+use Rattle.std.proofs.lemmas.Result.{err_from_is_err_and}
+use mathlib.Core.Path.{sym, ap, ◌∙◌}
 use native.Mathlib.Omega.{arith}
-use lib.ListN.{length}
-use Rattle.tables.specs.Lengths.{ends_at}
-use Rattle.tables.proofs.lengths.Laws.{ends-none, ends-broken, ends-past, ends_more}
+use Rattle.tables.proofs.lengths.Laws.{ends-done, ends-broken, ends-past, ends_more}
+use Rattle.tables.proofs.refusals.Laws.{there, handed}
 use Rattle.tables.proofs.lengths.ends.Goals as goal
 
-pub loop-left-init : goal.loop-left-init
-loop-left-init c = (c.requires, refl)
-
-pub returns-in_default : goal.returns-in_default
-returns-in_default c =
-    let v = sym c.number.ensures ∙ c.in_default.is in
-    ap Err c.broken.ensures
-    ∙ ends-broken c.args.table.now c.loop-left.left c.loop-left.cursor c.loop-left.place c.loop-left-test.true v ∙ c.loop-left.invariant.1
-
-pub overflow_sub-room : goal.overflow_sub-room
-overflow_sub-room c = c.loop-left.invariant.0
+pub returns-in_err-size : goal.returns-in_err-size
+returns-in_err-size c =
+    let p = err_from_is_err_and c.from_residual.result c.from_residual.ensures.1 in
+    rw (p.1, p.2) (handed c.number.result c.broken.result c.in_err-size.ensures.value (λ v. ap Err c.broken.ensures ∙ ends-broken c.args.table.now c.args.k c.loop.counter c.loop.cursor c.loop.place (omega arith) (sym c.number.ensures ∙ v) ∙ c.loop.invariant.1))
 
 pub returns-then-room-size : goal.returns-then-room-size
 returns-then-room-size c =
-    let s = c.args.table.now in
-    let v = sym c.number.ensures ∙ c.in-Some.is in
     ap Err c.bad_table.ensures
-    ∙ ends-past s c.loop-left.left c.loop-left.cursor c.loop-left.place c.loop-left-test.true c.in-Some.size c.in-Some.next v (omega (arith, c.if-room-size.true, c.loop-left.invariant.0)) ∙ c.loop-left.invariant.1
+    ∙ ends-past c.args.table.now c.args.k c.loop.counter c.loop.cursor c.loop.place (omega arith) (sym c.number.ensures ∙ there c.number.result c.broken.result c.in_ok-size.ensures.value) (omega (arith, c.if-room-size.true, c.loop.invariant.0)) ∙ c.loop.invariant.1
 
-pub overflow_add-place : goal.overflow_add-place
-overflow_add-place c = omega (arith, c.if-room-size.false, c.loop-left.invariant.0)
-
-pub overflow_sub-left : goal.overflow_sub-left
-overflow_sub-left c = omega arith
-
-pub loop-left-smaller : goal.loop-left-smaller
-loop-left-smaller c = omega arith
-
-pub loop-left-preserved : goal.loop-left-preserved
-loop-left-preserved c =
-    let s = c.args.table.now in
-    let v = sym c.number.ensures ∙ c.in-Some.is in
-    let there : c.loop-left.place + c.in-Some.size ≤ length s = omega (arith, c.if-room-size.false, c.loop-left.invariant.0) in
-    (there, ends_more s c.loop-left.left c.loop-left.cursor c.loop-left.place c.loop-left-test.true c.in-Some.size c.in-Some.next v there ∙ c.loop-left.invariant.1)
+pub loop-preserved : goal.loop-preserved
+loop-preserved c = (
+  omega (arith, c.if-room-size.false, c.loop.invariant.0),
+  ends_more c.args.table.now c.args.k c.loop.counter c.loop.cursor c.loop.place (omega arith) (sym c.number.ensures ∙ there c.number.result c.broken.result c.in_ok-size.ensures.value) (omega (arith, c.if-room-size.false, c.loop.invariant.0))
+      ∙ c.loop.invariant.1,
+)
 
 pub returns : goal.returns
-returns c =
-    let s = c.args.table.now in
-    let e : 0 ≡ c.loop-left.left = omega (arith, c.loop-left-test.false) in
-    ends-none s c.loop-left.cursor c.loop-left.place ∙ ap (λ (i : ℕ). ends_at i s c.loop-left.cursor c.loop-left.place) e ∙ c.loop-left.invariant.1
+returns c = ends-done c.args.table.now c.args.k c.loop.counter c.loop.cursor c.loop.place (omega arith) ∙ c.loop.invariant.1

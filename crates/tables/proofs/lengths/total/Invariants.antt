@@ -5,8 +5,5 @@ use Rattle.meaning.specs.Verdicts.{lengths_at}
 use Rattle.tables.specs.Lengths.{total_of, total_at}
 use Rattle.tables.proofs.lengths.total.Given as goal
 
-abbrev pub invariant-loop-left : goal.invariant-loop-left
-invariant-loop-left l = (l.left ≤ l.k) × (l.sum ≤ (l.k - l.left) * 34_359_738_368) × (total_of l.sum (lengths_at l.left l.table l.place) ≡ total_at l.k l.table l.at)
-
-abbrev pub decreases-loop-left : goal.decreases-loop-left
-decreases-loop-left l = l.left
+abbrev pub invariant-loop : goal.invariant-loop
+invariant-loop l = (l.sum ≤ l.counter * 34_359_738_368) × (total_of l.sum (lengths_at (l.k - l.counter) l.table l.place) ≡ total_at l.k l.table l.at)

@@ -26,7 +26,7 @@ write_own-requires g c =
     let bands : List ℤ = c.read_plant.new.bands in
     let coef : List ℤ = c.read_plant.new.coef in
     let known : known_form form ≡ true = sym c.known.ensures ∙ c.if-known.true in
-    let into : ReadInto file c.framed.result bands coef = let r = c.read_plant in read-into file (replicate g.row.SIDES (pos 0)) (replicate g.row.ROWS (pos 0)) c.requires.room r.result bands coef (r.ensures.answer, (r.ensures.bands, r.ensures.coef)) c.in-Ok.outline c.in-Ok.is c.framed.result c.framed.ensures in
+    let into : ReadInto file c.framed.result bands coef = let r = c.read_plant in read-into file (replicate g.row.SIDES (pos 0)) (replicate g.row.ROWS (pos 0)) c.requires.room r.result bands coef (r.ensures.answer, (r.ensures.bands, r.ensures.coef)) c.in-Ok.is c.framed.result c.framed.ensures in
     let g = into.sound in
     subst (λ (f : Frame). PlantSound f bands coef) (sym c.formed-f.ensures)
     (formed-sound c.framed.result form known g.0, g.1)
@@ -39,7 +39,7 @@ returns-then-known g c =
     let bands : List ℤ = c.read_plant.new.bands in
     let coef : List ℤ = c.read_plant.new.coef in
     let known : known_form form ≡ true = sym c.known.ensures ∙ c.if-known.true in
-    let into : ReadInto file c.framed.result bands coef = let r = c.read_plant in read-into file (replicate g.row.SIDES (pos 0)) (replicate g.row.ROWS (pos 0)) c.requires.room r.result bands coef (r.ensures.answer, (r.ensures.bands, r.ensures.coef)) c.in-Ok.outline c.in-Ok.is c.framed.result c.framed.ensures in
+    let into : ReadInto file c.framed.result bands coef = let r = c.read_plant in read-into file (replicate g.row.SIDES (pos 0)) (replicate g.row.ROWS (pos 0)) c.requires.room r.result bands coef (r.ensures.answer, (r.ensures.bands, r.ensures.coef)) c.in-Ok.is c.framed.result c.framed.ensures in
     let own : defined_left (rules_in c.formed-f.result bands coef) buffer ≡ maker_left file form buffer = let i = into in ap (λ (f : Frame). defined_left (rules_in f bands coef) buffer) c.formed-f.ensures ∙ ap (λ (r : Rules). defined_left r buffer) (i.rules (formed c.framed.result form)) ∙ left-own file form buffer i.plant i.was c.framed.result i.framed known in
     let w = c.write_own in
     let e = own in

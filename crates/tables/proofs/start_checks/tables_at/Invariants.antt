@@ -8,6 +8,3 @@ use Rattle.tables.proofs.start_checks.tables_at.Given as goal
 abbrev pub invariant-loop-i : goal.invariant-loop-i
 invariant-loop-i l =
     (l.i ≤ l.m + 1) × (tables_at (rules_at l.f l.edges l.bands l.coef) l.start (l.m + 1 - l.i) l.i l.place ≡ tables_at (rules_at l.f l.edges l.bands l.coef) l.start (l.m + 1) 0 l.at)
-
-abbrev pub decreases-loop-i : goal.decreases-loop-i
-decreases-loop-i l = l.m + 1 - l.i

@@ -1,90 +1,56 @@
 -- `start_control::start_control`: the plant, the chain, whose frames are sound where it was accepted, then the call. Assumes nothing.
-use Rattle.std.specs.Prelude.{Ok, Err}
-use Prim.Native.Nat.{ℕ, ◌≤◌}
-use mathlib.Core.Path.{◌≡◌, sym, ap, ◌∙◌, subst}
+use Rattle.std.specs.Prelude.{Err}
+use Rattle.std.proofs.lemmas.Result.{err_from_is_err_and}
+use Prim.Native.Nat.{◌≤◌}
+use mathlib.Core.Path.{sym, ◌∙◌, subst}
 use mathlib.Core.Bool.{false}
-use mathlib.Core.List.{List}
-use lib.IntN.{ℤ}
-use Rattle.meaning.specs.declared.StartState.{StartState}
-use Rattle.meaning.specs.Files.{good}
-use Rattle.meaning.specs.Plants.{Plant, plant_judged}
+use Rattle.meaning.specs.Plants.{plant_judged}
 use Rattle.meaning.specs.Starts.{start_call}
-use Rattle.promises.specs.Files.Judged.{judged-sound}
-use Rattle.promises.specs.Tables.PlantRules.{Taken, read-good, read-bad}
-use Rattle.promises.specs.Files.Sound.{Sound}
-use Rattle.tables.specs.declared.chains.ChainRead.{ChainRead}
+use Rattle.promises.specs.Tables.PlantRules.{read-bad}
 use Rattle.tables.specs.declared.frames.Frame.{Frame}
-use Rattle.tables.specs.Chains.{chain_read}
-use Rattle.tables.specs.Frames.{frame_of, own_frame}
-use Rattle.tables.proofs.chains.Laws.{Chained, plant-chain, plant-refused, plant-goes, plant-edged, plant-frames}
+use Rattle.tables.proofs.chains.Laws.{plant-chain, plant-refused, plant-goes, plant-edged, plant-frames}
+use Rattle.tables.proofs.control.Laws.{framed-own}
 use Rattle.tables.proofs.start_control.Laws.{answer-as, plant-bad, plant-good}
 use Rattle.tables.proofs.start_control.start_control.Goals as goal
 
+pub returns-in_err-outline : goal.returns-in_err-outline
+returns-in_err-outline c =
+    let a = c.args in
+    let r = c.judge_plant in
+    let p = err_from_is_err_and c.from_residual.result c.from_residual.ensures.1 in
+    rw (p.1, p.2) (plant-bad a.plant.now a.start.now a.st a.x _ (read-bad (plant_judged a.plant.now) r.result r.ensures _ c.in_err-outline.was))
+
 pub read_chain-chain-requires : goal.read_chain-chain-requires
 read_chain-chain-requires c =
-    let plant : List ℕ = c.args.plant.now in
-    let was-taken : Taken (plant_judged plant) c.judge_plant-read.result.outline = let r = c.judge_plant-read in read-good (plant_judged plant) r.result r.ensures c.in-Ok.is in
-    let p : Plant = was-taken.plant in
-    let taken : plant_judged plant ≡ good p = was-taken.was in
-    let sound : Sound p = judged-sound plant p taken in
-    let f : Frame = c.framed-f.result in
-    subst (λ (f : Frame). f.n ≤ 4) (sym (c.framed-f.ensures ∙ ap frame_of was-taken.outline)) sound.ranges.n-high
+    let t = framed-own c.args.plant.now c.judge_plant.ensures c.in_ok-outline.was c.framed-f.ensures in
+    subst (λ (f : Frame). f.n ≤ 4) (sym t.framed) t.sound.ranges.n-high
+
+pub returns-in_err-chain : goal.returns-in_err-chain
+returns-in_err-chain c =
+    let a = c.args in
+    let t = framed-own a.plant.now c.judge_plant.ensures c.in_ok-outline.was c.framed-f.ensures in
+    let r = c.read_chain-chain in
+    let p = err_from_is_err_and c.from_residual-in_err-chain.result c.from_residual-in_err-chain.ensures.1 in
+    rw (p.1, p.2) (
+    plant-refused false t.plant t.sound c.framed-f.result t.framed a.start.now r.result r.ensures _ c.in_err-chain.was Err (λ vs next. start_call t.plant vs a.start.now next a.st a.x)
+    ∙ plant-good a.plant.now a.start.now a.st a.x t.plant t.was
+    )
 
 pub start_call-requires : goal.start_call-requires
 start_call-requires c =
-    let plant : List ℕ = c.args.plant.now in
-    let start : List ℕ = c.args.start.now in
-    let was-taken : Taken (plant_judged plant) c.judge_plant-read.result.outline = let r = c.judge_plant-read in read-good (plant_judged plant) r.result r.ensures c.in-Ok.is in
-    let p : Plant = was-taken.plant in
-    let taken : plant_judged plant ≡ good p = was-taken.was in
-    let sound : Sound p = judged-sound plant p taken in
-    let f : Frame = c.framed-f.result in
-    let framed : f ≡ own_frame p = c.framed-f.ensures ∙ ap frame_of was-taken.outline in
-    let chain : ChainRead = c.read_chain-chain.result in
-    let was_read : chain ≡ chain_read false f start = c.read_chain-chain.ensures in
-    let kept : (h : chain.verdict ≡ Ok tt) → Chained false (own_frame p) start chain = λ h. plant-chain false p sound f framed start chain was_read h in
-    plant-frames false p sound f framed start chain was_read (kept c.in-Ok-kept.is)
+    let t = framed-own c.args.plant.now c.judge_plant.ensures c.in_ok-outline.was c.framed-f.ensures in
+    let r = c.read_chain-chain in
+    let k = plant-chain false t.plant t.sound c.framed-f.result t.framed c.args.start.now r.result r.ensures c.in_ok-chain.was in
+    plant-frames false t.plant t.sound c.framed-f.result t.framed c.args.start.now r.result r.ensures k
 
-pub returns-in-Err : goal.returns-in-Err
-returns-in-Err c =
+pub returns : goal.returns
+returns c =
     let a = c.args in
-    let r = c.judge_plant-read in
-    plant-bad a.plant.now a.start.now a.st a.x c.in-Err.e (read-bad (plant_judged a.plant.now) r.result r.ensures c.in-Err.e c.in-Err.is)
-
-pub returns-in-Err-kept : goal.returns-in-Err-kept
-returns-in-Err-kept c =
-    let plant : List ℕ = c.args.plant.now in
-    let start : List ℕ = c.args.start.now in
-    let state : StartState = c.args.st in
-    let reading : List ℤ = c.args.x in
-    let was-taken : Taken (plant_judged plant) c.judge_plant-read.result.outline = let r = c.judge_plant-read in read-good (plant_judged plant) r.result r.ensures c.in-Ok.is in
-    let p : Plant = was-taken.plant in
-    let taken : plant_judged plant ≡ good p = was-taken.was in
-    let sound : Sound p = judged-sound plant p taken in
-    let f : Frame = c.framed-f.result in
-    let framed : f ≡ own_frame p = c.framed-f.ensures ∙ ap frame_of was-taken.outline in
-    let chain : ChainRead = c.read_chain-chain.result in
-    let was_read : chain ≡ chain_read false f start = c.read_chain-chain.ensures in
-    plant-refused false p sound f framed start chain was_read c.in-Err-kept.e c.in-Err-kept.is Err (λ vs next. start_call p vs start next state reading)
-    ∙ plant-good plant start state reading p taken
-
-pub returns-in-Ok-kept : goal.returns-in-Ok-kept
-returns-in-Ok-kept c =
-    let plant : List ℕ = c.args.plant.now in
-    let start : List ℕ = c.args.start.now in
-    let state : StartState = c.args.st in
-    let reading : List ℤ = c.args.x in
-    let was-taken : Taken (plant_judged plant) c.judge_plant-read.result.outline = let r = c.judge_plant-read in read-good (plant_judged plant) r.result r.ensures c.in-Ok.is in
-    let p : Plant = was-taken.plant in
-    let taken : plant_judged plant ≡ good p = was-taken.was in
-    let sound : Sound p = judged-sound plant p taken in
-    let f : Frame = c.framed-f.result in
-    let framed : f ≡ own_frame p = c.framed-f.ensures ∙ ap frame_of was-taken.outline in
-    let chain : ChainRead = c.read_chain-chain.result in
-    let was_read : chain ≡ chain_read false f start = c.read_chain-chain.ensures in
-    let kept : (h : chain.verdict ≡ Ok tt) → Chained false (own_frame p) start chain = λ h. plant-chain false p sound f framed start chain was_read h in
-    let t = kept c.in-Ok-kept.is in
+    let t = framed-own a.plant.now c.judge_plant.ensures c.in_ok-outline.was c.framed-f.ensures in
+    let r = c.read_chain-chain in
+    let k = plant-chain false t.plant t.sound c.framed-f.result t.framed a.start.now r.result r.ensures c.in_ok-chain.was in
+    let edged = plant-edged false t.plant t.sound c.framed-f.result t.framed a.start.now r.result r.ensures k in
     c.start_call.ensures
-    ∙ answer-as p sound.ranges.n-high chain.edges t.vs (plant-edged false p sound f framed start chain was_read t) chain.m t.count f framed start chain.next state reading
-    ∙ plant-goes false p sound f framed start chain was_read t Err (λ vs next. start_call p vs start next state reading)
-    ∙ plant-good plant start state reading p taken
+    ∙ answer-as t.plant t.sound.ranges.n-high r.result.edges k.vs edged r.result.m k.count c.framed-f.result t.framed a.start.now r.result.next a.st a.x
+    ∙ plant-goes false t.plant t.sound c.framed-f.result t.framed a.start.now r.result r.ensures k Err (λ vs next. start_call t.plant vs a.start.now next a.st a.x)
+    ∙ plant-good a.plant.now a.start.now a.st a.x t.plant t.was
