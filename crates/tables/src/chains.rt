@@ -5,7 +5,7 @@ ghost use Rattle.std.specs.Prelude.{◌≡◌, ◌&&◌, not, ◌≤◌, ◌<◌
 ghost use Rattle.laws.specs.Lists.{tab, first_false};
 ghost use Rattle.meaning.specs.Starts.{held};
 ghost use Rattle.tables.specs.Boxes.{box_of};
-ghost use Rattle.tables.specs.Chains.{most_above, most_edges, values_in, no_chain, chain_read, box_on, bx_at, bx_below, frame_at, keeps, HeadTold, EdgesTold};
+ghost use Rattle.tables.specs.Chains.{most_above, most_edges, values_in, chain_read, box_on, bx_at, bx_below, frame_at, keeps, HeadTold, EdgesTold};
 
 use crate::boxes::Bx;
 use crate::frames::Frame;
@@ -19,24 +19,12 @@ pub const ABOVE: usize = 8;
 pub const EDGES: usize = 64;
 
 // m, the place behind the chain, and the edges as they stand in the file: lo and hi of dimension j of the i-th box above R, from 0, at 2·(i·n + j), zeros
-// behind. A refused one is all zeros.
+// behind.
 #[derive(Clone, Copy)]
-pub struct ChainRead {
-    pub verdict: Result<(), Refusal>,
+pub struct Chain {
     pub m: usize,
     pub next: usize,
     pub edges: [i64; EDGES],
-}
-
-fn refused(e: Refusal) -> ChainRead
-    ensures { result ≡ no_chain e }
-{
-    ChainRead {
-        verdict: Err(e),
-        m: 0,
-        next: 0,
-        edges: [0i64; EDGES],
-    }
 }
 
 // Form 1, then m: m and the place behind it.
@@ -154,35 +142,19 @@ fn left_over(whole: bool, next: usize, size: usize) -> bool
 }
 
 // The chain at a file's beginning; where it is the whole file, bytes left over are told before 15.
-pub fn read_chain(f: Frame, whole: bool, s: &[u8]) -> ChainRead
+pub fn read_chain(f: Frame, whole: bool, s: &[u8]) -> Result<Chain, Refusal>
     requires { f.n ≤ 4 }
     ensures { result ≡ chain_read whole f s.now }
 {
-    match read_head(s) {
-        Err(e) => refused(e),
-        Ok((m, at)) => {
-            let mut edges = [0i64; EDGES];
-            let past = read_edges(s, at, m * f.n, &mut edges);
-            match past {
-                Err(e) => refused(e),
-                Ok(next) => {
-                    if left_over(whole, next, s.len()) {
-                        return refused(files::refusals::unfit(next));
-                    }
-                    let root = f.root;
-                    let safe = f.safe;
-                    let fault = first_unheld(f.n, root, safe, &edges, m);
-                    if fault < m {
-                        return refused(refusals::not_held(fault + 1));
-                    }
-                    ChainRead {
-                        verdict: Ok(()),
-                        m,
-                        next,
-                        edges,
-                    }
-                }
-            }
-        }
+    let (m, at) = read_head(s)?;
+    let mut edges = [0i64; EDGES];
+    let next = read_edges(s, at, m * f.n, &mut edges)?;
+    if left_over(whole, next, s.len()) {
+        return Err(files::refusals::unfit(next));
     }
+    let fault = first_unheld(f.n, f.root, f.safe, &edges, m);
+    if fault < m {
+        return Err(refusals::not_held(fault + 1));
+    }
+    Ok(Chain { m, next, edges })
 }
