@@ -7,6 +7,13 @@ use Rattle.meaning.specs.Plants.{Plant, coef_count, band_count, plant_judged}
 abbrev pub few_modes : ℕ
 few_modes = 16
 
+-- as many bands and coefficients as the larger ones have
+abbrev pub most_bands : ℕ
+most_bands = 2_048
+
+abbrev pub most_coefficients : ℕ
+most_coefficients = 5_120
+
 pub record RoomFor (plant : List ℕ) (bands coef : List ℤ) : Type 0 where
   pub bands-zero : bands ≡ replicate (length bands) (pos 0)
   pub coef-zero : coef ≡ replicate (length coef) (pos 0)

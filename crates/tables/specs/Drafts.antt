@@ -24,6 +24,10 @@ Wrote (some bytes) buf at None out = ⊥
 Wrote none buf at (Some next) out = ⊥
 Wrote none buf at None out = length out ≡ length buf
 
+-- as many bytes as the largest draft has
+abbrev pub most_draft : ℕ
+most_draft = 57_345
+
 -- no draft of a frame's table has more
 abbrev pub bytes_most : Frame → ℕ
 bytes_most f = 2 + most false (children_most f.form f.n) (tile_bytes f.modes) (depth_by f.form f.n f.d)

@@ -2,9 +2,9 @@
 // lengths, whatever the form: module turns writes them from the draft.
 // Relies on crate files for numbers, on search for a box's first pattern, on boxes for a split's children, on limits. Leaves out what is answered where
 // there is no table, and whether the table works: that is proved of the definition.
-ghost use Rattle.std.specs.Prelude.{◌*◌, ◌≤◌, false, length};
+ghost use Rattle.std.specs.Prelude.{◌*◌, ◌≤◌, false};
 ghost use Rattle.laws.specs.Writing.{Put};
-ghost use Rattle.meaning.specs.Plants.{edge_limit};
+ghost use Rattle.meaning.specs.Plants.{edge_limit, most_modes};
 ghost use Rattle.meaning.specs.Trees.{tile, layout};
 ghost use Rattle.tables.specs.Boxes.{box_of, Small};
 ghost use Rattle.tables.specs.Frames.{frame_from, rules_in, PlantSound};
@@ -35,11 +35,8 @@ fn put_tile(buf: &mut [u8], at: usize, k: usize, us: &[usize; LONGEST]) -> usize
     ensures { Put buf.old at (layout false (tile (pattern_of k us.now))) result buf.new }
 {
     let mut place = numbers::put_number(buf, at, k);
-    let mut j: usize = 0;
-    while j < k {
-        let u = us[j];
-        place = numbers::put_number(buf, place, u);
-        j += 1;
+    for j in 0..k {
+        place = numbers::put_number(buf, place, us[j]);
     }
     place
 }
@@ -75,10 +72,9 @@ fn tree(
         return None;
     }
     let mut place = numbers::put_number(buf, at, 0);
-    let mut c: usize = 0;
-    while c < count {
+    for c in 0..count {
         let child = boxes::child(f.form, n, b, c);
-        let grown = tree(
+        place = tree(
             f,
             edges,
             bands,
@@ -89,32 +85,28 @@ fn tree(
             child,
             buf,
             place,
-        );
-        let Some(next) = grown else {
-            return None;
-        };
-        place = next;
-        c += 1;
+        )?;
     }
     Some(place)
 }
 
-// The table of a frame, with room for its limits: header, then the tree of the box that is tiled. The limits are made once, and lent from then on.
-fn table_with(
+// The table of a frame, in arrays that have room for its limits: header, then the tree of the box that is tiled. The limits are made once, and lent from then
+// on. Each size of the arrays has a call of its own, so that makers for few modes have no room for many on their stack.
+fn table_with<const LIMITS: usize, const MARKS: usize>(
     f: Frame,
     bands: &[i64],
     coef: &[i64],
-    limits: &mut [i64],
-    marks: &mut [i64],
     buf: &mut [u8],
 ) -> Option<usize>
     requires plant { PlantSound f bands.now coef.now }
-    requires room { (limits_size * f.modes ≤ length limits.old) × (marks_size * f.modes ≤ length marks.old) }
+    requires room { (limits_size * f.modes ≤ LIMITS) × (marks_size * f.modes ≤ MARKS) }
+    requires small { (LIMITS ≤ limits_size * most_modes) × (MARKS ≤ marks_size * most_modes) }
     ensures { Wrote (draft_bytes (rules_in f bands.now coef.now)) buf.old 0 result buf.new }
 {
+    let mut limits = [0i64; LIMITS];
+    let mut marks = [0i64; MARKS];
+    limits::lay(f, bands, coef, &mut limits, &mut marks);
     let depth = frames::depth(f.form, f.n, f.d);
-    limits::lay(f, bands, coef, limits, marks);
-    let root = f.root;
     let edges = frames::edges_of(f);
     let past_form = numbers::put_number(buf, 0, f.form);
     let past_rooms = numbers::put_number(buf, past_form, f.n);
@@ -123,23 +115,13 @@ fn table_with(
         &edges,
         bands,
         coef,
-        limits,
-        marks,
+        &limits,
+        &marks,
         depth,
-        root,
+        f.root,
         buf,
         past_rooms,
     )
-}
-
-// In limits for any plant. A function of its own, so that makers for few modes have no room for many on their stack.
-fn table_many(f: Frame, bands: &[i64], coef: &[i64], buf: &mut [u8]) -> Option<usize>
-    requires { PlantSound f bands.now coef.now }
-    ensures { Wrote (draft_bytes (rules_in f bands.now coef.now)) buf.old 0 result buf.new }
-{
-    let mut limits = [0i64; MOST_LIMITS];
-    let mut marks = [0i64; MOST_MARKS];
-    table_with(f, bands, coef, &mut limits, &mut marks, buf)
 }
 
 // The table of a frame.
@@ -148,9 +130,7 @@ pub fn table(f: Frame, bands: &[i64], coef: &[i64], buf: &mut [u8]) -> Option<us
     ensures { Wrote (draft_bytes (rules_in f bands.now coef.now)) buf.old 0 result buf.new }
 {
     if FEW_MODES < f.modes {
-        return table_many(f, bands, coef, buf);
+        return table_with::<MOST_LIMITS, MOST_MARKS>(f, bands, coef, buf);
     }
-    let mut limits = [0i64; FEW_LIMITS];
-    let mut marks = [0i64; FEW_MARKS];
-    table_with(f, bands, coef, &mut limits, &mut marks, buf)
+    table_with::<FEW_LIMITS, FEW_MARKS>(f, bands, coef, buf)
 }

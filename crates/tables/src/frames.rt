@@ -29,6 +29,7 @@ pub fn framed(p: Outline) -> Frame
     let rhi = p.rhi;
     let slo = p.slo;
     let shi = p.shi;
+    let root = Bx { lo: rlo, hi: rhi };
     Frame {
         form: 1,
         n: p.n,
@@ -36,8 +37,8 @@ pub fn framed(p: Outline) -> Frame
         q: p.q,
         k: p.k,
         d: p.d,
-        root: Bx { lo: rlo, hi: rhi },
-        goal: Bx { lo: rlo, hi: rhi },
+        root,
+        goal: root,
         safe: Bx { lo: slo, hi: shi },
     }
 }
@@ -46,20 +47,7 @@ pub fn framed(p: Outline) -> Frame
 pub fn formed(f: Frame, form: usize) -> Frame
     ensures { result ≡ formed f form }
 {
-    let root = f.root;
-    let goal = f.goal;
-    let safe = f.safe;
-    Frame {
-        form,
-        n: f.n,
-        modes: f.modes,
-        q: f.q,
-        k: f.k,
-        d: f.d,
-        root,
-        goal,
-        safe,
-    }
+    Frame { form, ..f }
 }
 
 // How deep the splits of a form may go: where it halves one side at a time, n times as deep.
@@ -98,14 +86,8 @@ pub fn counts_of(f: Frame) -> Counts
 pub fn edges_of(f: Frame) -> [[i64; 4]; 6]
     ensures { result ≡ edges_of f }
 {
-    let root = f.root;
-    let goal = f.goal;
-    let safe = f.safe;
-    let rlo = root.lo;
-    let rhi = root.hi;
-    let glo = goal.lo;
-    let ghi = goal.hi;
-    let slo = safe.lo;
-    let shi = safe.hi;
+    let Bx { lo: rlo, hi: rhi } = f.root;
+    let Bx { lo: glo, hi: ghi } = f.goal;
+    let Bx { lo: slo, hi: shi } = f.safe;
     [rlo, rhi, glo, ghi, slo, shi]
 }

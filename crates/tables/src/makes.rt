@@ -2,10 +2,10 @@
 // and the lent buffer is touched once: plant, 2, 9, 10.
 // Relies on crate files for the plant and for what a write leaves, on drafts for the table, on turns for the lengths that it tells. Leaves out whether the
 // table works: that is proved of the definition.
-ghost use Rattle.std.specs.Prelude.{◌≡◌, ◌≤◌, length};
+ghost use Rattle.std.specs.Prelude.{◌≡◌, ◌≤◌, pos, replicate};
 ghost use Rattle.meaning.specs.Tables.{maker_left};
-ghost use Rattle.tables.specs.Arrays.{RoomFor};
-ghost use Rattle.tables.specs.Drafts.{bytes_most};
+ghost use Rattle.tables.specs.Arrays.{RoomFor, most_bands, most_coefficients};
+ghost use Rattle.tables.specs.Drafts.{bytes_most, most_draft};
 ghost use Rattle.tables.specs.Frames.{rules_in, PlantSound};
 ghost use Rattle.tables.specs.Makes.{defined_left};
 
@@ -16,21 +16,22 @@ use crate::{drafts, frames, headers, refusals, turns};
 use files::{buffers, plants};
 use meaning::{BANDS, COEFFICIENTS, Refusal};
 
-// The table of a frame, drafted where there is room for it, and written, with the lengths that form 2 tells: 9, 10. Finished, only the table's bytes are
+// The table of a frame, drafted in an array that has room for it, and written, with the lengths that form 2 tells: 9, 10. Finished, only the table's bytes are
 // changed; refused, the buffer is all zeros.
-fn write_table<'a>(
+fn write_table<const DRAFT: usize>(
     f: Frame,
-    bands: &'a [i64],
-    coef: &'a [i64],
-    draft: &mut [u8],
+    bands: &[i64],
+    coef: &[i64],
     buf: &mut [u8],
 ) -> Result<usize, Refusal>
     requires frame { PlantSound f bands.now coef.now }
-    requires room { bytes_most f ≤ length draft.old }
+    requires room { bytes_most f ≤ DRAFT }
+    requires small { DRAFT ≤ most_draft }
     ensures answer { result ≡ (defined_left (rules_in f bands.now coef.now) buf.old).answer }
     ensures bytes { buf.new ≡ (defined_left (rules_in f bands.now coef.now) buf.old).buffer }
 {
-    let Some(length) = drafts::table(f, bands, coef, draft) else {
+    let mut draft = [0u8; DRAFT];
+    let Some(length) = drafts::table(f, bands, coef, &mut draft) else {
         return buffers::refuse(refusals::no_table(0), buf);
     };
     if f.form == 2 {
@@ -39,75 +40,44 @@ fn write_table<'a>(
     buffers::leave(Ok(()), &draft[..length], buf)
 }
 
-// In a draft for any table.
-fn write_most<'a>(
-    f: Frame,
-    bands: &'a [i64],
-    coef: &'a [i64],
-    buf: &mut [u8],
-) -> Result<usize, Refusal>
-    requires { PlantSound f bands.now coef.now }
-    ensures answer { result ≡ (defined_left (rules_in f bands.now coef.now) buf.old).answer }
-    ensures bytes { buf.new ≡ (defined_left (rules_in f bands.now coef.now) buf.old).buffer }
-{
-    let mut draft = [0u8; MOST];
-    write_table(f, bands, coef, &mut draft, buf)
-}
-
 // In the smallest draft that is sure to have room.
-fn write_own<'a>(
-    f: Frame,
-    bands: &'a [i64],
-    coef: &'a [i64],
-    buf: &mut [u8],
-) -> Result<usize, Refusal>
+fn write_own(f: Frame, bands: &[i64], coef: &[i64], buf: &mut [u8]) -> Result<usize, Refusal>
     requires { PlantSound f bands.now coef.now }
     ensures answer { result ≡ (defined_left (rules_in f bands.now coef.now) buf.old).answer }
     ensures bytes { buf.new ≡ (defined_left (rules_in f bands.now coef.now) buf.old).buffer }
 {
     if BRIEF < f.modes {
-        return write_most(f, bands, coef, buf);
+        return write_table::<MOST>(f, bands, coef, buf);
     }
     if f.n * f.d <= 4 {
-        let mut few = [0u8; FEW];
-        return write_table(f, bands, coef, &mut few, buf);
+        return write_table::<FEW>(f, bands, coef, buf);
     }
-    let mut draft = [0u8; LONG];
-    write_table(f, bands, coef, &mut draft, buf)
+    write_table::<LONG>(f, bands, coef, buf)
 }
 
 // The table's file for a plant's file, the plant being read into arrays that have room for it.
-fn make_in(
+fn make_in<const SIDES: usize, const ROWS: usize>(
     plant: &[u8],
-    bands: &mut [i64],
-    coef: &mut [i64],
     form: usize,
     buf: &mut [u8],
 ) -> Result<usize, Refusal>
-    requires { RoomFor plant.now bands.old coef.old }
+    requires room { RoomFor plant.now (replicate SIDES (pos 0)) (replicate ROWS (pos 0)) }
+    requires small { (SIDES ≤ most_bands) × (ROWS ≤ most_coefficients) }
     ensures answer { result ≡ (maker_left plant.now form buf.old).answer }
     ensures bytes { buf.new ≡ (maker_left plant.now form buf.old).buffer }
 {
-    match plants::read_plant(plant, bands, coef) {
+    let mut bands = [0i64; SIDES];
+    let mut coef = [0i64; ROWS];
+    match plants::read_plant(plant, &mut bands, &mut coef) {
         Err(e) => buffers::refuse(e, buf),
         Ok(outline) => {
             if headers::known(form) {
                 let f = frames::formed(frames::framed(outline), form);
-                return write_own(f, bands, coef, buf);
+                return write_own(f, &bands, &coef, buf);
             }
             buffers::refuse(files::refusals::wrong_form(), buf)
         }
     }
-}
-
-// In arrays for any plant.
-fn make_many(plant: &[u8], form: usize, buf: &mut [u8]) -> Result<usize, Refusal>
-    ensures answer { result ≡ (maker_left plant.now form buf.old).answer }
-    ensures bytes { buf.new ≡ (maker_left plant.now form buf.old).buffer }
-{
-    let mut bands = [0i64; BANDS];
-    let mut coef = [0i64; COEFFICIENTS];
-    make_in(plant, &mut bands, &mut coef, form, buf)
 }
 
 // The table's file for a plant's file: plant, 2 where the form is not known, 9, 10.
@@ -116,9 +86,7 @@ pub fn make(plant: &[u8], form: usize, buf: &mut [u8]) -> Result<usize, Refusal>
     ensures bytes { buf.new ≡ (maker_left plant.now form buf.old).buffer }
 {
     if FEW_MODES < plants::modes_told(plant) {
-        return make_many(plant, form, buf);
+        return make_in::<BANDS, COEFFICIENTS>(plant, form, buf);
     }
-    let mut bands = [0i64; FEW_BANDS];
-    let mut coef = [0i64; FEW_COEFFICIENTS];
-    make_in(plant, &mut bands, &mut coef, form, buf)
+    make_in::<FEW_BANDS, FEW_COEFFICIENTS>(plant, form, buf)
 }

@@ -80,25 +80,7 @@ pub fn not_held(i: usize) -> Refusal
 fn at_byte(number: u8) -> bool
     ensures { result ≡ R.at_byte number }
 {
-    if number == 1 {
-        return true;
-    }
-    if number == 2 {
-        return true;
-    }
-    if number == 3 {
-        return true;
-    }
-    if number == 6 {
-        return true;
-    }
-    if number == 7 {
-        return true;
-    }
-    if number == 8 {
-        return true;
-    }
-    number == 13
+    matches!(number, 1 | 2 | 3 | 6 | 7 | 8 | 13)
 }
 
 // What is told of a file that stands at `from` in another.
@@ -108,9 +90,8 @@ pub fn moved(from: usize, e: Refusal) -> Refusal
 {
     if at_byte(e.number) {
         return Refusal {
-            number: e.number,
             place: from + e.place,
-            step: e.step,
+            ..e
         };
     }
     e

@@ -15,14 +15,7 @@ use meaning::Refusal;
 fn turns_into(own: usize, form: usize) -> bool
     ensures { result ≡ (known_form form && splits_alike own form) }
 {
-    let known = headers::known(form);
-    if known {
-        if own == 3 {
-            return form == 3;
-        }
-        return form != 3;
-    }
-    false
+    headers::known(form) && (own == 3) == (form == 3)
 }
 
 // A table that was accepted. Of its own form it is copied, since only the other layout is written from a tree's bytes; the plant is read again, for its
@@ -36,8 +29,7 @@ fn lay(plant: &[u8], table: &[u8], form: usize, buf: &mut [u8]) -> Result<usize,
     if form == own {
         return buffers::leave(Ok(()), table, buf);
     }
-    let can = turns_into(own, form);
-    if can {
+    if turns_into(own, form) {
         let Ok(outline) = plants::judge_plant(plant) else {
             unreachable!();
         };
@@ -52,8 +44,7 @@ pub fn relay(plant: &[u8], table: &[u8], form: usize, buf: &mut [u8]) -> Result<
     ensures answer { result ≡ (relay_left plant.now table.now form buf.old).answer }
     ensures bytes { buf.new ≡ (relay_left plant.now table.now form buf.old).buffer }
 {
-    let verdict = checks::check(plant, table);
-    match verdict {
+    match checks::check(plant, table) {
         Err(e) => buffers::refuse(e, buf),
         Ok(()) => lay(plant, table, form, buf),
     }

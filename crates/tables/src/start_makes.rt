@@ -3,14 +3,14 @@
 // table, 10.
 // Relies on crate files for the plant, for numbers and for what a write leaves, on chains for the chain and each box's frame, on drafts for a table, on
 // turns for the lengths that it tells. Leaves out whether the tables work: that is proved of the definition.
-ghost use Rattle.std.specs.Prelude.{◌≡◌, ◌+◌, ◌≤◌, length, true};
+ghost use Rattle.std.specs.Prelude.{◌≡◌, ◌+◌, ◌≤◌, length, pos, replicate, true};
 ghost use Rattle.meaning.specs.Boxes.{within};
 ghost use Rattle.meaning.specs.Buffers.{left};
 ghost use Rattle.meaning.specs.Starts.{start_left};
-ghost use Rattle.tables.specs.Arrays.{RoomFor};
+ghost use Rattle.tables.specs.Arrays.{RoomFor, most_bands, most_coefficients};
 ghost use Rattle.tables.specs.Boxes.{box_of};
 ghost use Rattle.tables.specs.Chains.{most_above};
-ghost use Rattle.tables.specs.Drafts.{Wrote, bytes_most};
+ghost use Rattle.tables.specs.Drafts.{Wrote, bytes_most, most_draft};
 ghost use Rattle.tables.specs.Frames.{rules_in, PlantSound};
 ghost use Rattle.tables.specs.StartMakes.{part_bytes, WroteParts, frames_tables, FramesSound, behind_chain, chain_left};
 
@@ -35,9 +35,7 @@ fn put_part(
     requires room { bytes_most f ≤ length draft.old }
     ensures { Wrote (part_bytes (rules_in f bands.now coef.now)) buf.old at result buf.new }
 {
-    let Some(size) = drafts::table(f, bands, coef, draft) else {
-        return None;
-    };
+    let size = drafts::table(f, bands, coef, draft)?;
     if f.form == 2 {
         let long = turns::table_size(f, &draft[..size]);
         let behind = numbers::put_number(buf, at, long);
@@ -65,38 +63,32 @@ fn put_parts(
     ensures { WroteParts (frames_tables f bands.now coef.now edges.now m) buf.old at result buf.new }
 {
     let mut place = at;
-    let mut i: usize = 0;
-    while i <= m {
+    for i in 0..m + 1 {
         let own = chains::frame_at(f, edges, i);
-        let grown = put_part(own, bands, coef, draft, buf, place);
-        let Some(next) = grown else {
-            return Err(refusals::no_table(i));
-        };
-        place = next;
-        i += 1;
+        place = put_part(own, bands, coef, draft, buf, place).ok_or(refusals::no_table(i))?;
     }
     Ok(place)
 }
 
-// The chain's bytes, then the tables: 9, 10. Finished, only the file's bytes are changed; refused, the buffer is all zeros.
-fn write_start(
+// The chain's bytes, then the tables, in a draft that has room for each: 9, 10. Finished, only the file's bytes are changed; refused, the buffer is all zeros.
+fn write_start<const DRAFT: usize>(
     f: Frame,
     bands: &[i64],
     coef: &[i64],
     edges: &[i64; EDGES],
     m: usize,
     chain: &[u8],
-    draft: &mut [u8],
     buf: &mut [u8],
 ) -> Result<usize, Refusal>
     requires frames { (m ≤ most_above) × FramesSound f bands.now coef.now edges.now m }
-    requires room { bytes_most f ≤ length draft.old }
+    requires room { bytes_most f ≤ DRAFT }
+    requires small { DRAFT ≤ most_draft }
     ensures answer { result ≡ (left (behind_chain chain.now (frames_tables f bands.now coef.now edges.now m)) buf.old).answer }
     ensures bytes { buf.new ≡ (left (behind_chain chain.now (frames_tables f bands.now coef.now edges.now m)) buf.old).buffer }
 {
+    let mut draft = [0u8; DRAFT];
     let past_chain = buffers::put_bytes(buf, 0, chain);
-    let past = put_parts(f, bands, coef, edges, m, draft, buf, past_chain);
-    match past {
+    match put_parts(f, bands, coef, edges, m, &mut draft, buf, past_chain) {
         Err(e) => buffers::refuse(e, buf),
         Ok(size) => {
             if buf.len() < size {
@@ -105,24 +97,6 @@ fn write_start(
             Ok(size)
         }
     }
-}
-
-// In a draft for any table.
-fn write_start_most(
-    f: Frame,
-    bands: &[i64],
-    coef: &[i64],
-    edges: &[i64; EDGES],
-    m: usize,
-    chain: &[u8],
-    buf: &mut [u8],
-) -> Result<usize, Refusal>
-    requires { (m ≤ most_above) × FramesSound f bands.now coef.now edges.now m }
-    ensures answer { result ≡ (left (behind_chain chain.now (frames_tables f bands.now coef.now edges.now m)) buf.old).answer }
-    ensures bytes { buf.new ≡ (left (behind_chain chain.now (frames_tables f bands.now coef.now edges.now m)) buf.old).buffer }
-{
-    let mut draft = [0u8; MOST];
-    write_start(f, bands, coef, edges, m, chain, &mut draft, buf)
 }
 
 // The chain's bytes, then the tables, in the smallest draft that is sure to have room.
@@ -140,21 +114,19 @@ fn write_start_own(
     ensures bytes { buf.new ≡ (left (behind_chain chain.now (frames_tables f bands.now coef.now edges.now m)) buf.old).buffer }
 {
     if BRIEF < f.modes {
-        return write_start_most(f, bands, coef, edges, m, chain, buf);
+        return write_start::<MOST>(f, bands, coef, edges, m, chain, buf);
     }
     if f.n * f.d <= 4 {
-        let mut few = [0u8; FEW];
-        return write_start(f, bands, coef, edges, m, chain, &mut few, buf);
+        return write_start::<FEW>(f, bands, coef, edges, m, chain, buf);
     }
-    let mut draft = [0u8; LONG];
-    write_start(f, bands, coef, edges, m, chain, &mut draft, buf)
+    write_start::<LONG>(f, bands, coef, edges, m, chain, buf)
 }
 
 // For a frame: chain, 15, 2, 9, 10.
-fn make_start<'a>(
+fn make_start(
     f: Frame,
-    bands: &'a [i64],
-    coef: &'a [i64],
+    bands: &[i64],
+    coef: &[i64],
     chain: &[u8],
     form: usize,
     buf: &mut [u8],
@@ -164,11 +136,9 @@ fn make_start<'a>(
     ensures answer { result ≡ (chain_left f bands.now coef.now chain.now form buf.old).answer }
     ensures bytes { buf.new ≡ (chain_left f bands.now coef.now chain.now form buf.old).buffer }
 {
-    let read = chains::read_chain(f, true, chain);
-    let verdict = read.verdict;
-    match verdict {
+    match chains::read_chain(f, true, chain) {
         Err(e) => buffers::refuse(e, buf),
-        Ok(()) => {
+        Ok(read) => {
             if headers::known(form) {
                 let own = frames::formed(f, form);
                 return write_start_own(own, bands, coef, &read.edges, read.m, chain, buf);
@@ -179,37 +149,23 @@ fn make_start<'a>(
 }
 
 // The start file for a plant's file and a chain's, the plant being read into arrays that have room for it.
-fn start_make_in(
+fn start_make_in<const SIDES: usize, const ROWS: usize>(
     plant: &[u8],
-    bands: &mut [i64],
-    coef: &mut [i64],
     chain: &[u8],
     form: usize,
     buf: &mut [u8],
 ) -> Result<usize, Refusal>
-    requires { RoomFor plant.now bands.old coef.old }
+    requires room { RoomFor plant.now (replicate SIDES (pos 0)) (replicate ROWS (pos 0)) }
+    requires small { (SIDES ≤ most_bands) × (ROWS ≤ most_coefficients) }
     ensures answer { result ≡ (start_left plant.now chain.now form buf.old).answer }
     ensures bytes { buf.new ≡ (start_left plant.now chain.now form buf.old).buffer }
 {
-    match plants::read_plant(plant, bands, coef) {
+    let mut bands = [0i64; SIDES];
+    let mut coef = [0i64; ROWS];
+    match plants::read_plant(plant, &mut bands, &mut coef) {
         Err(e) => buffers::refuse(e, buf),
-        Ok(outline) => { make_start(frames::framed(outline), bands, coef, chain, form, buf) }
+        Ok(outline) => make_start(frames::framed(outline), &bands, &coef, chain, form, buf),
     }
-}
-
-// In arrays for any plant.
-fn start_make_many(
-    plant: &[u8],
-    chain: &[u8],
-    form: usize,
-    buf: &mut [u8],
-) -> Result<usize, Refusal>
-    ensures answer { result ≡ (start_left plant.now chain.now form buf.old).answer }
-    ensures bytes { buf.new ≡ (start_left plant.now chain.now form buf.old).buffer }
-{
-    let mut bands = [0i64; BANDS];
-    let mut coef = [0i64; COEFFICIENTS];
-    start_make_in(plant, &mut bands, &mut coef, chain, form, buf)
 }
 
 // The start file for a plant's file and a chain's, its tables of one form: plant, chain, 15, 2 where the form is not known, 9, 10.
@@ -218,9 +174,7 @@ pub fn start_make(plant: &[u8], chain: &[u8], form: usize, buf: &mut [u8]) -> Re
     ensures bytes { buf.new ≡ (start_left plant.now chain.now form buf.old).buffer }
 {
     if FEW_MODES < plants::modes_told(plant) {
-        return start_make_many(plant, chain, form, buf);
+        return start_make_in::<BANDS, COEFFICIENTS>(plant, chain, form, buf);
     }
-    let mut bands = [0i64; FEW_BANDS];
-    let mut coef = [0i64; FEW_COEFFICIENTS];
-    start_make_in(plant, &mut bands, &mut coef, chain, form, buf)
+    start_make_in::<FEW_BANDS, FEW_COEFFICIENTS>(plant, chain, form, buf)
 }

@@ -10,7 +10,7 @@ use native.Mathlib.Omega.{arith}
 use borrow.Author.Tests.{le-leb}
 use native.Mathlib.Numerals.{add-one}
 use lib.IntN.{ℤ}
-use lib.ListN.{length, get_or, drop, take, length-append, drop_of_length-le}
+use lib.ListN.{length, get_or, drop, take, replicate, length-append, length-replicate, drop_of_length-le}
 use lib.Seq.{drop-cons}
 use Rattle.laws.specs.Lists.{tab}
 use Rattle.laws.specs.Tabs.{length-tab, tab-step, tab-done}
@@ -315,3 +315,12 @@ pub drafted : (f : Frame) (bands coef : List ℤ) → FrameSound f → (draft : 
     → Wrote (draft_bytes (rules_in f bands coef)) draft 0 a out → (size : ℕ) → a ≡ Some size → Drafted (rules_in f bands coef) size out
 drafted f bands coef g draft l a out w size z =
     drafted-by (rules_in f bands coef) draft a out w size z (λ t e. omega (arith, draft-length f bands coef g t e, l))
+
+-- and an array of its own, of zeros
+pub drafted-in : (f : Frame) (bands coef : List ℤ) → FrameSound f → (room : ℕ) → bytes_most f ≤ room → (a : Grown) (out : List ℕ)
+    → Wrote (draft_bytes (rules_in f bands coef)) (replicate {A = ℕ} room 0) 0 a out → (size : ℕ) → a ≡ Some size → Drafted (rules_in f bands coef) size out × (size ≤ room)
+drafted-in f bands coef g room l a out w size z =
+    let zeros : List ℕ = replicate {A = ℕ} room 0 in
+    let long : length zeros ≡ room = length-replicate {A = ℕ} room 0 in
+    let d = drafted f bands coef g zeros (omega (arith, long, l)) a out w size z in
+    (d, omega (arith, d.held.fits, long, wrote-length (draft_bytes (rules_in f bands coef)) zeros 0 a out w))

@@ -1,6 +1,6 @@
 -- What relay leaves: what the checker refuses, 2, the table itself, or its tree in the other layout. Forms that are known, split alike and differ lay a
 -- tree out differently. Assumes nothing.
-use Rattle.std.specs.Prelude.{Err}
+use Rattle.std.specs.Prelude.{Ok, Err}
 use Prim.Native.Nat.{ℕ, suc}
 use mathlib.Core.Path.{◌≡◌, refl, sym, ap, subst, ◌∙◌}
 use mathlib.Core.Bool.{Bool, true, false, ◌&&◌, not}
@@ -11,6 +11,7 @@ use lib.Dec.{eqb}
 use lib.ListN.{length}
 use Rattle.meaning.specs.Answers.{PlantRead}
 use Rattle.laws.specs.Tests.{never, first, second}
+use Rattle.meaning.specs.declared.Outline.{Outline}
 use Rattle.meaning.specs.declared.Refusal.{Refusal}
 use Rattle.meaning.specs.Buffers.{refused_with, left}
 use Rattle.meaning.specs.Files.{Judged, good, bad}
@@ -59,18 +60,6 @@ module _ (own form : ℕ) (k : known_form own ≡ true) (c : (known_form form &&
       go (inr (inl p)) (inr (inl q)) = absurd (other (q ∙ sym p))
       go (inr (inl p)) (inr (inr q)) = let e = alike in never (rw (p, q) at e)
       go (inr (inr p)) q = let e = neither in never (sym (rw p at e))
-
--- ---- what the code asks of two forms; b is whether the second is known
-
-module _ (own form : ℕ) (b : Bool) (q : b ≡ known_form form) where
-  pub into_one : b ≡ true → own ≡ 3 → eqb form 3 ≡ (known_form form && splits_alike own form)
-  into_one t e = rw (← q, t, eq-eqb own 3 e) refl
-
-  pub into-all : b ≡ true → (own ≡ 3 → ⊥) → not (eqb form 3) ≡ (known_form form && splits_alike own form)
-  into-all t e = rw (← q, t, ne_eqb own 3 e) refl
-
-  pub into-unknown : b ≡ false → false ≡ (known_form form && splits_alike own form)
-  into-unknown t = rw (← q, t) refl
 
 -- ---- what is left
 
@@ -135,8 +124,9 @@ module _ (plant table : List ℕ) (form : ℕ) (buf : List ℕ) where
             ∙ ap (λ (u : Bool). good (table_by form t.p.n u t.tree)) (turned own form known-own c other)))
 
 -- the frame that the code has is the plant's, of the table's form
-pub frame_is : (plant : List ℕ) (p : Plant) → plant_judged plant ≡ good p → (own : ℕ) (x : PlantRead) → x ≡ plant_read plant → (g : Frame) → g ≡ frame_of x.outline → (f : Frame) → f ≡ formed g own
+pub frame_is : (plant : List ℕ) (p : Plant) → plant_judged plant ≡ good p → (own : ℕ) (o : Outline) → Ok o ≡ plant_read plant → (g : Frame) → g ≡ frame_of o → (f : Frame) → f ≡ formed g own
     → f ≡ formed (own_frame p) own
-frame_is plant p h own x r g u f v =
-    let o : x.outline ≡ outline_of p = ap (λ (y : PlantRead). y.outline) (r ∙ ap read_of h) in
-    v ∙ ap (λ (k : Frame). formed k own) (u ∙ ap frame_of o)
+frame_is plant p h own o r g u f v =
+    let q : ◌≡◌ {A = PlantRead} (Ok o) (Ok (outline_of p)) = r ∙ ap read_of h in
+    let same : o ≡ outline_of p = cc in
+    v ∙ ap (λ (k : Frame). formed k own) (u ∙ ap frame_of same)

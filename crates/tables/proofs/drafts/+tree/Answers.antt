@@ -8,7 +8,6 @@ use mathlib.Core.Option.{Option}
 use native.Mathlib.Omega.{arith}
 use lib.IntN.{ℤ}
 use lib.ListN.{length, drop}
-use Rattle.laws.specs.Writing.{put-length}
 use Rattle.meaning.specs.Boxes.{Side}
 use Rattle.meaning.specs.Plants.{edge_limit}
 use Rattle.meaning.specs.Rules.{Rules}
@@ -21,7 +20,7 @@ use Rattle.tables.specs.Search.{pattern_by}
 use Rattle.tables.specs.Drafts.{Wrote, tree_bytes, trees_bytes, Grown}
 use Rattle.tables.proofs.boxes.Halving.{small-children}
 use Rattle.tables.proofs.search.Rules.{lent, shortest-is}
-use Rattle.tables.proofs.drafts.Laws.{Growing, grow-none, grow-done, grow-more, grow-stopped, node-tile, node-deep, node-stuck, node-split, wrote-length}
+use Rattle.tables.proofs.drafts.Laws.{Growing, grow-done, grow-more, grow-stopped, node-tile, node-deep, node-stuck, node-split}
 use Rattle.tables.proofs.drafts.+tree.Goals as goal
 
 pub first-size-requires : goal.first-size-requires
@@ -30,12 +29,6 @@ first-size-requires t c =
     let bands : List ℤ = c.args.bands.now in
     let coef : List ℤ = c.args.coef.now in
     (lent frame bands coef c.args.limits.now c.args.marks.now c.requires.0, c.requires.0.sound.longest, c.requires.1, c.requires.0.marked)
-
-pub put_tile-requires : goal.put_tile-requires
-put_tile-requires t c = c.first-size.ensures.size.0
-
-pub shape_of-buf-then-size-ne0 : goal.shape_of-buf-then-size-ne0
-shape_of-buf-then-size-ne0 t c = put-length c.put_tile.ensures
 
 pub returns-then-size-ne0 : goal.returns-then-size-ne0
 returns-then-size-ne0 t c =
@@ -60,9 +53,6 @@ returns-then-d-eq0 t c =
     let pattern : pattern_by c.first-size.result modes ≡ first_pattern rules box = c.first-size.ensures.pattern ∙ shortest-is frame bands coef c.args.limits.now c.args.marks.now c.requires.0 c.args.f.k 0 box in
     node-deep frame bands coef c.args.d box c.first-size.result modes pattern c.args.buf.now c.args.at c.if-size-ne0.false c.if-d-eq0.true
 
-pub count-count-requires : goal.count-count-requires
-count-count-requires t c = c.requires.0.sound.rooms
-
 pub returns-then-count-eq0 : goal.returns-then-count-eq0
 returns-then-count-eq0 t c =
     let frame : Frame = frame_from c.args.f c.args.edges.now in
@@ -74,50 +64,16 @@ returns-then-count-eq0 t c =
     let pattern : pattern_by c.first-size.result modes ≡ first_pattern rules box = c.first-size.ensures.pattern ∙ shortest-is frame bands coef c.args.limits.now c.args.marks.now c.requires.0 c.args.f.k 0 box in
     node-stuck frame bands coef c.args.d box c.first-size.result modes pattern c.args.buf.now c.args.at c.if-size-ne0.false (sym c.count-count.ensures ∙ c.if-count-eq0.true)
 
-pub put_number-place-requires : goal.put_number-place-requires
-put_number-place-requires t c = tt
-
-pub loop-c-init : goal.loop-c-init
-loop-c-init t c =
-    let frame : Frame = frame_from c.args.f c.args.edges.now in
-    let bands : List ℤ = c.args.bands.now in
-    let coef : List ℤ = c.args.coef.now in
-    let rules : Rules = rules_in frame bands coef in
-    let box : List Side = box_of c.args.f.n c.args.b in
-    let whole : Option (List ℕ) = trees_bytes rules (c.args.d - 1) (children_by c.args.f.form box) in
-    let w = c.put_number-place in
-    (omega arith, grow-none w.new.buf w.result whole (omega (arith, w.ensures.place, put-length w.ensures)))
-
-pub child-child-requires : goal.child-child-requires
-child-child-requires t c =
-    let box : List Side = box_of c.args.f.n c.args.b in
-    let in-box : (j : ℕ) → j < c.count-count.result → j < length (children_by c.args.f.form box) = λ j h. let e = c.count-count.ensures in rw (← e) h in
-    (c.requires.0.sound.rooms, c.requires.1, in-box _ c.loop-c-test.true)
-
-pub overflow_sub-d : goal.overflow_sub-d
-overflow_sub-d t c = let z = c.if-d-eq0.false in omega arith
-
-pub tree-grown-requires : goal.tree-grown-requires
-tree-grown-requires t c =
+pub tree-requires : goal.tree-requires
+tree-requires t c =
     let box : List Side = box_of c.args.f.n c.args.b in
     let in-box : (j : ℕ) → j < c.count-count.result → j < length (children_by c.args.f.form box) = λ j h. let e = c.count-count.ensures in rw (← e) h in
     let deep = c.if-d-eq0.false in
     let less = c.requires.0 in
     (omega arith, (c.requires.0, rw c.child-child.ensures (small-children c.args.f.form edge_limit box c.loop-c.c (in-box _ c.loop-c-test.true) c.requires.1)))
 
-pub shape_of-buf-in_default : goal.shape_of-buf-in_default
-shape_of-buf-in_default t c =
-    let frame : Frame = frame_from c.args.f c.args.edges.now in
-    let bands : List ℤ = c.args.bands.now in
-    let coef : List ℤ = c.args.coef.now in
-    let rules : Rules = rules_in frame bands coef in
-    let same : length c.put_number-place.new.buf ≡ length c.args.buf.now = put-length c.put_number-place.ensures in
-    let left : List ℕ = c.tree-grown.new.buf in
-    let kid : List Side = box_of c.args.f.n c.child-child.result in
-    wrote-length (tree_bytes rules (c.args.d - 1) kid) _ _ c.tree-grown.result left c.tree-grown.ensures ∙ c.loop-c.invariant.1.long ∙ same
-
-pub returns-in_default : goal.returns-in_default
-returns-in_default t c =
+pub returns-in_err-place : goal.returns-in_err-place
+returns-in_err-place t c =
     let frame : Frame = frame_from c.args.f c.args.edges.now in
     let bands : List ℤ = c.args.bands.now in
     let coef : List ℤ = c.args.coef.now in
@@ -129,17 +85,11 @@ returns-in_default t c =
     let in-box : (j : ℕ) → j < c.count-count.result → j < length (children_by c.args.f.form box) = λ j h. let e = c.count-count.ensures in rw (← e) h in
     let goes : (a : Grown) (out : List ℕ) → Wrote whole c.put_number-place.new.buf c.put_number-place.result a out → Wrote (tree_bytes rules c.args.d box) c.args.buf.now c.args.at a out = λ a. λ out. λ w. node-split frame bands coef c.args.d box c.first-size.result modes pattern c.args.buf.now c.args.at c.if-size-ne0.false c.if-d-eq0.false (λ z. c.if-count-eq0.false (c.count-count.ensures ∙ z)) c.put_number-place.result c.put_number-place.new.buf c.put_number-place.ensures a out w in
     let done : ℕ = c.loop-c.c in
-    let left : List ℕ = c.tree-grown.new.buf in
+    let left : List ℕ = c.tree.new.buf in
     let in_count : done < length (children_by c.args.f.form box) = in-box _ c.loop-c-test.true in
     let kid : List Side = box_of c.args.f.n c.child-child.result in
-    let stopped : c.tree-grown.result ≡ None → Wrote whole c.put_number-place.new.buf c.put_number-place.result None left = λ e. let l = c.loop-c in grow-stopped rules (c.args.d - 1) (children_by c.args.f.form box) done c.put_number-place.new.buf c.put_number-place.result whole l.place l.buf l.invariant.1 [] in_count kid c.child-child.ensures c.tree-grown.result left c.tree-grown.ensures e in
-    goes None left (stopped c.in_default.is)
-
-pub overflow_add-c : goal.overflow_add-c
-overflow_add-c t c = let h = c.loop-c-test.true in omega arith
-
-pub loop-c-smaller : goal.loop-c-smaller
-loop-c-smaller t c = let h = c.loop-c-test.true in omega arith
+    let stopped : c.tree.result ≡ None → Wrote whole c.put_number-place.new.buf c.put_number-place.result None left = λ e. let l = c.loop-c in grow-stopped rules (c.args.d - 1) (children_by c.args.f.form box) done c.put_number-place.new.buf c.put_number-place.result whole l.place l.buf l.invariant [] in_count kid c.child-child.ensures c.tree.result left c.tree.ensures e in
+    rw c.from_residual.ensures (goes None left (stopped c.in_err-place.was))
 
 pub loop-c-preserved : goal.loop-c-preserved
 loop-c-preserved t c =
@@ -151,17 +101,11 @@ loop-c-preserved t c =
     let whole : Option (List ℕ) = trees_bytes rules (c.args.d - 1) (children_by c.args.f.form box) in
     let in-box : (j : ℕ) → j < c.count-count.result → j < length (children_by c.args.f.form box) = λ j h. let e = c.count-count.ensures in rw (← e) h in
     let done : ℕ = c.loop-c.c in
-    let left : List ℕ = c.tree-grown.new.buf in
+    let left : List ℕ = c.tree.new.buf in
     let in_count : done < length (children_by c.args.f.form box) = in-box _ c.loop-c-test.true in
     let kid : List Side = box_of c.args.f.n c.child-child.result in
-    let goes_on : (m : ℕ) → c.tree-grown.result ≡ Some m → Growing c.put_number-place.new.buf c.put_number-place.result whole (trees_bytes rules (c.args.d - 1) (drop (done + 1) (children_by c.args.f.form box))) m left = λ m. λ e. let l = c.loop-c in grow-more rules (c.args.d - 1) (children_by c.args.f.form box) done c.put_number-place.new.buf c.put_number-place.result whole l.place l.buf l.invariant.1 [] in_count kid c.child-child.ensures c.tree-grown.result left c.tree-grown.ensures m e in
-    let h = c.loop-c-test.true in
-    (omega arith, goes_on c.in-Some.next c.in-Some.is)
-
-pub shape_of-buf : goal.shape_of-buf
-shape_of-buf t c =
-    let same : length c.put_number-place.new.buf ≡ length c.args.buf.now = put-length c.put_number-place.ensures in
-    c.loop-c.invariant.1.long ∙ same
+    let goes_on : (m : ℕ) → c.tree.result ≡ Some m → Growing c.put_number-place.new.buf c.put_number-place.result whole (trees_bytes rules (c.args.d - 1) (drop (done + 1) (children_by c.args.f.form box))) m left = λ m. λ e. let l = c.loop-c in grow-more rules (c.args.d - 1) (children_by c.args.f.form box) done c.put_number-place.new.buf c.put_number-place.result whole l.place l.buf l.invariant [] in_count kid c.child-child.ensures c.tree.result left c.tree.ensures m e in
+    goes_on c.in_ok-place.place c.in_ok-place.was
 
 pub returns : goal.returns
 returns t c =
@@ -177,4 +121,4 @@ returns t c =
     let l = c.loop-c in
     let n = c.count-count.ensures in
     let h = c.loop-c-test.false in
-    goes-on (Some l.place) l.buf (grow-done rules (c.args.d - 1) (children_by c.args.f.form box) l.c c.put_number-place.new.buf c.put_number-place.result whole l.place l.buf l.invariant.1 (rw (← n) h))
+    goes-on (Some l.place) l.buf (grow-done rules (c.args.d - 1) (children_by c.args.f.form box) l.c c.put_number-place.new.buf c.put_number-place.result whole l.place l.buf l.invariant (rw (← n) h))

@@ -11,18 +11,15 @@ use Rattle.tables.proofs.frames.Laws.{lent_is}
 use Rattle.tables.proofs.drafts.Laws.{table-wrote}
 use Rattle.tables.proofs.drafts.table_with.Goals as goal
 
-pub depth-depth-requires : goal.depth-depth-requires
-depth-depth-requires c = let g = c.requires.plant.0 in (g.rooms, g.depth)
-
 pub tree-requires : goal.tree-requires
-tree-requires c =
+tree-requires g c =
     let whole : frame_from c.counts_of.result c.edges_of-edges.result ≡ c.args.f = lent_is c.args.f c.counts_of.result c.edges_of-edges.result c.counts_of.ensures c.edges_of-edges.ensures in
     let a = c.args in
     let l = c.lay in
     subst (λ (f : Frame). LimitsLaid f a.bands.now a.coef.now l.new.limits l.new.marks × Small edge_limit (box_of f.n a.f.root)) (sym whole) (l.ensures.laid, c.requires.plant.0.root)
 
 pub returns : goal.returns
-returns c =
+returns g c =
     let whole : frame_from c.counts_of.result c.edges_of-edges.result ≡ c.args.f = lent_is c.args.f c.counts_of.result c.edges_of-edges.result c.counts_of.ensures c.edges_of-edges.ensures in
     let a = c.args in
     let w = c.tree in

@@ -3,7 +3,8 @@ use Prim.Native.Nat.{ℕ}
 use mathlib.Core.Path.{◌≡◌, sym, ap, ◌∙◌, subst}
 use mathlib.Core.Bool.{true}
 use mathlib.Core.List.{List}
-use lib.IntN.{ℤ}
+use lib.IntN.{ℤ, pos}
+use lib.ListN.{replicate}
 use Rattle.meaning.specs.declared.Refusal.{Refusal}
 use Rattle.meaning.specs.Buffers.{Left, refused_with}
 use Rattle.meaning.specs.Plants.{plant_judged}
@@ -19,45 +20,45 @@ use Rattle.tables.proofs.makes.Laws.{left-bad, left-unknown, left-own}
 use Rattle.tables.proofs.makes.make_in.Goals as goal
 
 pub write_own-requires : goal.write_own-requires
-write_own-requires c =
+write_own-requires g c =
     let file : List ℕ = c.args.plant.now in
     let form : ℕ = c.args.form in
-    let bands : List ℤ = c.read_plant-read.new.bands in
-    let coef : List ℤ = c.read_plant-read.new.coef in
+    let bands : List ℤ = c.read_plant.new.bands in
+    let coef : List ℤ = c.read_plant.new.coef in
     let known : known_form form ≡ true = sym c.known.ensures ∙ c.if-known.true in
-    let into : ReadInto file c.framed.result bands coef = let r = c.read_plant-read in read-into file c.args.bands.now c.args.coef.now c.requires r.result bands coef (r.ensures.answer, (r.ensures.bands, r.ensures.coef)) c.in-Ok.is c.framed.result c.framed.ensures in
+    let into : ReadInto file c.framed.result bands coef = let r = c.read_plant in read-into file (replicate g.row.SIDES (pos 0)) (replicate g.row.ROWS (pos 0)) c.requires.room r.result bands coef (r.ensures.answer, (r.ensures.bands, r.ensures.coef)) c.in-Ok.is c.framed.result c.framed.ensures in
     let g = into.sound in
     subst (λ (f : Frame). PlantSound f bands coef) (sym c.formed-f.ensures)
     (formed-sound c.framed.result form known g.0, g.1)
 
 pub returns-then-known : goal.returns-then-known
-returns-then-known c =
+returns-then-known g c =
     let file : List ℕ = c.args.plant.now in
     let form : ℕ = c.args.form in
     let buffer : List ℕ = c.args.buf.now in
-    let bands : List ℤ = c.read_plant-read.new.bands in
-    let coef : List ℤ = c.read_plant-read.new.coef in
+    let bands : List ℤ = c.read_plant.new.bands in
+    let coef : List ℤ = c.read_plant.new.coef in
     let known : known_form form ≡ true = sym c.known.ensures ∙ c.if-known.true in
-    let into : ReadInto file c.framed.result bands coef = let r = c.read_plant-read in read-into file c.args.bands.now c.args.coef.now c.requires r.result bands coef (r.ensures.answer, (r.ensures.bands, r.ensures.coef)) c.in-Ok.is c.framed.result c.framed.ensures in
+    let into : ReadInto file c.framed.result bands coef = let r = c.read_plant in read-into file (replicate g.row.SIDES (pos 0)) (replicate g.row.ROWS (pos 0)) c.requires.room r.result bands coef (r.ensures.answer, (r.ensures.bands, r.ensures.coef)) c.in-Ok.is c.framed.result c.framed.ensures in
     let own : defined_left (rules_in c.formed-f.result bands coef) buffer ≡ maker_left file form buffer = let i = into in ap (λ (f : Frame). defined_left (rules_in f bands coef) buffer) c.formed-f.ensures ∙ ap (λ (r : Rules). defined_left r buffer) (i.rules (formed c.framed.result form)) ∙ left-own file form buffer i.plant i.was c.framed.result i.framed known in
     let w = c.write_own in
     let e = own in
     record { answer = w.ensures.answer ∙ ap (λ (l : Left). l.answer) e; bytes = w.ensures.bytes ∙ ap (λ (l : Left). l.buffer) e }
 
 pub returns-in-Err : goal.returns-in-Err
-returns-in-Err c =
+returns-in-Err g c =
     let a = c.args in
-    let x = c.read_plant-read in
+    let x = c.read_plant in
     let w = c.refuse in
     let e = left-bad a.plant.now a.form a.buf.now c.in-Err.e (read-bad (plant_judged a.plant.now) x.result x.ensures.answer c.in-Err.e c.in-Err.is) in
     record { answer = w.ensures.answer ∙ ap (λ (l : Left). l.answer) e; bytes = w.ensures.bytes ∙ ap (λ (l : Left). l.buffer) e }
 
 pub returns-else-known : goal.returns-else-known
-returns-else-known c =
+returns-else-known g c =
     let file : List ℕ = c.args.plant.now in
     let form : ℕ = c.args.form in
     let buffer : List ℕ = c.args.buf.now in
-    let taken : Taken (plant_judged file) c.read_plant-read.result.outline = let r = c.read_plant-read in read-good (plant_judged file) r.result r.ensures.answer c.in-Ok.is in
+    let taken : Taken (plant_judged file) c.in-Ok.outline = let r = c.read_plant in read-good (plant_judged file) r.result r.ensures.answer c.in-Ok.outline c.in-Ok.is in
     let p = taken in
     let w = c.refuse-in-Ok in
     let k = c.known in

@@ -9,7 +9,4 @@ use Rattle.tables.proofs.start_makes.put_parts.Given as goal
 
 abbrev pub invariant-loop-i : goal.invariant-loop-i
 invariant-loop-i l =
-    (l.i ≤ l.m + 1) × (length l.draft ≡ length l.initial.draft) × Going l.initial.buf l.at (frames_tables l.f l.bands l.coef l.edges l.m) (tables_from (frames_rules l.f l.bands l.coef l.edges) (l.m + 1 - l.i) l.i) l.place l.buf
-
-abbrev pub decreases-loop-i : goal.decreases-loop-i
-decreases-loop-i l = l.m + 1 - l.i
+    (length l.draft ≡ length l.initial.draft) × Going l.initial.buf l.at (frames_tables l.f l.bands l.coef l.edges l.m) (tables_from (frames_rules l.f l.bands l.coef l.edges) (l.m + 1 - l.i) l.i) l.place l.buf
