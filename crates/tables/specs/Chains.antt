@@ -1,6 +1,6 @@
 -- The chain of a start file as the code holds it: its edges in one array as they stand in the file, the boxes taken out of it, and the frame of each
 -- box's table. What the reader answers is meaning's `on_chain`. Definitions alone.
-use Rattle.std.specs.Prelude.{ℕ, zero, suc, ◌+◌, ◌*◌, ◌≤◌, ◌≡◌, Bool, true, false, ◌&&◌, List, [], ◌∷◌, ℤ, pos, drop, replicate, Ok, Err, Result}
+use Rattle.std.specs.Prelude.{ℕ, zero, suc, ◌+◌, ◌*◌, ◌≤◌, ◌≡◌, Bool, true, false, ◌&&◌, List, [], ◌∷◌, ℤ, pos, drop, Ok, Err, Result}
 use Rattle.laws.specs.Lists.{at, tab, padded}
 use Rattle.laws.specs.Tabs.{Filled}
 use Rattle.meaning.specs.Answers.{Walk}
@@ -11,7 +11,7 @@ use Rattle.meaning.specs.Plants.{edge_limit, span, times, column}
 use Rattle.meaning.specs.Starts.{chain_form, above, on_chain}
 use Rattle.files.specs.Parts.{behind, Holds, Fails}
 use Rattle.tables.specs.declared.boxes.Bx.{Bx}
-use Rattle.tables.specs.declared.chains.ChainRead.{ChainRead}
+use Rattle.tables.specs.declared.chains.Chain.{Chain}
 use Rattle.tables.specs.declared.frames.Frame.{Frame}
 use Rattle.tables.specs.Boxes.{box_of}
 use Rattle.tables.specs.Frames.{box_from, FrameSound}
@@ -33,12 +33,15 @@ edges_above vs = padded most_edges (pos 0) (drop 2 vs)
 abbrev pub values_in : ℕ → List ℤ → List ℤ
 values_in m edges = pos 1 ∷ pos m ∷ edges
 
--- a refused chain is all zeros
+-- a chain, or what it is refused with
+abbrev pub ChainRead : Type 0
+ChainRead = Result Chain Refusal
+
 abbrev pub no_chain : Refusal → ChainRead
-no_chain e = record { verdict = Err e; m = 0; next = 0; edges = replicate most_edges (pos 0) }
+no_chain e = Err e
 
 abbrev pub chain_with : List ℤ → ℕ → ChainRead
-chain_with vs next = record { verdict = Ok tt; m = above vs; next = next; edges = edges_above vs }
+chain_with vs next = Ok (record { m = above vs; next = next; edges = edges_above vs })
 
 -- of a whole file, behind which nothing may stand, or of a start file's beginning
 abbrev pub chain_values : Bool → ℕ → List ℕ → Read (List ℤ)

@@ -5,7 +5,7 @@ ghost use Rattle.std.specs.Prelude.{◌≡◌, ◌&&◌, not, ◌≤◌, ◌<◌
 ghost use Rattle.laws.specs.Lists.{tab, first_false};
 ghost use Rattle.meaning.specs.Starts.{held};
 ghost use Rattle.tables.specs.Boxes.{box_of};
-ghost use Rattle.tables.specs.Chains.{most_above, most_edges, values_in, no_chain, chain_read, box_on, bx_at, bx_below, frame_at, keeps, HeadTold, EdgesTold};
+ghost use Rattle.tables.specs.Chains.{most_above, most_edges, values_in, chain_read, box_on, bx_at, bx_below, frame_at, keeps, HeadTold, EdgesTold};
 
 use crate::boxes::Bx;
 use crate::frames::Frame;
@@ -19,24 +19,12 @@ pub const ABOVE: usize = 8;
 pub const EDGES: usize = 64;
 
 // m, the place behind the chain, and the edges as they stand in the file: lo and hi of dimension j of the i-th box above R, from 0, at 2·(i·n + j), zeros
-// behind. A refused one is all zeros.
+// behind.
 #[derive(Clone, Copy)]
-pub struct ChainRead {
-    pub verdict: Result<(), Refusal>,
+pub struct Chain {
     pub m: usize,
     pub next: usize,
     pub edges: [i64; EDGES],
-}
-
-fn refused(e: Refusal) -> ChainRead
-    ensures { result ≡ no_chain e }
-{
-    ChainRead {
-        verdict: Err(e),
-        m: 0,
-        next: 0,
-        edges: [0i64; EDGES],
-    }
 }
 
 // Form 1, then m: m and the place behind it.
@@ -64,19 +52,11 @@ fn read_edges(s: &[u8], at: usize, count: usize, edges: &mut [i64; EDGES]) -> Re
     ensures { EdgesTold s.now at count edges.new result }
 {
     let mut p = at;
-    let mut i: usize = 0;
-    while i < count {
-        match spans::read_span(s, p, -1_000_000, 1_000_000) {
-            Err(e) => {
-                return Err(e);
-            }
-            Ok((lo, hi, next)) => {
-                edges[2 * i] = lo;
-                edges[2 * i + 1] = hi;
-                p = next;
-            }
-        }
-        i += 1;
+    for i in 0..count {
+        let (lo, hi, next) = spans::read_span(s, p, -1_000_000, 1_000_000)?;
+        edges[2 * i] = lo;
+        edges[2 * i + 1] = hi;
+        p = next;
     }
     Ok(p)
 }
@@ -89,13 +69,9 @@ fn box_on(n: usize, edges: &[i64; EDGES], i: usize) -> Bx
     let mut lo = [0i64; 4];
     let mut hi = [0i64; 4];
     let from = 2 * (i * n);
-    let mut j: usize = 0;
-    while j < n {
-        let l = edges[from + 2 * j];
-        let h = edges[from + 1 + 2 * j];
-        lo[j] = l;
-        hi[j] = h;
-        j += 1;
+    for j in 0..n {
+        lo[j] = edges[from + 2 * j];
+        hi[j] = edges[from + 1 + 2 * j];
     }
     Bx { lo, hi }
 }
@@ -127,20 +103,10 @@ pub fn frame_at(f: Frame, edges: &[i64; EDGES], i: usize) -> Frame
     requires { (f.n ≤ 4) × (i ≤ most_above) }
     ensures { result ≡ frame_at f edges.now i }
 {
-    let own = f.root;
-    let root = box_at(f.n, own, edges, i);
-    let goal = box_below(f.n, own, edges, i);
-    let safe = f.safe;
     Frame {
-        form: f.form,
-        n: f.n,
-        modes: f.modes,
-        q: f.q,
-        k: f.k,
-        d: f.d,
-        root,
-        goal,
-        safe,
+        root: box_at(f.n, f.root, edges, i),
+        goal: box_below(f.n, f.root, edges, i),
+        ..f
     }
 }
 
@@ -149,11 +115,7 @@ fn keeps(n: usize, below: Bx, b: Bx, safe: Bx) -> bool
     requires { n ≤ 4 }
     ensures { result ≡ keeps n below b safe }
 {
-    if boxes::within(n, below, b) {
-        boxes::within(n, b, safe)
-    } else {
-        false
-    }
+    boxes::within(n, below, b) && boxes::within(n, b, safe)
 }
 
 // The first box above R, from 0, that does not hold the one below it or is not in S; m where there is none.
@@ -162,56 +124,37 @@ fn first_unheld(n: usize, root: Bx, safe: Bx, edges: &[i64; EDGES], m: usize) ->
     ensures { result ≡ first_false (tab (held n (box_of n root) (values_in m edges.now) (box_of n safe)) m 0) }
 {
     let mut below = root;
-    let mut i: usize = 0;
-    while i < m {
+    for i in 0..m {
         let b = box_on(n, edges, i);
-        if keeps(n, below, b, safe) {
-            below = b;
-            i += 1;
-        } else {
+        if !keeps(n, below, b, safe) {
             return i;
         }
+        below = b;
     }
-    i
+    m
 }
 
 // Whether bytes are left over that are to be told.
 fn left_over(whole: bool, next: usize, size: usize) -> bool
     ensures { result ≡ (whole && not (eqb next size)) }
 {
-    if whole { next != size } else { false }
+    whole && next != size
 }
 
 // The chain at a file's beginning; where it is the whole file, bytes left over are told before 15.
-pub fn read_chain(f: Frame, whole: bool, s: &[u8]) -> ChainRead
+pub fn read_chain(f: Frame, whole: bool, s: &[u8]) -> Result<Chain, Refusal>
     requires { f.n ≤ 4 }
     ensures { result ≡ chain_read whole f s.now }
 {
-    match read_head(s) {
-        Err(e) => refused(e),
-        Ok((m, at)) => {
-            let mut edges = [0i64; EDGES];
-            let past = read_edges(s, at, m * f.n, &mut edges);
-            match past {
-                Err(e) => refused(e),
-                Ok(next) => {
-                    if left_over(whole, next, s.len()) {
-                        return refused(files::refusals::unfit(next));
-                    }
-                    let root = f.root;
-                    let safe = f.safe;
-                    let fault = first_unheld(f.n, root, safe, &edges, m);
-                    if fault < m {
-                        return refused(refusals::not_held(fault + 1));
-                    }
-                    ChainRead {
-                        verdict: Ok(()),
-                        m,
-                        next,
-                        edges,
-                    }
-                }
-            }
-        }
+    let (m, at) = read_head(s)?;
+    let mut edges = [0i64; EDGES];
+    let next = read_edges(s, at, m * f.n, &mut edges)?;
+    if left_over(whole, next, s.len()) {
+        return Err(files::refusals::unfit(next));
     }
+    let fault = first_unheld(f.n, f.root, f.safe, &edges, m);
+    if fault < m {
+        return Err(refusals::not_held(fault + 1));
+    }
+    Ok(Chain { m, next, edges })
 }

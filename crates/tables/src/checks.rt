@@ -50,6 +50,7 @@ pub(crate) fn table_end(
 }
 
 // A table against a frame: it has to end where its bytes do.
+#[tactic(auto, unfolding(meaning::specs::Verdicts::verdict))]
 fn judge<'a>(f: Frame, bands: &'a [i64], coef: &'a [i64], table: &[u8]) -> Result<(), Refusal>
     requires { PlantSound f bands.now coef.now }
     ensures { result ≡ verdict (rules_by f bands.now coef.now (form_of table.now)) table.now }

@@ -23,12 +23,8 @@ fn tile(modes: usize, k: usize, table: &[u8], from: usize) -> Result<(usize, usi
     requires { k ≤ 6 }
     ensures { result ≡ tile_found (modes_at modes k table.now from) from k }
 {
-    let read = modes::read_modes(modes, k, table, from);
-    let answer = read.answer;
-    match answer {
-        Err(e) => Err(e),
-        Ok(_) => Ok((from, k)),
-    }
+    modes::read_modes(modes, k, table, from)?;
+    Ok((from, k))
 }
 
 // Where the child of number c begins, by the lengths at `from` of so many children: all of them are read, and none may point past the table.

@@ -74,8 +74,7 @@ fn start_check_in<const B: usize, const C: usize>(plant: &[u8], start: &[u8]) ->
     let mut coef = [0i64; C];
     let outline = plants::read_plant(plant, &mut bands, &mut coef)?;
     let f = frames::framed(outline);
-    let chain = chains::read_chain(f, false, start);
-    chain.verdict?;
+    let chain = chains::read_chain(f, false, start)?;
     tables_at(f, &chain.edges, &bands, &coef, start, chain.m, chain.next)
 }
 

@@ -144,7 +144,6 @@ pub fn start_control(
 {
     let outline = plants::judge_plant(plant)?;
     let f = frames::framed(outline);
-    let chain = chains::read_chain(f, false, start);
-    chain.verdict?;
+    let chain = chains::read_chain(f, false, start)?;
     start_call(f, &chain.edges, start, chain.m, chain.next, st, x)
 }

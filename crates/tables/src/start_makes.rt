@@ -136,11 +136,9 @@ fn make_start(
     ensures answer { result ≡ (chain_left f bands.now coef.now chain.now form buf.old).answer }
     ensures bytes { buf.new ≡ (chain_left f bands.now coef.now chain.now form buf.old).buffer }
 {
-    let read = chains::read_chain(f, true, chain);
-    let verdict = read.verdict;
-    match verdict {
+    match chains::read_chain(f, true, chain) {
         Err(e) => buffers::refuse(e, buf),
-        Ok(()) => {
+        Ok(read) => {
             if headers::known(form) {
                 let own = frames::formed(f, form);
                 return write_start_own(own, bands, coef, &read.edges, read.m, chain, buf);

@@ -34,22 +34,15 @@ fn tile(
     requires size { k ≤ f.k }
     ensures { result ≡ on_modes (modes_at f.modes k table.now from) at (judge_by judged (rules_in (frame_from f edges.now) bands.now coef.now) (box_of f.n b)) }
 {
-    let read = modes::read_modes(f.modes, k, table, from);
-    let past = read.answer;
-    match past {
-        Err(e) => Err(e),
-        Ok(next) => {
-            if judged {
-                let us = read.us;
-                match tiles::tile_rule(f, edges, bands, coef, k, us, b) {
-                    Tried::Works => Ok(next),
-                    Tried::Leaves(i) => Err(refusals::leaves(at, i)),
-                    Tried::Misses(i) => Err(refusals::misses(at, i)),
-                }
-            } else {
-                Ok(next)
-            }
+    let (us, next) = modes::read_modes(f.modes, k, table, from)?;
+    if judged {
+        match tiles::tile_rule(f, edges, bands, coef, k, us, b) {
+            Tried::Works => Ok(next),
+            Tried::Leaves(i) => Err(refusals::leaves(at, i)),
+            Tried::Misses(i) => Err(refusals::misses(at, i)),
         }
+    } else {
+        Ok(next)
     }
 }
 

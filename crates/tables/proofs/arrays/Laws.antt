@@ -12,7 +12,6 @@ use lib.Seq.{sets, length-sets}
 use Rattle.meaning.specs.Answers.{PlantRead}
 use Rattle.laws.specs.Lists.{at}
 use Rattle.laws.specs.Stored.{stored_at}
-use Rattle.meaning.specs.declared.Outline.{Outline}
 use Rattle.meaning.specs.Files.{Judged, good}
 use Rattle.meaning.specs.Plants.{Plant, most_modes, plant_judged, plant_read, array_left, bands_left, coef_left}
 use Rattle.promises.specs.Files.Judged.{judged-sound}

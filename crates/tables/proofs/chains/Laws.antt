@@ -32,10 +32,10 @@ use Rattle.promises.specs.Files.Sound.{Bounded, Sound}
 use Rattle.promises.specs.Files.Forms as F
 use Rattle.promises.specs.Files.Forms.{Right, values-right, times-right}
 use Rattle.tables.specs.declared.boxes.Bx.{Bx}
-use Rattle.tables.specs.declared.chains.ChainRead.{ChainRead}
+use Rattle.tables.specs.declared.chains.Chain.{Chain}
 use Rattle.tables.specs.declared.frames.Frame.{Frame}
 use Rattle.tables.specs.Boxes.{box_of, Small}
-use Rattle.tables.specs.Chains.{most_above, most_edges, edges_above, values_in, no_chain, chain_with, chain_values, chain_read, box_on, bx_at, bx_below, frame_at, keeps, FramesSound}
+use Rattle.tables.specs.Chains.{ChainRead, most_above, most_edges, edges_above, values_in, no_chain, chain_with, chain_values, chain_read, box_on, bx_at, bx_below, frame_at, keeps, FramesSound}
 use Rattle.tables.specs.Frames.{own_frame, rules_by, FrameSound}
 use Rattle.tables.proofs.boxes.Laws.{small-tab}
 use Rattle.tables.proofs.frames.Laws.{framed-sound}
@@ -158,7 +158,7 @@ in-range n vs s next e =
 
 -- ---- a chain that was accepted
 
-pub record Chained (whole : Bool) (f : Frame) (s : List ℕ) (r : ChainRead) : Type 0 where
+pub record Chained (whole : Bool) (f : Frame) (s : List ℕ) (r : Chain) : Type 0 where
   pub vs : List ℤ
   pub values : chain_values whole f.n s ≡ read vs r.next
   pub begins : values_at (chain_form f.n) s 0 ≡ read vs r.next
@@ -170,7 +170,7 @@ beginning : (whole : Bool) (n : ℕ) (s : List ℕ) {vs : List ℤ} {next : ℕ}
 beginning true n s e = (file-writes (chain_form n) s e).0
 beginning false n s e = e
 
-module _ (whole : Bool) (f : Frame) (s : List ℕ) (r : ChainRead) (q : r ≡ chain_read whole f s) where
+module _ (whole : Bool) (f : Frame) (s : List ℕ) where
   abbrev n : ℕ
   n = f.n
 
@@ -183,41 +183,44 @@ module _ (whole : Bool) (f : Frame) (s : List ℕ) (r : ChainRead) (q : r ≡ ch
   abbrev kept_of : List ℤ → List Bool
   kept_of vs = tab (held n root vs safe) (above vs) 0
 
-  pub chain-taken : r.verdict ≡ Ok tt → Chained whole f s r
-  chain-taken h = go (chain_values whole n s) refl q
-    where
-      go : (t : Read (List ℤ)) → chain_values whole n s ≡ t → r ≡ on_chain n root safe t no_chain chain_with → Chained whole f s r
-      go (refused e) g c = never cc
-      go (read vs next) g c = tests (all (kept_of vs)) refl
-        where
-          tests : (b : Bool) → all (kept_of vs) ≡ b → Chained whole f s r
-          tests true k =
-              let d : r ≡ chain_with vs next = c ∙ simp k in
-              let e : next ≡ r.next = cc in
-              let values : chain_values whole n s ≡ read vs r.next = g ∙ ap (read vs) e in
-              record { vs = vs; values = values; begins = beginning whole n s values; kept = k; count = ap (λ (x : ChainRead). x.m) d; edges = ap (λ (x : ChainRead). x.edges) d }
-          tests false k =
-              let d : r ≡ no_chain (not_held (first_false (kept_of vs) + 1)) = c ∙ simp k in
-              never cc
+  -- by what the reader answered
+  module _ (x : ChainRead) (q : x ≡ chain_read whole f s) where
+    pub chain-taken : {r : Chain} → x ≡ Ok r → Chained whole f s r
+    chain-taken {r} h = go (chain_values whole n s) refl q
+      where
+        go : (t : Read (List ℤ)) → chain_values whole n s ≡ t → x ≡ on_chain n root safe t no_chain chain_with → Chained whole f s r
+        go (refused e) g c = never cc
+        go (read vs next) g c = tests (all (kept_of vs)) refl
+          where
+            tests : (b : Bool) → all (kept_of vs) ≡ b → Chained whole f s r
+            tests true k =
+                let d : x ≡ chain_with vs next = c ∙ simp k in
+                let same : r ≡ record { m = above vs; next = next; edges = edges_above vs } = cc in
+                let e : next ≡ r.next = sym (ap (λ (y : Chain). y.next) same) in
+                let values : chain_values whole n s ≡ read vs r.next = g ∙ ap (read vs) e in
+                record { vs = vs; values = values; begins = beginning whole n s values; kept = k; count = ap (λ (y : Chain). y.m) same; edges = ap (λ (y : Chain). y.edges) same }
+            tests false k =
+                let d : x ≡ no_chain (not_held (first_false (kept_of vs) + 1)) = c ∙ simp k in
+                never cc
 
-  pub chain-refused : {A : Type 0} (e : Refusal) → r.verdict ≡ Err e → (refuse : Refusal → A) (rest : List ℤ → ℕ → A)
-      → refuse e ≡ on_chain n root safe (chain_values whole n s) refuse rest
-  chain-refused {A} e h refuse rest = go (chain_values whole n s) q
-    where
-      go : (t : Read (List ℤ)) → r ≡ on_chain n root safe t no_chain chain_with → refuse e ≡ on_chain n root safe t refuse rest
-      go (refused x) c = let d : e ≡ x = cc in ap refuse d
-      go (read vs next) c = tests (all (kept_of vs)) refl
-        where
-          tests : (b : Bool) → all (kept_of vs) ≡ b → refuse e ≡ on_chain n root safe (read vs next) refuse rest
-          tests true k =
-              let d : r ≡ chain_with vs next = c ∙ simp k in
-              never cc
-          tests false k =
-              let d : r ≡ no_chain (not_held (first_false (kept_of vs) + 1)) = c ∙ simp k in
-              let x : e ≡ not_held (first_false (kept_of vs) + 1) = cc in
-              simp k (ap refuse x)
+    pub chain-refused : {A : Type 0} (e : Refusal) → x ≡ Err e → (refuse : Refusal → A) (rest : List ℤ → ℕ → A)
+        → refuse e ≡ on_chain n root safe (chain_values whole n s) refuse rest
+    chain-refused {A} e h refuse rest = go (chain_values whole n s) q
+      where
+        go : (t : Read (List ℤ)) → x ≡ on_chain n root safe t no_chain chain_with → refuse e ≡ on_chain n root safe t refuse rest
+        go (refused y) c = let d : e ≡ y = cc in ap refuse d
+        go (read vs next) c = tests (all (kept_of vs)) refl
+          where
+            tests : (b : Bool) → all (kept_of vs) ≡ b → refuse e ≡ on_chain n root safe (read vs next) refuse rest
+            tests true k =
+                let d : x ≡ chain_with vs next = c ∙ simp k in
+                never cc
+            tests false k =
+                let d : x ≡ no_chain (not_held (first_false (kept_of vs) + 1)) = c ∙ simp k in
+                let y : e ≡ not_held (first_false (kept_of vs) + 1) = cc in
+                simp k (ap refuse y)
 
-  module _ (t : Chained whole f s r) where
+  module _ {r : Chain} (t : Chained whole f s r) where
     pub chain-goes : {A : Type 0} (refuse : Refusal → A) (rest : List ℤ → ℕ → A) → rest t.vs r.next ≡ on_chain n root safe (chain_values whole n s) refuse rest
     chain-goes refuse rest = rw t.values (simp t.kept)
 
@@ -286,28 +289,29 @@ module _ (p : Plant) (rooms : p.n ≤ 4) (edges vs : List ℤ) (q : Edged edges 
 
 -- ---- for a plant that was judged good, whose frame the code has: what the definitions go on with behind the chain, and its frames
 
-module _ (whole : Bool) (p : Plant) (g : Sound p) (f : Frame) (e : f ≡ own_frame p) (s : List ℕ) (r : ChainRead) (q : r ≡ chain_read whole f s) where
-  own : r ≡ chain_read whole (own_frame p) s
-  own = q ∙ ap (λ (f : Frame). chain_read whole f s) e
+module _ (whole : Bool) (p : Plant) (g : Sound p) (f : Frame) (e : f ≡ own_frame p) (s : List ℕ) where
+  module _ (x : ChainRead) (q : x ≡ chain_read whole f s) where
+    own : x ≡ chain_read whole (own_frame p) s
+    own = q ∙ ap (λ (f : Frame). chain_read whole f s) e
 
-  pub plant-chain : r.verdict ≡ Ok tt → Chained whole (own_frame p) s r
-  plant-chain = chain-taken whole (own_frame p) s r own
+    pub plant-chain : {r : Chain} → x ≡ Ok r → Chained whole (own_frame p) s r
+    plant-chain = chain-taken whole (own_frame p) s x own
 
-  pub plant-refused : {A : Type 0} (x : Refusal) → r.verdict ≡ Err x → (refuse : Refusal → A) (rest : List ℤ → ℕ → A)
-      → refuse x ≡ on_chain p.n (root_of p) (safe_of p) (chain_values whole p.n s) refuse rest
-  plant-refused = chain-refused whole (own_frame p) s r own
+    pub plant-refused : {A : Type 0} (y : Refusal) → x ≡ Err y → (refuse : Refusal → A) (rest : List ℤ → ℕ → A)
+        → refuse y ≡ on_chain p.n (root_of p) (safe_of p) (chain_values whole p.n s) refuse rest
+    plant-refused = chain-refused whole (own_frame p) s x own
 
-  module _ (t : Chained whole (own_frame p) s r) where
+  module _ {r : Chain} (t : Chained whole (own_frame p) s r) where
     pub plant-goes : {A : Type 0} (refuse : Refusal → A) (rest : List ℤ → ℕ → A)
         → rest t.vs r.next ≡ on_chain p.n (root_of p) (safe_of p) (chain_values whole p.n s) refuse rest
-    plant-goes = chain-goes whole (own_frame p) s r own t
+    plant-goes = chain-goes whole (own_frame p) s t
 
     pub plant-edged : Edged r.edges t.vs
-    plant-edged = chain-edged whole (own_frame p) s r own t
+    plant-edged = chain-edged whole (own_frame p) s t
 
     pub plant-frames : FramesSound f r.edges r.m
     plant-frames = rw e (record {
       rooms = g.ranges.n-high;
-      few = chain-few whole (own_frame p) s r own t;
-      each = λ i h. frame-sound whole (own_frame p) s r own t (framed-sound p g (own_frame p) refl) g.root-safe i h;
+      few = chain-few whole (own_frame p) s t;
+      each = λ i h. frame-sound whole (own_frame p) s t (framed-sound p g (own_frame p) refl) g.root-safe i h;
     })

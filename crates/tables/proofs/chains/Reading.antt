@@ -25,10 +25,10 @@ use Rattle.meaning.specs.Refusals.{broken, wrong_form, unfit, not_held}
 use Rattle.meaning.specs.Starts.{chain_form, box_at, held, on_chain}
 use Rattle.files.specs.Parts.{behind, behind-read, behind-refused, Fails, holds-last, Rows, rows_none, rows_more, rows-fails, rows_all}
 use Rattle.files.specs.Spans.{span_in, Spanned}
-use Rattle.tables.specs.declared.chains.ChainRead.{ChainRead}
+use Rattle.tables.specs.declared.chains.Chain.{Chain}
 use Rattle.tables.specs.declared.frames.Frame.{Frame}
 use Rattle.tables.specs.Boxes.{box_of}
-use Rattle.tables.specs.Chains.{most_above, most_edges, edges_above, values_in, no_chain, chain_with, chain_values, chain_read, Headed, EdgesRead}
+use Rattle.tables.specs.Chains.{ChainRead, most_above, most_edges, edges_above, values_in, no_chain, chain_with, chain_values, chain_read, Headed, EdgesRead}
 use Rattle.tables.proofs.chains.Laws.{Edged, above-edged, in-edged, box-same}
 
 -- ---- form and m
@@ -190,10 +190,10 @@ module _ (whole : Bool) (f : Frame) (s : List ℕ) where
             let none = first-within (tab (held n root vs safe) m 0) (omega (arith, here, long)) in
             sym (ap answered (values-whole whole n s values h) ∙ simp (none, ← here))
 
-        pub taken : m ≤ fault → record { verdict = Ok tt; m = m; next = next; edges = edges } ≡ chain_read whole f s
+        pub taken : m ≤ fault → ◌≡◌ {A = ChainRead} (Ok (record { m = m; next = next; edges = edges })) (chain_read whole f s)
         taken l =
             let every = first-behind (tab (held n root vs safe) m 0) (omega (arith, here, long)) in
             sym (ap answered (values-whole whole n s values h) ∙ simp every (ap (λ (l : List ℤ). with-edges l) same))
           where
             with-edges : List ℤ → ChainRead
-            with-edges l = record { verdict = Ok tt; m = m; next = next; edges = l }
+            with-edges l = Ok (record { m = m; next = next; edges = l })

@@ -26,10 +26,10 @@ use Rattle.meaning.specs.Starts.{chain_form, above, box_at, box_below, on_chain,
 use Rattle.meaning.specs.Tables.{known_form, rules_from, defined_table}
 use Rattle.meaning.specs.Trees.{Tree, table_of}
 use Rattle.promises.specs.Files.Files.{file-writes}
-use Rattle.tables.specs.declared.chains.ChainRead.{ChainRead}
+use Rattle.tables.specs.declared.chains.Chain.{Chain}
 use Rattle.tables.specs.declared.frames.Frame.{Frame}
 use Rattle.tables.specs.Boxes.{box_of}
-use Rattle.tables.specs.Chains.{chain_read}
+use Rattle.tables.specs.Chains.{ChainRead, chain_read}
 use Rattle.tables.specs.Drafts.{Wrote, Grown}
 use Rattle.tables.specs.Frames.{own_frame, formed, step_in}
 use Rattle.tables.specs.StartMakes.{with_length, part_bytes, WroteParts, frames_rules, frames_tables, behind_chain, values_rules, chain_left}
@@ -145,21 +145,21 @@ tables-same r s e (suc m) i =
     ap (λ (x : Rules). table_before (defined_table i x) λ _. tables_from r m (suc i)) (e i)
     ∙ ap (λ (j : Judged (List (List ℕ))). table_before (defined_table i (s i)) λ _. j) (tables-same r s e m (suc i))
 
-module _ (f : Frame) (bands coef : List ℤ) (chain : List ℕ) (form : ℕ) (buf : List ℕ) (r : ChainRead) (q : r ≡ chain_read true f chain) where
+module _ (f : Frame) (bands coef : List ℤ) (chain : List ℕ) (form : ℕ) (buf : List ℕ) where
   abbrev rest : List ℤ → ℕ → Judged (List ℕ)
   rest vs next = guard (known_form form) (bad wrong_form) λ _. start_bytes f.n vs (tables_from (values_rules (formed f form) bands coef vs) (above vs + 1) 0)
 
-  pub chain-bad : (e : Refusal) → r.verdict ≡ Err e → refused_with e buf ≡ chain_left f bands coef chain form buf
-  chain-bad e h = ap (λ (j : Judged (List ℕ)). left j buf) (chain-refused true f chain r q e h bad rest)
+  pub chain-bad : (x : ChainRead) → x ≡ chain_read true f chain → (e : Refusal) → x ≡ Err e → refused_with e buf ≡ chain_left f bands coef chain form buf
+  chain-bad x q e h = ap (λ (j : Judged (List ℕ)). left j buf) (chain-refused true f chain x q e h bad rest)
 
-  pub chain-unknown : Chained true f chain r → known_form form ≡ false → refused_with wrong_form buf ≡ chain_left f bands coef chain form buf
-  chain-unknown t k = ap (λ (j : Judged (List ℕ)). left j buf) (sym (go (known_form form) k) ∙ chain-goes true f chain r q t bad rest)
+  pub chain-unknown : {r : Chain} → Chained true f chain r → known_form form ≡ false → refused_with wrong_form buf ≡ chain_left f bands coef chain form buf
+  chain-unknown t k = ap (λ (j : Judged (List ℕ)). left j buf) (sym (go (known_form form) k) ∙ chain-goes true f chain t bad rest)
     where
       go : (b : Bool) → b ≡ false → guard b (bad wrong_form) (λ _. start_bytes f.n t.vs (tables_from (values_rules (formed f form) bands coef t.vs) (above t.vs + 1) 0)) ≡ bad wrong_form
       go true e = never cc
       go false e = refl
 
-  module _ (t : Chained true f chain r) (rooms : f.n ≤ 4) (known : known_form form ≡ true) where
+  module _ {r : Chain} (t : Chained true f chain r) (rooms : f.n ≤ 4) (known : known_form form ≡ true) where
     -- the bytes of the values read are the bytes read
     written : (j : Judged (List (List ℕ))) → behind_chain chain j ≡ start_bytes f.n t.vs j
     written (bad e) = refl
@@ -172,14 +172,14 @@ module _ (f : Frame) (bands coef : List ℤ) (chain : List ℕ) (form : ℕ) (bu
       where
         same : (i : ℕ) → frames_rules (formed f form) bands coef r.edges i ≡ values_rules (formed f form) bands coef t.vs i
         same i =
-            boxes-same f.n rooms r.edges t.vs (chain-edged true f chain r q t) f.root
+            boxes-same f.n rooms r.edges t.vs (chain-edged true f chain t) f.root
             (λ root goal. rules_from form f.n f.modes f.k f.d root goal (box_of f.n f.safe) (step_in f bands coef)) i
 
     pub chain-good : left (behind_chain chain (frames_tables (formed f form) bands coef r.edges r.m)) buf ≡ chain_left f bands coef chain form buf
     chain-good =
         let made = tables_from (values_rules (formed f form) bands coef t.vs) (above t.vs + 1) 0 in
         ap (λ (j : Judged (List ℕ)). left j buf)
-        (ap (behind_chain chain) tables ∙ written made ∙ sym (go (known_form form) known (start_bytes f.n t.vs made)) ∙ chain-goes true f chain r q t bad rest)
+        (ap (behind_chain chain) tables ∙ written made ∙ sym (go (known_form form) known (start_bytes f.n t.vs made)) ∙ chain-goes true f chain t bad rest)
       where
         go : (b : Bool) → b ≡ true → (j : Judged (List ℕ)) → guard b (bad wrong_form) (λ _. j) ≡ j
         go true e j = refl

@@ -47,8 +47,9 @@ modes-behind N small (u ∷ us) s at m h p =
     let mid = at + length (bytes_of u) in
     let e : number_at s at ≡ Some (u, mid) = reads u at mid s (omega (arith, h.0)) (stand-front (bytes_of u) (modes_bytes us) p) in
     let rest : behind_at (length us) s mid ≡ Ok m = modes-behind N small us s mid m h.1 (stand-back (bytes_of u) (modes_bytes us) p) in
-    let one : suc (length us) - 1 ≡ length us = omega arith in
-    sym (behind_more s (suc (length us)) at (omega arith) u mid e) ∙ rw one rest
+    let all : suc (length us) ≡ suc (length us) - 0 = omega arith in
+    let one : suc (length us) - (0 + 1) ≡ length us = omega arith in
+    ap (λ (k : ℕ). behind_at k s at) all ∙ sym (behind_more s (suc (length us)) 0 at (omega arith) e) ∙ ap (λ (k : ℕ). behind_at k s mid) one ∙ rest
 
 -- ---- a node by its number
 

@@ -31,18 +31,8 @@ use Rattle.tables.specs.declared.frames.Frame.{Frame}
 use Rattle.tables.specs.Boxes.{box_of}
 use Rattle.tables.specs.Frames.{formed, step_in, rules_in, rules_by, FrameSound}
 use Rattle.tables.specs.Lengths.{behind_at, held_at}
-use Rattle.tables.specs.Modes.{told}
 use Rattle.tables.specs.Walks.{judge_by, walk_by}
 use Rattle.tables.proofs.lengths.Laws.{OneRead, one-read, behind-read, behind-refused}
-
--- ---- a tile: what its modes were told as, and what its judge says of them
-
-module _ (modes : Read (List ℕ)) (at : ℕ) (judge : List ℕ → Tried) (a : Walk) (us : List ℕ) (q : told a us ≡ modes) where
-  pub tile-stopped : (e : Refusal) → a ≡ Err e → Err e ≡ on_modes modes at judge
-  tile-stopped e h = rw (← q, h) refl
-
-  pub tile-judged : (m : ℕ) → a ≡ Ok m → (v : Tried) → v ≡ judge us → on_tried v at m ≡ on_modes modes at judge
-  tile-judged m h v e = rw (← q, h, e) refl
 
 -- ---- children in a loop: c of them are done, behind them is `place`, and of the lengths that the split tells, many, those to come stand at the cursor
 

@@ -4,7 +4,4 @@ use Rattle.tables.proofs.chains.Laws.{TakenOut}
 use Rattle.tables.proofs.chains.box_on.Given as goal
 
 abbrev pub invariant-loop-j : goal.invariant-loop-j
-invariant-loop-j l = (l.j ≤ l.n) × TakenOut l.edges (2 * (l.i * l.n)) l.j l.lo × TakenOut l.edges (2 * (l.i * l.n) + 1) l.j l.hi
-
-abbrev pub decreases-loop-j : goal.decreases-loop-j
-decreases-loop-j l = l.n - l.j
+invariant-loop-j l = TakenOut l.edges (2 * (l.i * l.n)) l.j l.lo × TakenOut l.edges (2 * (l.i * l.n) + 1) l.j l.hi

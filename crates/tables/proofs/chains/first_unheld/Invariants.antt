@@ -10,6 +10,3 @@ use Rattle.tables.proofs.chains.first_unheld.Given as goal
 abbrev pub invariant-loop-i : goal.invariant-loop-i
 invariant-loop-i l =
     (box_of l.n l.below ≡ box_at l.n (box_of l.n l.initial.below) (values_in l.m l.edges) l.i) × HoldUpTo (held l.n (box_of l.n l.initial.below) (values_in l.m l.edges) (box_of l.n l.safe)) l.m l.i
-
-abbrev pub decreases-loop-i : goal.decreases-loop-i
-decreases-loop-i l = l.m - l.i

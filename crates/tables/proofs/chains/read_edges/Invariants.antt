@@ -5,6 +5,3 @@ use Rattle.tables.proofs.chains.read_edges.Given as goal
 
 abbrev pub invariant-loop-i : goal.invariant-loop-i
 invariant-loop-i l = EdgesUpTo l.s l.at l.count l.i l.p l.edges
-
-abbrev pub decreases-loop-i : goal.decreases-loop-i
-decreases-loop-i l = l.count - l.i

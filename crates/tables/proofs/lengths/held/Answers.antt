@@ -10,7 +10,8 @@ pub returns-in_err-size : goal.returns-in_err-size
 returns-in_err-size c =
     let a = c.args in
     let p = err_from_is_err_and c.from_residual.result c.from_residual.ensures.1 in
-    rw (p.1, p.2) (handed c.number.result c.broken.result c.in_err-size.ensures.value (λ v. ap Err c.broken.ensures ∙ held-broken a.told a.table.now a.at a.from a.end c.if-told.true (sym c.number.ensures ∙ v)))
+    let h = handed c.number.result c.broken.result c.in_err-size.ensures.value in
+    rw (p.1, p.2, h.1) (ap Err c.broken.ensures ∙ held-broken a.told a.table.now a.at a.from a.end c.if-told.true (sym c.number.ensures ∙ h.0))
 
 pub returns-then-end-from : goal.returns-then-end-from
 returns-then-end-from c =

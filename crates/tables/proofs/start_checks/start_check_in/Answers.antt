@@ -25,8 +25,8 @@ returns-in_err-outline g c =
     let p = err_from_is_err_and c.from_residual.result c.from_residual.ensures.1 in
     rw (p.1, p.2) (plant-bad a.plant.now a.start.now _ (read-bad (plant_judged a.plant.now) r.result r.ensures.answer _ c.in_err-outline.was))
 
-pub read_chain-chain-requires : goal.read_chain-chain-requires
-read_chain-chain-requires g c =
+pub read_chain-requires : goal.read_chain-requires
+read_chain-requires g c =
     let a = c.args in
     let r = c.read_plant in
     let t = read-into a.plant.now _ _ c.requires.room r.result r.new.bands r.new.coef (r.ensures.answer, (r.ensures.bands, r.ensures.coef)) c.in_ok-outline.was c.framed-f.result c.framed-f.ensures in
@@ -41,7 +41,7 @@ returns-in_err-chain g c =
     let t = read-into a.plant.now _ _ c.requires.room r.result r.new.bands r.new.coef (r.ensures.answer, (r.ensures.bands, r.ensures.coef)) c.in_ok-outline.was c.framed-f.result c.framed-f.ensures in
     let p = t.plant in
     let sound = judged-sound a.plant.now p t.was in
-    let k = c.read_chain-chain in
+    let k = c.read_chain in
     let e = err_from_is_err_and c.from_residual-in_err-chain.result c.from_residual-in_err-chain.ensures.1 in
     rw (e.1, e.2) (
     plant-refused false p sound c.framed-f.result t.framed a.start.now k.result k.ensures _ c.in_err-chain.was Err (λ vs next. tables_at (box_rules p vs) a.start.now (above vs + 1) 0 next)
@@ -55,9 +55,9 @@ tables_at-requires g c =
     let t = read-into a.plant.now _ _ c.requires.room r.result r.new.bands r.new.coef (r.ensures.answer, (r.ensures.bands, r.ensures.coef)) c.in_ok-outline.was c.framed-f.result c.framed-f.ensures in
     let p = t.plant in
     let sound = judged-sound a.plant.now p t.was in
-    let k = c.read_chain-chain in
+    let k = c.read_chain in
     let kept = plant-chain false p sound c.framed-f.result t.framed a.start.now k.result k.ensures c.in_ok-chain.was in
-    (plant-frames false p sound c.framed-f.result t.framed a.start.now k.result k.ensures kept, t.sound.1)
+    (plant-frames false p sound c.framed-f.result t.framed a.start.now kept, t.sound.1)
 
 pub returns : goal.returns
 returns g c =
@@ -66,13 +66,14 @@ returns g c =
     let t = read-into a.plant.now _ _ c.requires.room r.result r.new.bands r.new.coef (r.ensures.answer, (r.ensures.bands, r.ensures.coef)) c.in_ok-outline.was c.framed-f.result c.framed-f.ensures in
     let p = t.plant in
     let sound = judged-sound a.plant.now p t.was in
-    let k = c.read_chain-chain in
+    let k = c.read_chain in
+    let v = c.in_ok-chain.chain in
     let kept = plant-chain false p sound c.framed-f.result t.framed a.start.now k.result k.ensures c.in_ok-chain.was in
-    let edged = plant-edged false p sound c.framed-f.result t.framed a.start.now k.result k.ensures kept in
+    let edged = plant-edged false p sound c.framed-f.result t.framed a.start.now kept in
     c.tables_at.ensures
-    ∙ tables-same _ (rules_at c.framed-f.result k.result.edges p.bands p.coef) (λ i. fun_ext (λ form. t.rules (formed (frame_at c.framed-f.result k.result.edges i) form))) a.start.now (k.result.m + 1) 0 k.result.next
-    ∙ ap (λ (g : Frame). tables_at (rules_at g k.result.edges p.bands p.coef) a.start.now (k.result.m + 1) 0 k.result.next) t.framed
-    ∙ tables-same (rules_at (own_frame p) k.result.edges p.bands p.coef) (box_rules p kept.vs) (rules-at p sound.ranges.n-high k.result.edges kept.vs edged) a.start.now (k.result.m + 1) 0 k.result.next
-    ∙ ap (λ (m : ℕ). tables_at (box_rules p kept.vs) a.start.now (m + 1) 0 k.result.next) kept.count
-    ∙ plant-goes false p sound c.framed-f.result t.framed a.start.now k.result k.ensures kept Err (λ vs next. tables_at (box_rules p vs) a.start.now (above vs + 1) 0 next)
+    ∙ tables-same _ (rules_at c.framed-f.result v.edges p.bands p.coef) (λ i. fun_ext (λ form. t.rules (formed (frame_at c.framed-f.result v.edges i) form))) a.start.now (v.m + 1) 0 v.next
+    ∙ ap (λ (g : Frame). tables_at (rules_at g v.edges p.bands p.coef) a.start.now (v.m + 1) 0 v.next) t.framed
+    ∙ tables-same (rules_at (own_frame p) v.edges p.bands p.coef) (box_rules p kept.vs) (rules-at p sound.ranges.n-high v.edges kept.vs edged) a.start.now (v.m + 1) 0 v.next
+    ∙ ap (λ (m : ℕ). tables_at (box_rules p kept.vs) a.start.now (m + 1) 0 v.next) kept.count
+    ∙ plant-goes false p sound c.framed-f.result t.framed a.start.now kept Err (λ vs next. tables_at (box_rules p vs) a.start.now (above vs + 1) 0 next)
     ∙ plant-good a.plant.now a.start.now p t.was

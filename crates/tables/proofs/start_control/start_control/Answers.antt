@@ -20,8 +20,8 @@ returns-in_err-outline c =
     let p = err_from_is_err_and c.from_residual.result c.from_residual.ensures.1 in
     rw (p.1, p.2) (plant-bad a.plant.now a.start.now a.st a.x _ (read-bad (plant_judged a.plant.now) r.result r.ensures _ c.in_err-outline.was))
 
-pub read_chain-chain-requires : goal.read_chain-chain-requires
-read_chain-chain-requires c =
+pub read_chain-requires : goal.read_chain-requires
+read_chain-requires c =
     let t = framed-own c.args.plant.now c.judge_plant.ensures c.in_ok-outline.was c.framed-f.ensures in
     subst (λ (f : Frame). f.n ≤ 4) (sym t.framed) t.sound.ranges.n-high
 
@@ -29,7 +29,7 @@ pub returns-in_err-chain : goal.returns-in_err-chain
 returns-in_err-chain c =
     let a = c.args in
     let t = framed-own a.plant.now c.judge_plant.ensures c.in_ok-outline.was c.framed-f.ensures in
-    let r = c.read_chain-chain in
+    let r = c.read_chain in
     let p = err_from_is_err_and c.from_residual-in_err-chain.result c.from_residual-in_err-chain.ensures.1 in
     rw (p.1, p.2) (
     plant-refused false t.plant t.sound c.framed-f.result t.framed a.start.now r.result r.ensures _ c.in_err-chain.was Err (λ vs next. start_call t.plant vs a.start.now next a.st a.x)
@@ -39,18 +39,19 @@ returns-in_err-chain c =
 pub start_call-requires : goal.start_call-requires
 start_call-requires c =
     let t = framed-own c.args.plant.now c.judge_plant.ensures c.in_ok-outline.was c.framed-f.ensures in
-    let r = c.read_chain-chain in
+    let r = c.read_chain in
     let k = plant-chain false t.plant t.sound c.framed-f.result t.framed c.args.start.now r.result r.ensures c.in_ok-chain.was in
-    plant-frames false t.plant t.sound c.framed-f.result t.framed c.args.start.now r.result r.ensures k
+    plant-frames false t.plant t.sound c.framed-f.result t.framed c.args.start.now k
 
 pub returns : goal.returns
 returns c =
     let a = c.args in
     let t = framed-own a.plant.now c.judge_plant.ensures c.in_ok-outline.was c.framed-f.ensures in
-    let r = c.read_chain-chain in
+    let r = c.read_chain in
+    let v = c.in_ok-chain.chain in
     let k = plant-chain false t.plant t.sound c.framed-f.result t.framed a.start.now r.result r.ensures c.in_ok-chain.was in
-    let edged = plant-edged false t.plant t.sound c.framed-f.result t.framed a.start.now r.result r.ensures k in
+    let edged = plant-edged false t.plant t.sound c.framed-f.result t.framed a.start.now k in
     c.start_call.ensures
-    ∙ answer-as t.plant t.sound.ranges.n-high r.result.edges k.vs edged r.result.m k.count c.framed-f.result t.framed a.start.now r.result.next a.st a.x
-    ∙ plant-goes false t.plant t.sound c.framed-f.result t.framed a.start.now r.result r.ensures k Err (λ vs next. start_call t.plant vs a.start.now next a.st a.x)
+    ∙ answer-as t.plant t.sound.ranges.n-high v.edges k.vs edged v.m k.count c.framed-f.result t.framed a.start.now v.next a.st a.x
+    ∙ plant-goes false t.plant t.sound c.framed-f.result t.framed a.start.now k Err (λ vs next. start_call t.plant vs a.start.now next a.st a.x)
     ∙ plant-good a.plant.now a.start.now a.st a.x t.plant t.was

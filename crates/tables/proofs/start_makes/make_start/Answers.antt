@@ -1,5 +1,4 @@
 -- `start_makes::make_start`: the chain, then the form, then the tables of the boxes. Assumes nothing.
-use Rattle.std.specs.Prelude.{Ok}
 use Prim.Native.Nat.{ℕ, ◌≤◌}
 use mathlib.Core.Path.{◌≡◌, sym, ap, ◌∙◌, subst}
 use mathlib.Core.Bool.{true}
@@ -8,7 +7,7 @@ use lib.IntN.{ℤ}
 use Rattle.meaning.specs.declared.Refusal.{Refusal}
 use Rattle.meaning.specs.Buffers.{Left, refused_with, left}
 use Rattle.meaning.specs.Tables.{known_form}
-use Rattle.tables.specs.declared.chains.ChainRead.{ChainRead}
+use Rattle.tables.specs.declared.chains.Chain.{Chain}
 use Rattle.tables.specs.declared.frames.Frame.{Frame}
 use Rattle.tables.specs.Chains.{most_above, frame_at}
 use Rattle.tables.specs.Frames.{formed}
@@ -25,12 +24,11 @@ write_start_own-requires c =
     let coef : List ℤ = c.args.coef.now in
     let chain : List ℕ = c.args.chain.now in
     let form : ℕ = c.args.form in
-    let boxes : ChainRead = c.read_chain-read.result in
-    let taken : (h : boxes.verdict ≡ Ok tt) → Chained true frame chain boxes = λ h. chain-taken true frame chain boxes c.read_chain-read.ensures h in
-    let sound : (h : boxes.verdict ≡ Ok tt) → (k : known_form form ≡ true) → (boxes.m ≤ most_above) × FramesSound (formed frame form) bands coef boxes.edges boxes.m = λ h. λ k. (chain-few true frame chain boxes c.read_chain-read.ensures (taken h), λ i l. (formed-sound (frame_at frame boxes.edges i) form k (frame-sound true frame chain boxes c.read_chain-read.ensures (taken h) c.requires.frame.0 c.requires.root i l), c.requires.frame.1)) in
-    let accepted : (boxes).verdict ≡ Ok tt = c.in-Ok.is in
+    let boxes : Chain = c.in-Ok.read in
+    let taken : Chained true frame chain boxes = chain-taken true frame chain c.read_chain.result c.read_chain.ensures c.in-Ok.is in
+    let sound : (k : known_form form ≡ true) → (boxes.m ≤ most_above) × FramesSound (formed frame form) bands coef boxes.edges boxes.m = λ k. (chain-few true frame chain taken, λ i l. (formed-sound (frame_at frame boxes.edges i) form k (frame-sound true frame chain taken c.requires.frame.0 c.requires.root i l), c.requires.frame.1)) in
     let known : known_form form ≡ true = sym c.known.ensures ∙ c.if-known.true in
-    subst (λ (f : Frame). (boxes.m ≤ most_above) × FramesSound f bands coef boxes.edges boxes.m) (sym c.formed-own.ensures) (sound accepted known)
+    subst (λ (f : Frame). (boxes.m ≤ most_above) × FramesSound f bands coef boxes.edges boxes.m) (sym c.formed-own.ensures) (sound known)
 
 pub returns-then-known : goal.returns-then-known
 returns-then-known c =
@@ -40,13 +38,12 @@ returns-then-known c =
     let chain : List ℕ = c.args.chain.now in
     let form : ℕ = c.args.form in
     let buffer : List ℕ = c.args.buf.now in
-    let boxes : ChainRead = c.read_chain-read.result in
-    let taken : (h : boxes.verdict ≡ Ok tt) → Chained true frame chain boxes = λ h. chain-taken true frame chain boxes c.read_chain-read.ensures h in
-    let made : (h : boxes.verdict ≡ Ok tt) → (k : known_form form ≡ true) → left (behind_chain chain (frames_tables (formed frame form) bands coef boxes.edges boxes.m)) buffer ≡ chain_left frame bands coef chain form buffer = λ h. λ k. chain-good frame bands coef chain form buffer boxes c.read_chain-read.ensures (taken h) c.requires.frame.0.rooms k in
-    let accepted : (boxes).verdict ≡ Ok tt = c.in-Ok.is in
+    let boxes : Chain = c.in-Ok.read in
+    let taken : Chained true frame chain boxes = chain-taken true frame chain c.read_chain.result c.read_chain.ensures c.in-Ok.is in
+    let made : (k : known_form form ≡ true) → left (behind_chain chain (frames_tables (formed frame form) bands coef boxes.edges boxes.m)) buffer ≡ chain_left frame bands coef chain form buffer = λ k. chain-good frame bands coef chain form buffer taken c.requires.frame.0.rooms k in
     let known : known_form form ≡ true = sym c.known.ensures ∙ c.if-known.true in
     let w = c.write_start_own in
-    let e = ap (λ (f : Frame). left (behind_chain chain (frames_tables f bands coef boxes.edges boxes.m)) buffer) c.formed-own.ensures ∙ made accepted known in
+    let e = ap (λ (f : Frame). left (behind_chain chain (frames_tables f bands coef boxes.edges boxes.m)) buffer) c.formed-own.ensures ∙ made known in
     record { answer = w.ensures.answer ∙ ap (λ (l : Left). l.answer) e; bytes = w.ensures.bytes ∙ ap (λ (l : Left). l.buffer) e }
 
 pub returns-in-Err : goal.returns-in-Err
@@ -57,9 +54,8 @@ returns-in-Err c =
     let chain : List ℕ = c.args.chain.now in
     let form : ℕ = c.args.form in
     let buffer : List ℕ = c.args.buf.now in
-    let boxes : ChainRead = c.read_chain-read.result in
     let w = c.refuse in
-    let e = chain-bad frame bands coef chain form buffer boxes c.read_chain-read.ensures c.in-Err.e c.in-Err.is in
+    let e = chain-bad frame bands coef chain form buffer c.read_chain.result c.read_chain.ensures c.in-Err.e c.in-Err.is in
     record { answer = w.ensures.answer ∙ ap (λ (l : Left). l.answer) e; bytes = w.ensures.bytes ∙ ap (λ (l : Left). l.buffer) e }
 
 pub returns-else-known : goal.returns-else-known
@@ -70,9 +66,9 @@ returns-else-known c =
     let chain : List ℕ = c.args.chain.now in
     let form : ℕ = c.args.form in
     let buffer : List ℕ = c.args.buf.now in
-    let boxes : ChainRead = c.read_chain-read.result in
-    let taken : (h : boxes.verdict ≡ Ok tt) → Chained true frame chain boxes = λ h. chain-taken true frame chain boxes c.read_chain-read.ensures h in
+    let boxes : Chain = c.in-Ok.read in
+    let taken : Chained true frame chain boxes = chain-taken true frame chain c.read_chain.result c.read_chain.ensures c.in-Ok.is in
     let w = c.refuse-in-Ok in
     let k = c.known in
-    let e = ap (λ (r : Refusal). refused_with r buffer) c.wrong_form.ensures ∙ chain-unknown frame bands coef chain form buffer boxes c.read_chain-read.ensures (taken c.in-Ok.is) (sym k.ensures ∙ c.if-known.false) in
+    let e = ap (λ (r : Refusal). refused_with r buffer) c.wrong_form.ensures ∙ chain-unknown frame bands coef chain form buffer taken (sym k.ensures ∙ c.if-known.false) in
     record { answer = w.ensures.answer ∙ ap (λ (l : Left). l.answer) e; bytes = w.ensures.bytes ∙ ap (λ (l : Left). l.buffer) e }
