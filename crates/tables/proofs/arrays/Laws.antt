@@ -10,6 +10,7 @@ use lib.IntN.{ℤ, pos}
 use lib.ListN.{length, replicate, length-replicate}
 use lib.Seq.{sets, length-sets}
 use Rattle.meaning.specs.Answers.{PlantRead}
+use Rattle.meaning.specs.declared.Outline.{Outline}
 use Rattle.laws.specs.Lists.{at}
 use Rattle.laws.specs.Stored.{stored_at}
 use Rattle.meaning.specs.Files.{Judged, good}
