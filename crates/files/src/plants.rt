@@ -144,50 +144,37 @@ fn put_plant(p: Outline, bands: &[i64], coef: &[i64], buf: &mut [u8]) -> usize
     modes::put_modes(buf, past, p.form, n, modes, bands, coef)
 }
 
-// A plant drafted in an array that holds its file, judged as that file, and left in the buffer.
-fn write_by(
+// A plant drafted in N bytes, which its file fits in, judged as that file, and left in the buffer.
+fn write_by<const N: usize>(
     p: Outline,
     bands: &[i64],
     coef: &[i64],
-    draft: &mut [u8],
     buf: &mut [u8],
 ) -> Result<usize, Refusal>
-    requires { length (plant_draft (plant_from p bands.now coef.now)) ≤ length draft.old }
+    requires room { length (plant_draft (plant_from p bands.now coef.now)) ≤ N }
+    requires few { N ≤ 71_900 }
     ensures answer { result ≡ (plant_left (plant_from p bands.now coef.now) buf.old).answer }
     ensures bytes { buf.new ≡ (plant_left (plant_from p bands.now coef.now) buf.old).buffer }
 {
-    let drafted = put_plant(p, bands, coef, draft);
+    let mut draft = [0u8; N];
+    let drafted = put_plant(p, bands, coef, &mut draft);
     let file = &draft[..drafted];
     buffers::leave(judge_plant(file), file, buf)
 }
 
-// In a draft for any plant.
-fn write_many<'a>(
-    p: Outline,
-    bands: &'a [i64],
-    coef: &'a [i64],
-    buf: &mut [u8],
-) -> Result<usize, Refusal>
-    ensures answer { result ≡ (plant_left (plant_from p bands.now coef.now) buf.old).answer }
-    ensures bytes { buf.new ≡ (plant_left (plant_from p bands.now coef.now) buf.old).buffer }
-{
-    let mut draft = [0u8; DRAFT];
-    write_by(p, bands, coef, &mut draft, buf)
-}
-
 // A plant as values, judged as the file it would be, then 10; what its bands or coefficients lack is 0. Finished, only the file's bytes are changed; refused, the buffer is all zeros.
-pub fn write_plant<'a>(
+pub fn write_plant(
     p: Outline,
-    bands: &'a [i64],
-    coef: &'a [i64],
+    bands: &[i64],
+    coef: &[i64],
     buf: &mut [u8],
 ) -> Result<usize, Refusal>
     ensures answer { result ≡ (plant_left (plant_from p bands.now coef.now) buf.old).answer }
     ensures bytes { buf.new ≡ (plant_left (plant_from p bands.now coef.now) buf.old).buffer }
 {
     if FEW < p.modes {
-        return write_many(p, bands, coef, buf);
+        write_by::<DRAFT>(p, bands, coef, buf)
+    } else {
+        write_by::<FEW_DRAFT>(p, bands, coef, buf)
     }
-    let mut draft = [0u8; FEW_DRAFT];
-    write_by(p, bands, coef, &mut draft, buf)
 }

@@ -10,7 +10,7 @@ use native.Mathlib.Decide.{dec_lt}
 use native.Mathlib.Nat.{mul-le-mul, le_refl, zero-add}
 use native.Mathlib.Numerals.{add-one}
 use lib.ListN.{length, set, length-append, length-map}
-use lib.Seq.{sets, length-sets}
+use lib.Seq.{sets}
 use borrow.Author.Tests.{lt-ltb, le-ltb}
 use lib.IntN.{ℤ, pos}
 use Rattle.laws.specs.Guards.{guard}
@@ -114,14 +114,6 @@ module _ {n v : ℕ} {xs fs : List ℤ} (p : Numbers n v xs fs) where
         bands-stored = b.bands-stored ∙ rw (d, a.bands-stored) (sym (sets-append xs ys bands₀ (2 * n * u)));
         coef-stored = b.coef-stored ∙ rw (e, a.coef-stored) (sym (sets-append fs gs coef₀ (n * (n + 1) * u)));
       }
-
--- an array is as long as it was
-module _ {n u : ℕ} {xs fs bands₀ coef₀ bands coef : List ℤ} (p : Stored n u xs fs bands₀ coef₀ bands coef) where
-  pub bands-kept : length bands ≡ length bands₀
-  bands-kept = ap length p.bands-stored ∙ length-sets bands₀ (2 * n * u) xs
-
-  pub coef-kept : length coef ≡ length coef₀
-  coef-kept = ap length p.coef-stored ∙ length-sets coef₀ (n * (n + 1) * u) fs
 
 -- ---- bands as sides
 

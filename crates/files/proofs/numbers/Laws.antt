@@ -1,13 +1,13 @@
 -- Laws of the number reader's and writer's loops, in the terms of their proofs. Assumes nothing.
 use Rattle.std.specs.Prelude.{Some, None}
 use Prim.Native.Nat.{ℕ, zero, suc, ◌+◌, ◌-◌, ◌*◌, ◌/◌, ◌%◌, ◌^◌, ◌<◌, ◌≤◌}
-use mathlib.Core.Path.{◌≡◌, refl, sym, ap, ◌∙◌, subst}
+use mathlib.Core.Path.{◌≡◌, refl, sym, ◌∙◌, subst}
 use mathlib.Core.Bool.{true, false, cond}
 use mathlib.Core.List.{List, [], ◌∷◌}
 use native.Mathlib.Omega.{arith}
 use native.Mathlib.Nat.{mul-le-mul_right}
 use lib.ListN.{length, get_or}
-use lib.Pow.{pow_mono, pow-add}
+use lib.Pow.{pow-add}
 use lib.Dec.{ltb}
 use borrow.Author.Tests.{le-ltb, lt-ltb, ne_eqb}
 use lib.Dec.{T, leb, leb-zero}
@@ -15,14 +15,10 @@ use lib.IntN.{ℤ, pos, negsuc, nat_abs, ◌-ℤ◌}
 use lib.Signed.{le_z, non_neg}
 use Rattle.laws.specs.Integers.{zarith, sub}
 use mir.Syntax.{w64}
-use mir.Val.{SFits, to_z, of_z}
-use mir.Facts.{to_z_pos, to_z-of_z}
-use Rattle.meaning.specs.Numbers.{groups_at, last_group, groups_of, bytes_of, stored, as_signed}
+use mir.Val.{SFits}
+use Rattle.meaning.specs.Numbers.{groups_at, last_group, groups_of, bytes_of, stored}
 
 -- ---- the reader: one law for each way out of a turn, after k of at most 5 bytes. The weight of group k is 2 ^ (7 * k)
-pub weight-le : (k w : ℕ) → w ≡ 2 ^ (7 * k) → k < 5 → w ≤ 2 ^ 28
-weight-le k w e h = rw e (pow_mono {i = 7 * k} {j = 28} (omega arith))
-
 pub weight-next : (k w : ℕ) → w ≡ 2 ^ (7 * k) → w * 128 ≡ 2 ^ (7 * (k + 1))
 weight-next k w e =
     let q : 7 * (k + 1) ≡ 7 * k + 7 = omega arith in
@@ -57,27 +53,6 @@ module _ (s : List ℕ) (i v w k : ℕ) (h : k < 5) where
 
   pub more : i < length s → 128 ≤ get_or s i 0 → get_or s i 0 < 256 → groups_at (5 - k) s i v w ≡ groups_at (5 - (k + 1)) s (i + 1) (v + (get_or s i 0 - 128) * w) (w * 128)
   more l b g = turn ∙ simp (lt-ltb _ _ l, le-ltb _ _ b, lt-ltb _ _ g)
-
--- ---- a signed number taken back from a half, as the machine holds it
-
-half-fits : (v : ℕ) → v < 2 ^ 64 → to_z w64 (v / 2) ≡ pos (v / 2)
-half-fits v h = to_z_pos w64 (omega arith)
-
-pub even-half : (v next : ℕ) → v < 2 ^ 64 → v % 2 ≡ 0 → Some (to_z w64 (v / 2), next) ≡ as_signed (Some (v, next))
-even-half v next h e = simp (half-fits v h, e)
-
--- −1 − v / 2, which an i64 holds
-below-zero : (n : ℕ) → negsuc 0 -ℤ pos n ≡ negsuc n
-below-zero zero = refl
-below-zero (suc n) = ap negsuc (omega arith)
-
-pub odd-fits : (v : ℕ) → v < 2 ^ 64 → SFits w64 (negsuc 0 -ℤ to_z w64 (v / 2))
-odd-fits v h = rw (half-fits v h, below-zero (v / 2)) (record { sfits = omega arith })
-
-pub odd-half : (v next : ℕ) → v < 2 ^ 64 → (v % 2 ≡ 0 → ⊥) → Some (to_z w64 (of_z w64 (negsuc 0 -ℤ to_z w64 (v / 2))), next) ≡ as_signed (Some (v, next))
-odd-half v next h n =
-    rw (to_z-of_z (odd-fits v h), half-fits v h, below-zero (v / 2))
-    (simp (ne_eqb _ _ n))
 
 -- ---- the writer: the last group, and one with more behind it. Which bound there is on the groups makes no difference while there are enough
 

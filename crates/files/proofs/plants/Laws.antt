@@ -6,17 +6,17 @@ use mathlib.Core.Path.{◌≡◌, refl, sym, ap, ◌∙◌}
 use mathlib.Core.Bool.{Bool, true, false, cond}
 use mathlib.Core.List.{List, ◌++◌, append_assoc}
 use native.Mathlib.Omega.{arith}
-use lib.ListN.{length, replicate}
-use lib.IntN.{ℤ, pos, nat_abs}
+use lib.ListN.{length}
+use lib.IntN.{ℤ, nat_abs}
 use Rattle.laws.specs.Lists.{tab, tabs}
 use Rattle.laws.specs.Guards.{guard}
-use Rattle.meaning.specs.Answers.{Verdict, PlantRead}
+use Rattle.meaning.specs.Answers.{Verdict}
 use Rattle.meaning.specs.declared.Refusal.{Refusal}
 use Rattle.meaning.specs.Refusals.{unfit}
 use Rattle.meaning.specs.Numbers.{number_at}
-use Rattle.meaning.specs.Files.{Taken, taken, none, Field, Form, end, field, read, refused, before, on_taken, taken_as, ended, values_at, values_of, Judged, good, bad}
+use Rattle.meaning.specs.Files.{Taken, taken, none, Field, Form, end, field, read, refused, before, on_taken, taken_as, ended, values_at, values_of, good, bad}
 use Rattle.meaning.specs.Boxes.{sides_of}
-use Rattle.meaning.specs.Plants.{times, edges, bands, headed, plant_forms, most_modes, own_bands, mode_form, modes_own, modes_alike, Plant, numbers_of, plant_of, plant_related, plant_form, plant_judged, plant_read, bands_left, coef_left, band_numbers, row_numbers}
+use Rattle.meaning.specs.Plants.{times, edges, bands, headed, plant_forms, most_modes, own_bands, mode_form, modes_own, modes_alike, Plant, numbers_of, plant_of, plant_related, plant_form, plant_judged, band_numbers, row_numbers}
 use Rattle.promises.specs.Files.Headers.{least-of}
 use Rattle.promises.specs.Files.Plants.{Tidy, plant-back}
 use Rattle.files.specs.declared.beginnings.Beginning.{Beginning}
@@ -152,12 +152,6 @@ module _ (s : List ℕ) (b : Beginning) (from' : ℕ) where
           rw (by-verdict (Ok tt) g)
           (record { answer = refl; bands-left = rw z at v.stored.bands-stored; coef-left = rw o at v.stored.coef-stored })
 
--- a refusal, told of arrays that were stored to before: they are as long as they were
-pub refused-so : {j : Judged Plant} {e : Refusal} {bands₀ coef₀ bands coef : List ℤ} (bands' coef' : List ℤ) {r : PlantRead} → length bands ≡ length bands₀ → length coef ≡ length coef₀
-    → j ≡ bad e → Answered (bad e) bands coef bands' coef' r → Answered j bands₀ coef₀ bands' coef' r
-refused-so bands' coef' l m q a =
-    rw q (record { answer = a.answer; bands-left = a.bands-left ∙ ap (λ (k : ℕ). replicate k (pos 0)) l; coef-left = a.coef-left ∙ ap (λ (k : ℕ). replicate k (pos 0)) m })
-
 -- ---- the beginning in front
 
 pub beginning-refused : (s : List ℕ) (r : Refusal) → ((rest : ℕ → ℕ → ℕ → Form) → values_at (beginning_form plant_forms most_modes rest) s 0 ≡ refused r) → plant_judged s ≡ bad r
@@ -167,8 +161,3 @@ beginning-refused s r t = ap plant_related (plant-begins s) ∙ not-begun plant_
 pub beginning-read : (s : List ℕ) (b : Beginning) (next : ℕ) → Begun plant_forms most_modes s b next → plant_judged s ≡ body_of s b next
 unfolding plant_judged
 beginning-read s b next t = ap plant_related (plant-begins s) ∙ begun-judged plant_related rest_form s b next t
-
--- what was answered of what stands behind the beginning is answered of the file
-pub answered : (s : List ℕ) {j : Judged Plant} {bands₀ coef₀ bands coef : List ℤ} {r : PlantRead} → plant_judged s ≡ j → Answered j bands₀ coef₀ bands coef r
-    → (r ≡ plant_read s) × ((bands ≡ bands_left s bands₀) × (coef ≡ coef_left s coef₀))
-answered s q a = rw q (a.answer, (a.bands-left, a.coef-left))
