@@ -78,10 +78,13 @@ pub fn make(h: Sheet) -> Result<Made, Refusal>
     let place = 6 + 4 * n;
     let ends = bands::widened(h, place)?;
     let coef = coefficients(h, place + 2 * n, modes * n * (n + 1))?;
-    let rlo = h.rlo;
-    let rhi = h.rhi;
-    let slo = h.slo;
-    let shi = h.shi;
+    let Sheet {
+        rlo,
+        rhi,
+        slo,
+        shi,
+        ..
+    } = h;
     let outline = Outline {
         form: 1,
         n,

@@ -22,18 +22,26 @@ const DRAFT: usize = 512;
 fn accepted(b: Beginning, time: f64, outside: f64, rooms: [Room; 4]) -> Result<Sheet, Refusal>
     ensures { result ≡ sheet_read_of (good (sheet_with b time outside rooms)) }
 {
-    let rlo = b.rlo;
-    let rhi = b.rhi;
-    let slo = b.slo;
-    let shi = b.shi;
-    let wlo = b.wlo;
-    let whi = b.whi;
+    let Beginning {
+        form: _,
+        n,
+        m,
+        q,
+        k,
+        d,
+        rlo,
+        rhi,
+        slo,
+        shi,
+        wlo,
+        whi,
+    } = b;
     Ok(Sheet {
-        n: b.n,
-        r: b.m,
-        q: b.q,
-        k: b.k,
-        d: b.d,
+        n,
+        r: m,
+        q,
+        k,
+        d,
         rlo,
         rhi,
         slo,
@@ -96,21 +104,29 @@ pub fn read_sheet(s: &[u8]) -> Result<Sheet, Refusal>
 fn put_sheet(h: Sheet, buf: &mut [u8]) -> usize
     ensures { Put buf.old 0 (sheet_draft h) result buf.new }
 {
-    let n = h.n;
-    let r = h.r;
-    let rlo = h.rlo;
-    let rhi = h.rhi;
-    let slo = h.slo;
-    let shi = h.shi;
-    let wlo = h.wlo;
-    let whi = h.whi;
+    let Sheet {
+        n,
+        r,
+        q,
+        k,
+        d,
+        rlo,
+        rhi,
+        slo,
+        shi,
+        wlo,
+        whi,
+        time,
+        outside,
+        rooms,
+    } = h;
     let b = Beginning {
         form: 1,
         n,
         m: r,
-        q: h.q,
-        k: h.k,
-        d: h.d,
+        q,
+        k,
+        d,
         rlo,
         rhi,
         slo,
@@ -119,15 +135,11 @@ fn put_sheet(h: Sheet, buf: &mut [u8]) -> usize
         whi,
     };
     let past = beginnings::put_beginning(buf, b);
-    if 4 < n {
+    if 4 < n || 1_000 < r {
         return past;
     }
-    if 1_000 < r {
-        return past;
-    }
-    let past_time = floats::put_float(buf, past, h.time);
-    let past_outside = floats::put_float(buf, past_time, h.outside);
-    let rooms = h.rooms;
+    let past_time = floats::put_float(buf, past, time);
+    let past_outside = floats::put_float(buf, past_time, outside);
     rooms::put_rooms(buf, past_outside, n, rooms)
 }
 

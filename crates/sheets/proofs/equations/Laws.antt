@@ -5,15 +5,13 @@ use mathlib.Core.Bool.{Bool, true, false}
 use mathlib.Core.List.{List}
 use native.Mathlib.Omega.{arith}
 use native.Mathlib.Numerals.{add-one}
-use native.Mathlib.Decide.{dec_lt}
 use borrow.Author.Tests.{lt-ltb, le-ltb, eq-eqb, ne_eqb}
 use lib.Dec.{eqb}
-use lib.ListN.{get_or, set, replicate}
-use lib.Seq.{get_or-set_same}
+use lib.ListN.{get_or}
 use lib.Ieee.{Float, binary64, add, sub, mul}
 use Rattle.std.proofs.lemmas.List.{get_or_default}
 use Rattle.laws.specs.Lists.{tab, padded}
-use Rattle.laws.specs.Tabs.{tab-step, tab-done, tab-same, padding-size, padding-at, FilledBy, filling-none, filling-more, filling-padded, get_d-below}
+use Rattle.laws.specs.Tabs.{tab-step, tab-done, tab-same, padding-size, padding-at, FilledBy, filling-padded}
 use Rattle.meaning.specs.declared.Sheet.{Sheet}
 use Rattle.meaning.specs.Sheets.{one_f, zero_f, room_at, exchange_at, sum_from, loss_sum, gained, coefficient, pushed, has_emitter, emitters, offset}
 use Rattle.promises.specs.Sheets.SheetPlants.{emitters-few}
@@ -36,16 +34,6 @@ pub record StoredUpTo {A : Type 0} (z : A) (f : ℕ → A) (m i : ℕ) (l : List
   pub front : (k : ℕ) → k < i → get_or l k z ≡ f k
 
 module _ {A : Type 0} (z : A) (f : ℕ → A) (m : ℕ) where
-  pub stored-none : StoredUpTo z f m 0 (replicate m z)
-  stored-none = record { filled = filling-none z m; front = λ k h. absurd (omega arith) }
-
-  pub stored_more : (i : ℕ) (l : List A) → i < m → StoredUpTo z f m i l → StoredUpTo z f m (i + 1) (set l i (f i))
-  stored_more i l h w = record { filled = filling-more z (f i) w.filled; front = λ k b. go k b (dec_lt k i) }
-    where
-      go : (k : ℕ) → k < i + 1 → Dec (k < i) → get_or (set l i (f i)) k z ≡ f k
-      go k b (yes a) = get_d-below z l i (f i) k a ∙ w.front k a
-      go k b (no a) = let e : k ≡ i = omega arith in rw e (get_or-set_same l i (f i) z (omega (arith, w.filled.size)))
-
   pub stored-all : (n i : ℕ) (l : List A) → n ≤ i → i ≤ n → n ≤ m → StoredUpTo z f m i l → l ≡ padded m z (tab f n 0)
   stored-all n i l a b h w =
       let e : i ≡ n = omega arith in

@@ -23,7 +23,7 @@ use Rattle.meaning.specs.Refusals.{broken, bad_float}
 use Rattle.meaning.specs.Sheets.{zero_f, floating, any_float}
 use Rattle.promises.specs.Files.Floats.{float-was}
 use Rattle.promises.specs.Sheets.SheetRooms.{float-held, finite_number}
-use Rattle.files.specs.Parts.{behind, Fails, holds_then, holds-fails, fails-then}
+use Rattle.files.specs.Parts.{behind, Fails, holds_then, holds-fails}
 use Rattle.sheets.specs.Floats.{Floated, two_part, TwoFloated}
 use Rattle.sheets.proofs.wholes.Fields.{exponent, digits, finite-good, finite-bad}
 
@@ -100,9 +100,6 @@ module _ (ok : Float → Bool) (s : List ℕ) (from : ℕ) where
 -- ---- two floats
 
 module _ (ok : Float → Bool) (s : List ℕ) (start : ℕ) where
-  pub first-cut : (e : Refusal) → Fails (floating ok) s start e → Fails (two_part ok) s start e
-  first-cut e t = fails-then {g = floating any_float} t
-
   module _ (x : Float) (mid : ℕ) (t : Floated ok s start x mid) where
     pub second-cut : (e : Refusal) → Fails (floating any_float) s mid e → Fails (two_part ok) s start e
     second-cut e u = holds-fails t.part u

@@ -4,7 +4,7 @@ use Prim.Native.Nat.{ℕ, zero, suc, ◌+◌, ◌*◌, ◌/◌, ◌%◌, ◌≤�
 use mathlib.Core.Path.{◌≡◌, refl, sym, ap, ◌∙◌}
 use mathlib.Core.Bool.{cond}
 use native.Mathlib.Omega.{arith}
-use native.Mathlib.Nat.{le_trans, lt_of_lt_of_le, mod-lt, zero-add, add-zero, mul_comm, mul_assoc, mul-add, mul-le-mul, one-le-mul, mod-eq_of_lt, div-eq_of_lt, mul-add-div, mul-add-mod_self_left}
+use native.Mathlib.Nat.{le_trans, lt_of_lt_of_le, mod-lt, zero-add, add-zero, mul_comm, mul_assoc, mul-add, mul-le-mul, mod-eq_of_lt, div-eq_of_lt, mul-add-div, mul-add-mod_self_left}
 use borrow.Author.Tests.{lt-ltb, le-ltb}
 use lib.Dec.{ltb}
 use lib.Pow.{pow_mono}
@@ -116,6 +116,3 @@ module _ (h : Sheet) (s : Sized h) where
 
   pub count-few : coef_count (made_modes h) h.n ≤ most_entries
   count-few = let wide : h.n + 1 ≤ 5 = omega (arith, s.few) in mul-le-mul rows_few wide
-
-  pub scaled : (1 ≤ h.q * h.r) × (h.q * h.r ≤ 10000000)
-  scaled = (one-le-mul s.counts.0 s.degrees.0, mul-le-mul s.counts.1 s.degrees.1)

@@ -23,11 +23,11 @@ use Rattle.meaning.specs.Numbers.{number_at}
 use Rattle.meaning.specs.Refusals.{broken, unfit}
 use Rattle.meaning.specs.Files.{before}
 use Rattle.meaning.specs.Plants.{from, times}
-use Rattle.meaning.specs.Sheets.{zero_f, bits_of, floating, any_float, not_below, emitter_form, room_form, no_room, emitter_values, room_values}
+use Rattle.meaning.specs.Sheets.{zero_f, bits_of, floating, not_below, emitter_form, room_form, no_room, emitter_values, room_values}
 use Rattle.promises.specs.Sheets.SheetRooms.{Held, HeldRoom, TidyRoom}
 use Rattle.files.specs.FieldLaws.{taken-right, taken-wrong, not_taken}
 use Rattle.files.specs.Parts.{behind, Fails, holds_then, holds-fails, fails-then, Rows, rows_none, rows_more, rows-fails, rows_all}
-use Rattle.sheets.specs.Floats.{Floated, TwoFloated}
+use Rattle.sheets.specs.Floats.{Floated}
 use Rattle.sheets.specs.Rooms.{exchange_bits, ExchangesRead, kind_of, own_values, own_part, emitter_part, OwnRead, OwnTold, EmitterHeld, EmitterTold, rest_part, RestRead, RestTold, values_of_room, RoomHeld, RoomTold, RoomsHeld, room_bytes, bytes_of_room}
 
 -- ---- the loop over exchanges: j of m are done
@@ -74,12 +74,6 @@ module _ (s : List ℕ) (start : ℕ) where
   unfolding behind
   none_read = record { same = refl; part = record { holds = λ rest. refl }; held = tt }
 
-  pub steady-read : (rate : Float) (next : ℕ) → Floated any_float s start rate next → OwnRead 2 s start (Emitter.Steady rate) next
-  steady-read rate next t = record { same = refl; part = t.part; held = t.held }
-
-  pub heater-read : (p water : Float) (next : ℕ) → TwoFloated not_below s start p water next → OwnRead 1 s start (Emitter.Heater p water) next
-  heater-read p water next t = record { same = refl; part = t.part; held = (t.first-held, t.second-held) }
-
 values-split : (e : Emitter) → emitter_values e ≡ pos (kind_of e) ∷ own_values e
 values-split Emitter.None = refl
 values-split (Emitter.Heater p water) = refl
@@ -120,9 +114,6 @@ module _ (s : List ℕ) (start : ℕ) where
 -- ---- a room of n
 
 module _ (s : List ℕ) (start n : ℕ) where
-  pub exchanges-cut : (e : Refusal) → Fails (times (n - 1) (floating not_below)) s start e → Fails (rest_part n) s start e
-  exchanges-cut e t = fails-then {g = emitter_part} t
-
   module _ (xs : List Float) (mid : ℕ) (t : ExchangesRead s start (n - 1) xs mid) where
     pub emitter-cut : (e : Refusal) → Fails emitter_part s mid e → Fails (rest_part n) s start e
     emitter-cut e u = holds-fails t.part u

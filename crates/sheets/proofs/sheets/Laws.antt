@@ -8,7 +8,7 @@ use lib.ListN.{length}
 use lib.IntN.{ℤ}
 use lib.Ieee.{Float}
 use Rattle.laws.specs.Lists.{tabs}
-use Rattle.meaning.specs.Answers.{Verdict, SheetRead}
+use Rattle.meaning.specs.Answers.{Verdict}
 use Rattle.meaning.specs.declared.Refusal.{Refusal}
 use Rattle.meaning.specs.declared.Room.{Room}
 use Rattle.meaning.specs.declared.Sheet.{Sheet}
@@ -23,7 +23,7 @@ use Rattle.files.specs.Beginnings.{beginning_form, head_numbers, head_of, edges_
 use Rattle.files.specs.Bodies.{begun-judged, not-begun, body_refused, body-left-over, body-by-verdict}
 use Rattle.sheets.specs.Floats.{two_part, TwoFloated}
 use Rattle.sheets.specs.Rooms.{values_of_room, RoomsHeld}
-use Rattle.sheets.specs.Sheets.{unfitted_of, unfitted, rooms_form, body_read, sheet_with, TakenSized}
+use Rattle.sheets.specs.Sheets.{unfitted_of, unfitted, rooms_form, body_read, sheet_with}
 
 -- ---- what stands behind a beginning
 
@@ -94,18 +94,3 @@ beginning-refused s r t = ap sheet_read_of (not-begun unfitted_of rooms_form s (
 pub beginning-read : (s : List ℕ) (b : Beginning) (next : ℕ) → Begun 1 1000 s b next → unfitted s ≡ body_read s b next
 unfolding unfitted sheet_form
 beginning-read s b next t = ap sheet_read_of (begun-judged unfitted_of rooms_form s b next t)
-
--- ---- how large the numbers are
-
-pub refused-sized : (r : SheetRead) (e : Refusal) → r ≡ sheet_read_of (bad e) → TakenSized r
-refused-sized r e q = rw q tt
-
-pub taken-sized : (r : SheetRead) (s : List ℕ) (b : Beginning) (from : ℕ) (time outside : Float) (rooms : List Room) → r ≡ sheet_read_of (good (sheet_with b time outside rooms)) → Begun 1 1000 s b from → TakenSized r
-taken-sized r s b from time outside rooms q t = rw q (record {
-  some = t.n-low;
-  few = t.n-high;
-  degrees = (t.m-low, t.m-high);
-  counts = (t.q-low, t.q-high);
-  edges = t.edge-sizes;
-  bands = t.band-sizes;
-})

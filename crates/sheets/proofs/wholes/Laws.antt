@@ -152,13 +152,3 @@ near-shifted limit k s (suc j) t h g =
     sums j g = omega arith
 
 -- ---- sizes of the parts, m having 53 bits
-
-module _ (k t : ℕ) (few : k ≤ 10000000) (short : t < 2 ^ 52) where
-  pub first_small : k * ((2 ^ 52 + t) / 2 ^ 18) ≤ 10000000 * 2 ^ 35
-  first_small = let h : (2 ^ 52 + t) / 2 ^ 18 ≤ 2 ^ 35 = omega arith in mul-le-mul few h
-
-  pub second-small : k * ((2 ^ 52 + t) % 2 ^ 18) ≤ 10000000 * 2 ^ 18
-  second-small = let h : (2 ^ 52 + t) % 2 ^ 18 ≤ 2 ^ 18 = omega arith in mul-le-mul few h
-
-  pub high_small : high k (2 ^ 52 + t) < 2 ^ 60
-  high_small = let p = first_small in let q = second-small in omega arith

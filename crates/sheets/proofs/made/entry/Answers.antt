@@ -1,21 +1,8 @@
 -- `made::entry` goes by the column: an entry of A, or b. Assumes nothing.
 use mathlib.Core.Path.{◌∙◌}
-use native.Mathlib.Omega.{arith}
 use Rattle.sheets.proofs.equations.Laws.{sum-read, bit-read}
-use Rattle.sheets.proofs.made.Laws.{entry-is, offset-is, row_below, row_small, scaled}
+use Rattle.sheets.proofs.made.Laws.{entry-is, offset-is, row_below, row_small}
 use Rattle.sheets.proofs.made.entry.Goals as goal
-
-pub offset_bounds-bits-i : goal.offset_bounds-bits-i
-offset_bounds-bits-i c = omega (arith, row_small c.args.h c.args.p c.requires.fact_1)
-
-pub bounds-bits-i : goal.bounds-bits-i
-bounds-bits-i c = row_small c.args.h c.args.p c.requires.fact_1
-
-pub offset_bounds-sums-i : goal.offset_bounds-sums-i
-offset_bounds-sums-i c = omega (arith, row_small c.args.h c.args.p c.requires.fact_1)
-
-pub bounds-sums-i : goal.bounds-sums-i
-bounds-sums-i c = row_small c.args.h c.args.p c.requires.fact_1
 
 pub coefficient-requires : goal.coefficient-requires
 coefficient-requires c =
@@ -29,19 +16,11 @@ returns-then-j-h c =
     let a = c.args in
     c.whole.ensures ∙ entry-is a.h a.p c.if-j-h.true _ c.coefficient.ensures
 
-pub overflow_mul-h : goal.overflow_mul-h
-overflow_mul-h c = omega (arith, scaled c.args.h c.requires.fact_1)
-
 pub offset-requires : goal.offset-requires
 offset-requires c =
     let h = c.args.h in
     let p = c.args.p in
     record { fact_1 = row_small h p c.requires.fact_1; fact_2 = bit-read h c.requires.fact_1.few _ (row_below h p c.requires.fact_1) _ c.requires.fact_3 _ }
-
-pub whole-requires-2 : goal.whole-requires-2
-whole-requires-2 c =
-    let k = scaled c.args.h c.requires.fact_1 in
-    record { fact_1 = k.0; fact_2 = k.1; fact_3 = omega arith }
 
 pub returns : goal.returns
 returns c =

@@ -1,13 +1,12 @@
 -- `wholes::whole` goes by the exponent's field of x. Assumes nothing.
-use Prim.Native.Nat.{ℕ, ◌-◌, ◌+◌, ◌^◌}
+use Prim.Native.Nat.{ℕ}
 use mathlib.Core.Path.{◌≡◌, sym, ap, ◌∙◌, subst}
 use native.Mathlib.Omega.{arith}
 use lib.Dec.{T}
-use lib.Pow.{shr_le}
 use lib.Ieee.{binary64, of_fields, to_bits}
 use Rattle.meaning.specs.Sheets.{whole_of}
 use Rattle.sheets.proofs.wholes.Fields.{sign, exponent, digits, digits-few, of-fields}
-use Rattle.sheets.proofs.wholes.Laws.{nan-out, far-out, near-zero, near-shifted, high, first_small, second-small, high_small}
+use Rattle.sheets.proofs.wholes.Laws.{nan-out, far-out, near-zero, near-shifted}
 use Rattle.sheets.proofs.wholes.whole.Goals as goal
 
 pub returns-then-is_nan : goal.returns-then-is_nan
@@ -24,26 +23,6 @@ returns-then-e-lt993 c =
     let bits : ℕ = to_bits binary64 c.args.x in
     let by-fields : whole_of c.args.limit c.args.k c.args.x ≡ whole_of c.args.limit c.args.k (of_fields binary64 (sign bits) (exponent bits) (digits bits)) = ap (whole_of c.args.limit c.args.k) (of-fields c.args.x (subst T (sym c.well_formed.1.1.0.1) tt)) in
     sym (by-fields ∙ near-zero c.args.limit c.args.k (sign bits) (exponent bits) (digits bits) (omega arith) c.if-e-lt993.true (digits-few bits))
-
-pub overflow_mul-high : goal.overflow_mul-high
-overflow_mul-high c =
-    let bits : ℕ = to_bits binary64 c.args.x in
-    omega (arith, first_small c.args.k (digits bits) (omega arith) (digits-few bits))
-
-pub overflow_mul-high-2 : goal.overflow_mul-high-2
-overflow_mul-high-2 c =
-    let bits : ℕ = to_bits binary64 c.args.x in
-    omega (arith, second-small c.args.k (digits bits) (omega arith) (digits-few bits))
-
-pub overflow_add-high : goal.overflow_add-high
-overflow_add-high c =
-    let bits : ℕ = to_bits binary64 c.args.x in
-    omega (arith, high_small c.args.k (digits bits) (omega arith) (digits-few bits))
-
-pub overflow_add-twice : goal.overflow_add-twice
-overflow_add-twice c =
-    let bits : ℕ = to_bits binary64 c.args.x in
-    omega (arith, high_small c.args.k (digits bits) (omega arith) (digits-few bits), shr_le (high c.args.k (2 ^ 52 + digits bits)) (1056 - exponent bits))
 
 pub returns : goal.returns
 returns c =
