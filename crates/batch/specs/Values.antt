@@ -1,14 +1,23 @@
 -- Plants and sheets as the arrays that they are handed over in. Definitions alone.
-use Rattle.std.specs.Prelude.{ℕ, cond, List, [], ◌∷◌, eqb, ℤ, Float, get_or}
+use Rattle.std.specs.Prelude.{ℕ, cond, List, [], ◌∷◌, eqb, ℤ, Float, get_or, Ok, Err}
 use Rattle.std.specs.Float.{nan}
+use Rattle.meaning.specs.Answers.{PlantRead, SheetRead}
 use Rattle.meaning.specs.declared.Outline.{Outline}
 use Rattle.meaning.specs.declared.Emitter.{Emitter}
 use Rattle.meaning.specs.declared.Room.{Room}
 use Rattle.meaning.specs.declared.Sheet.{Sheet}
-use Rattle.meaning.specs.Plants.{Plant}
-use Rattle.meaning.specs.Sheets.{zero_f, no_room}
+use Rattle.meaning.specs.Plants.{Plant, plant_of, outline_of}
+use Rattle.meaning.specs.Sheets.{zero_f, no_room, sheet_of}
 
 -- ---- plants
+
+-- what is shown of a plant that was read; of a refused one, zeros
+abbrev pub no_plant : Outline
+no_plant = outline_of (plant_of [])
+
+abbrev pub outline_in : PlantRead → Outline
+outline_in (Ok p) = p
+outline_in (Err e) = no_plant
 
 -- form, n, N, q, K, D
 abbrev pub plant_header : Outline → List ℕ
@@ -80,6 +89,14 @@ abbrev pub rooms_from : List ℕ → List (List Float) → List Room
 rooms_from kinds v = four λ i. room_from (get_or kinds i 0) (get_or v i [])
 
 -- ---- sheets
+
+-- what is shown of a sheet that was read; of a refused one, zeros
+abbrev pub no_sheet : Sheet
+no_sheet = sheet_of []
+
+abbrev pub sheet_in : SheetRead → Sheet
+sheet_in (Ok h) = h
+sheet_in (Err e) = no_sheet
 
 -- n, r, q, K, D
 abbrev pub sheet_header : Sheet → List ℕ

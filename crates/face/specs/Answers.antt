@@ -1,11 +1,9 @@
 -- What is answered and put into `out` of a controller's call, on a table and on a start file, and the state that it takes. Definitions alone.
-use Rattle.std.specs.Prelude.{ℕ, List, [], ◌∷◌, nat_abs, Ok, Err}
+use Rattle.std.specs.Prelude.{ℕ, List, [], ◌∷◌, nat_abs}
 use Rattle.laws.specs.Lists.{at}
-use Rattle.meaning.specs.Answers.{Answer, StartAnswer}
 use Rattle.meaning.specs.declared.State.{State}
-use Rattle.meaning.specs.declared.Refusal.{Refusal}
 use Rattle.meaning.specs.declared.StartState.{StartState}
-use Rattle.meaning.specs.Refusals.{Shown, refusal}
+use Rattle.meaning.specs.Refusals.{Shown}
 
 -- the mode; and number, place, step, next place, next left
 abbrev pub mode : Shown → ℕ
@@ -18,18 +16,9 @@ number_and_state a = a.number ∷ a.place ∷ a.step ∷ nat_abs (at a.values 1)
 abbrev pub state_of : ℕ → ℕ → State
 state_of place left = record { place = place; left = left }
 
--- the refusal of an answer; of a mode, zeros
-abbrev pub refusal_of : Answer → Refusal
-refusal_of (Err e) = e
-refusal_of (Ok (u, next)) = refusal 0 0 0
-
 -- the same of a start file: the next index stands before place and left
 abbrev pub numbers_and_state : Shown → List ℕ
 numbers_and_state a = a.number ∷ a.place ∷ a.step ∷ nat_abs (at a.values 1) ∷ nat_abs (at a.values 2) ∷ nat_abs (at a.values 3) ∷ []
 
 abbrev pub start_state_of : ℕ → ℕ → ℕ → StartState
 start_state_of index place left = record { index = index; state = state_of place left }
-
-abbrev pub start_refusal_of : StartAnswer → Refusal
-start_refusal_of (Err e) = e
-start_refusal_of (Ok (u, next)) = refusal 0 0 0

@@ -7,6 +7,7 @@ mod answers;
 pub mod shown;
 
 ghost use Rattle.std.specs.Prelude.{◌≡◌, [], ◌∷◌};
+ghost use Rattle.meaning.specs.Answers.{verdict_in};
 ghost use Rattle.meaning.specs.Plants.{plant_read};
 ghost use Rattle.meaning.specs.Refusals.{verdict_shown, written_shown, answer_shown, start_answer_shown};
 ghost use Rattle.meaning.specs.Relays.{relay_left};
@@ -22,12 +23,10 @@ use tables::{checks, control, makes, relays, start_checks, start_control, start_
 
 // A plant file: 0, or the number that it is refused by; out holds place and step.
 pub fn hoachulim_plant(plant: &[u8], out: &mut [u64; 2]) -> u64
-    ensures number { result ≡ (verdict_shown (plant_read plant.now).verdict).number }
-    ensures place { out.new ≡ place_and_step (verdict_shown (plant_read plant.now).verdict) }
+    ensures number { result ≡ (verdict_shown (verdict_in (plant_read plant.now))).number }
+    ensures place { out.new ≡ place_and_step (verdict_shown (verdict_in (plant_read plant.now))) }
 {
-    let read = plants::judge_plant(plant);
-    let verdict = read.verdict;
-    shown::verdict(verdict, out)
+    shown::verdict(plants::judge_plant(plant), out)
 }
 
 // The plant file of a sheet file into a lent buffer: 0, or the number of the refusal; out holds the length written, or place and step. Finished, only
@@ -37,8 +36,7 @@ pub fn hoachulim_sheet(sheet: &[u8], buf: &mut [u8], out: &mut [u64; 2]) -> u64
     ensures length { out.new ≡ length_or_place (made_left sheet.now buf.old).answer }
     ensures bytes { buf.new ≡ (made_left sheet.now buf.old).buffer }
 {
-    let written = sheets::sheets::make_plant(sheet, buf);
-    shown::written(written, out)
+    shown::written(sheets::sheets::make_plant(sheet, buf), out)
 }
 
 // A table file for a plant file: 0, or the number that they are refused by; out holds place and step.
@@ -46,8 +44,7 @@ pub fn hoachulim_check(plant: &[u8], table: &[u8], out: &mut [u64; 2]) -> u64
     ensures number { result ≡ (verdict_shown (checked plant.now table.now)).number }
     ensures place { out.new ≡ place_and_step (verdict_shown (checked plant.now table.now)) }
 {
-    let verdict = checks::check(plant, table);
-    shown::verdict(verdict, out)
+    shown::verdict(checks::check(plant, table), out)
 }
 
 // The table of a plant file, of the form that is told, into a lent buffer: 0, or the number of the refusal; out holds the length written, or place and
@@ -57,9 +54,7 @@ pub fn hoachulim_make(plant: &[u8], form: u64, buf: &mut [u8], out: &mut [u64; 2
     ensures length { out.new ≡ length_or_place (maker_left plant.now form buf.old).answer }
     ensures bytes { buf.new ≡ (maker_left plant.now form buf.old).buffer }
 {
-    let told = form as usize;
-    let written = makes::make(plant, told, buf);
-    shown::written(written, out)
+    shown::written(makes::make(plant, form as usize, buf), out)
 }
 
 // A table file for a plant file as one of the form that is told, into a lent buffer: 0, or the number of the refusal, the checker's where that refuses the
@@ -75,9 +70,7 @@ pub fn hoachulim_relay(
     ensures length { out.new ≡ length_or_place (relay_left plant.now table.now form buf.old).answer }
     ensures bytes { buf.new ≡ (relay_left plant.now table.now form buf.old).buffer }
 {
-    let told = form as usize;
-    let written = relays::relay(plant, table, told, buf);
-    shown::written(written, out)
+    shown::written(relays::relay(plant, table, form as usize, buf), out)
 }
 
 // One call of the controller: the mode, 65,535 where it is refused; out holds number, place and step of the refusal, then the next place and left.
@@ -95,18 +88,11 @@ pub fn hoachulim_control(
     ensures mode { result ≡ mode (answer_shown (controlled plant.now table.now (state_of place left) (x0 ∷ x1 ∷ x2 ∷ x3 ∷ []))) }
     ensures state { out.new ≡ number_and_state (answer_shown (controlled plant.now table.now (state_of place left) (x0 ∷ x1 ∷ x2 ∷ x3 ∷ []))) }
 {
-    let at = place as usize;
-    let more = left as usize;
-    let answer = control::control(
-        plant,
-        table,
-        State {
-            place: at,
-            left: more,
-        },
-        [x0, x1, x2, x3],
-    );
-    answers::answer(answer, out)
+    let state = State {
+        place: place as usize,
+        left: left as usize,
+    };
+    answers::answer(control::control(plant, table, state, [x0, x1, x2, x3]), out)
 }
 
 // A start file for a plant file: 0, or the number that they are refused by; out holds place and step.
@@ -114,8 +100,7 @@ pub fn hoachulim_start_check(plant: &[u8], start: &[u8], out: &mut [u64; 2]) -> 
     ensures number { result ≡ (verdict_shown (start_checked plant.now start.now)).number }
     ensures place { out.new ≡ place_and_step (verdict_shown (start_checked plant.now start.now)) }
 {
-    let verdict = start_checks::start_check(plant, start);
-    shown::verdict(verdict, out)
+    shown::verdict(start_checks::start_check(plant, start), out)
 }
 
 // The start file of a plant file and a chain, its tables of the form that is told, into a lent buffer: 0, or the number of the refusal; out holds the
@@ -131,9 +116,10 @@ pub fn hoachulim_start_make(
     ensures length { out.new ≡ length_or_place (start_left plant.now chain.now form buf.old).answer }
     ensures bytes { buf.new ≡ (start_left plant.now chain.now form buf.old).buffer }
 {
-    let told = form as usize;
-    let written = start_makes::start_make(plant, chain, told, buf);
-    shown::written(written, out)
+    shown::written(
+        start_makes::start_make(plant, chain, form as usize, buf),
+        out,
+    )
 }
 
 // One call of the controller on a start file: the mode, 65,535 where it is refused; out holds number, place and step of the refusal, then the next index,
@@ -153,20 +139,15 @@ pub fn hoachulim_start_control(
     ensures mode { result ≡ mode (start_answer_shown (start_controlled plant.now start.now (start_state_of index place left) (x0 ∷ x1 ∷ x2 ∷ x3 ∷ []))) }
     ensures state { out.new ≡ numbers_and_state (start_answer_shown (start_controlled plant.now start.now (start_state_of index place left) (x0 ∷ x1 ∷ x2 ∷ x3 ∷ []))) }
 {
-    let i = index as usize;
-    let at = place as usize;
-    let more = left as usize;
-    let answer = start_control::start_control(
-        plant,
-        start,
-        StartState {
-            index: i,
-            state: State {
-                place: at,
-                left: more,
-            },
+    let state = StartState {
+        index: index as usize,
+        state: State {
+            place: place as usize,
+            left: left as usize,
         },
-        [x0, x1, x2, x3],
-    );
-    answers::start_answer(answer, out)
+    };
+    answers::start_answer(
+        start_control::start_control(plant, start, state, [x0, x1, x2, x3]),
+        out,
+    )
 }

@@ -1,27 +1,25 @@
 // Verdicts and what a writer answers as numbers, the way C takes them. Relies on crates/meaning, page Refusals. Leaves out where they come from, and the
 // controller (answers).
 ghost use Rattle.std.specs.Prelude.{◌≡◌};
+ghost use Rattle.meaning.specs.Answers.{verdict_in};
 ghost use Rattle.meaning.specs.Refusals.{verdict_shown, written_shown};
 ghost use Rattle.face.specs.Shown.{place_and_step, length_or_place};
 
 use meaning::Refusal;
 
-// The number of a verdict; out holds place and step.
-pub fn verdict(v: Result<(), Refusal>, out: &mut [u64; 2]) -> u64
-    ensures number { result ≡ (verdict_shown v).number }
-    ensures place { out.new ≡ place_and_step (verdict_shown v) }
+// The number of a verdict, 0 of whatever was read; out holds place and step.
+pub fn verdict<T: Copy>(v: Result<T, Refusal>, out: &mut [u64; 2]) -> u64
+    ensures number { result ≡ (verdict_shown (verdict_in v)).number }
+    ensures place { out.new ≡ place_and_step (verdict_shown (verdict_in v)) }
 {
     match v {
-        Ok(()) => {
-            *out = [0u64; 2];
+        Ok(_) => {
+            *out = [0, 0];
             0
         }
         Err(e) => {
-            let number = e.number as u64;
-            let place = e.place as u64;
-            let step = e.step as u64;
-            *out = [place, step];
-            number
+            *out = [e.place as u64, e.step as u64];
+            e.number as u64
         }
     }
 }
@@ -36,6 +34,6 @@ pub fn written(w: Result<usize, Refusal>, out: &mut [u64; 2]) -> u64
             *out = [m as u64, 0];
             0
         }
-        Err(e) => verdict(Err(e), out),
+        Err(_) => verdict(w, out),
     }
 }

@@ -4,6 +4,7 @@
 #![tactic(auto)]
 
 ghost use Rattle.std.specs.Prelude.{◌≡◌, [], ◌∷◌};
+ghost use Rattle.meaning.specs.Answers.{verdict_in};
 ghost use Rattle.meaning.specs.Plants.{plant_read};
 ghost use Rattle.meaning.specs.Refusals.{verdict_shown, written_shown, answer_shown, start_answer_shown};
 ghost use Rattle.meaning.specs.Relays.{relay_left};
@@ -15,8 +16,8 @@ ghost use Rattle.face.specs.Shown.{place_and_step, length_or_place};
 
 #[unsafe(no_mangle)]
 pub extern "C" fn hoachulim_plant(plant: &[u8], out: &mut [u64; 2]) -> u64
-    ensures number { result ≡ (verdict_shown (plant_read plant.now).verdict).number }
-    ensures place { out.new ≡ place_and_step (verdict_shown (plant_read plant.now).verdict) }
+    ensures number { result ≡ (verdict_shown (verdict_in (plant_read plant.now))).number }
+    ensures place { out.new ≡ place_and_step (verdict_shown (verdict_in (plant_read plant.now))) }
 {
     face::hoachulim_plant(plant, out)
 }
