@@ -12,3 +12,7 @@ there None e q = never cc
 pub handed : {A B : Type 0} (o : Option A) (e : Refusal) {f : Refusal} {whole : Result B Refusal} → Err f ≡ ok_or o e → (o ≡ None → Err e ≡ whole) → Err f ≡ whole
 handed (Some b) e q told = never cc
 handed None e {f} q told = let z : f ≡ e = cc in rw z (told refl)
+
+pub nothing : {A : Type 0} (o : Option A) (e : Refusal) {f : Refusal} → Err f ≡ ok_or o e → (o ≡ None) × (f ≡ e)
+nothing (Some b) e q = never cc
+nothing None e {f} q = let z : f ≡ e = cc in (refl, z)
