@@ -1,8 +1,8 @@
 -- `start_makes::put_parts`: whoever writes the tables that are left has written them all. Assumes nothing.
-use Rattle.std.specs.Prelude.{Some, None, Ok, Err}
+use Rattle.std.specs.Prelude.{Some, None, Err}
 use Rattle.std.proofs.lemmas.Result.{err_from_is_err_and}
 use Prim.Native.Nat.{ℕ, ◌+◌, ◌-◌, ◌≤◌}
-use mathlib.Core.Path.{◌≡◌, refl, sym, ap, ◌∙◌, subst}
+use mathlib.Core.Path.{◌≡◌, refl, sym, ◌∙◌, subst}
 use mathlib.Core.List.{List}
 use native.Mathlib.Omega.{arith}
 use lib.ListN.{length}
@@ -10,7 +10,7 @@ use Rattle.meaning.specs.declared.Refusal.{Refusal}
 use Rattle.meaning.specs.Refusals.{no_table}
 use Rattle.meaning.specs.Starts.{tables_from}
 use Rattle.tables.specs.declared.frames.Frame.{Frame}
-use Rattle.tables.specs.Drafts.{Wrote, Grown, bytes_most}
+use Rattle.tables.specs.Drafts.{Wrote, bytes_most}
 use Rattle.tables.specs.Frames.{rules_in, PlantSound}
 use Rattle.tables.specs.StartMakes.{part_bytes, WroteParts, frames_rules, frames_tables}
 use Rattle.tables.proofs.refusals.Laws.{there, nothing}
