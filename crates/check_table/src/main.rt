@@ -15,7 +15,10 @@ use tables::{checks, start_checks};
 const USAGE: &str = "check_table PLANT TABLE | check_table start PLANT START";
 
 // Of the files that the words name.
-fn verdict<'a>(rt: &(impl Files + AllocGlobal), words: &'a [Word]) -> Result<Result<(), Refusal>, Fault<'a>> {
+fn verdict<'a>(
+    rt: &(impl Files + AllocGlobal),
+    words: &'a [Word],
+) -> Result<Result<(), Refusal>, Fault<'a>> {
     match words {
         [_, plant, table] => {
             let plant = papers::read(rt, plant, papers::PLANT)?;

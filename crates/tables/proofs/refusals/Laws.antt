@@ -9,6 +9,6 @@ module _ {A : Type 0} where
   there (Some b) e {a} q = let z : b ≡ a = cc in ap Some z
   there None e q = never cc
 
-  pub handed : (o : Option A) (e : Refusal) {f : Refusal} → Err f ≡ ok_or o e → (o ≡ None) × (f ≡ e)
-  handed (Some b) e q = never cc
-  handed None e q = (refl, cc)
+  pub nothing : (o : Option A) (e : Refusal) {f : Refusal} → Err f ≡ ok_or o e → (o ≡ None) × (f ≡ e)
+  nothing (Some b) e q = never cc
+  nothing None e q = (refl, cc)

@@ -34,7 +34,8 @@ use Rattle.tables.specs.declared.frames.Counts.{Counts}
 use Rattle.tables.specs.Lengths.{behind_at}
 use Rattle.tables.proofs.lengths.Laws.{behind_more}
 use Rattle.tables.specs.declared.turns.Size.{Size}
-use Rattle.tables.specs.Turns.{shapes, CountsSound, most_tree, TreeLies, TreesLie, SplitLies, Measured, length_if}
+use Rattle.tables.specs.declared.turns.Turned.{Turned}
+use Rattle.tables.specs.Turns.{shapes, CountsSound, most_tree, TreeLies, TreesLie, SplitLies, Measured, Turns, length_if}
 
 value_same : {k next j m : ℕ} → ◌≡◌ {A = Number} (Some (k, next)) (Some (j, m)) → (k ≡ j) × (next ≡ m)
 value_same e = (some-first e, some-second e)
@@ -276,6 +277,16 @@ module _ (f : Counts) (s : List ℕ) (d : ℕ) (bs : List (List Side)) (buf₀ :
             ap (lengths_of true) w.is ∙ last-length w.tree w.rest x.0
         go (no k) = let x = no-tree f false s d bs c place z.rest m (omega arith) z.lie in rw x.0 refl
 
+-- the next child as the code has it, its length written
+pub telling-kid : {f : Counts} {s : List ℕ} {d : ℕ} {bs : List (List Side)} {buf₀ : List ℕ} {to c place past : ℕ} {buf : List ℕ} {g : Forest} {m : ℕ} → Telling f s d bs buf₀ to c place past buf g m
+    → c + 1 < length bs → {kid : List Side} → kid ≡ get_or bs c [] → (x : Size) → Measured f s d kid place x → {next : ℕ} {out : List ℕ} → Put buf past (bytes_of x.size) next out
+    → Telling f s d bs buf₀ to (c + 1) x.behind next out g m
+telling-kid {f} {s} {d} {bs} {buf₀} {to} {c} {place} {past} {buf} {g} {m} z h k x w {next} {out} v =
+    let below : c < length bs = omega (arith, h) in
+    let n = next-tree f false s d bs c place z.rest m below z.lie in
+    let y = w n.tree n.behind (rw k n.lies) in
+    telling-more f s d bs buf₀ to c place past buf g m z below h x.behind x.size next out y.0 y.1 v
+
 -- the place behind lengths that are told
 pub told-behind : (f : Counts) (s : List ℕ) (d : ℕ) (bs : List (List Side)) (at first : ℕ) (g : Forest) (m : ℕ) → SplitLies f true s d bs at first g m
     → behind_at (length bs - 1) s at ≡ Ok first
@@ -312,6 +323,16 @@ module _ (f : Counts) (told : Bool) (s : List ℕ) (d : ℕ) (bs : List (List Si
         let w = no-tree f told s d bs c place z.rest m h z.lie in
         let e : layouts (not told) z.rest ≡ [] = ap (layouts (not told)) w.0 in
         (sym w.1, under-done (rw e at z.under))
+
+-- the next child as the code has it, written
+pub turning-kid : {f : Counts} {told : Bool} {s : List ℕ} {d : ℕ} {bs : List (List Side)} {buf₀ : List ℕ} {past₀ c place past : ℕ} {buf : List ℕ} {g : Forest} {m : ℕ}
+    → Turning f told s d bs buf₀ past₀ c place past buf g m → {count : ℕ} → count ≡ length bs → c < count → {kid : List Side} → kid ≡ get_or bs c [] → (x : Turned) {out : List ℕ}
+    → Turns f told s d kid place buf past x out → Turning f told s d bs buf₀ past₀ (c + 1) x.behind x.to out g m
+turning-kid {f} {told} {s} {d} {bs} {buf₀} {past₀} {c} {place} {past} {buf} {g} {m} z q h k x {out} w =
+    let below : c < length bs = omega (arith, q, h) in
+    let n = next-tree f told s d bs c place z.rest m below z.lie in
+    let y = w n.tree n.behind (rw k n.lies) in
+    turning-more f told s d bs buf₀ past₀ c place past buf g m z below x.behind x.to out y.0 y.1
 
 -- a split: its 0, its lengths where they are to be told, its trees
 pub split-turned : (told : Bool) (g : Forest) {buf : List ℕ} {to next : ℕ} {mid : List ℕ} {past₀ : ℕ} {behind : List ℕ} {past : ℕ} {out : List ℕ}

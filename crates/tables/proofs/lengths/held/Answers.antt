@@ -3,14 +3,14 @@ use Rattle.std.specs.Prelude.{Err}
 use Rattle.std.proofs.lemmas.Result.{err_from_is_err_and}
 use mathlib.Core.Path.{sym, ap, ◌∙◌}
 use Rattle.tables.proofs.lengths.Laws.{held-broken, held-before, held-other, held_same}
-use Rattle.tables.proofs.refusals.Laws.{there, handed}
+use Rattle.tables.proofs.refusals.Laws.{there, nothing}
 use Rattle.tables.proofs.lengths.held.Goals as goal
 
 pub returns-in_err-size : goal.returns-in_err-size
 returns-in_err-size c =
     let a = c.args in
     let p = err_from_is_err_and c.from_residual.result c.from_residual.ensures.1 in
-    let h = handed c.number.result c.broken.result c.in_err-size.ensures.value in
+    let h = nothing c.number.result c.broken.result c.in_err-size.ensures.value in
     rw (p.1, p.2, h.1) (ap Err c.broken.ensures ∙ held-broken a.told a.table.now a.at a.from a.end c.if-told.true (sym c.number.ensures ∙ h.0))
 
 pub returns-then-end-from : goal.returns-then-end-from
