@@ -1,6 +1,6 @@
 -- Laws of the tile that holds a reading, for the proofs of module finds: a node that is no split, at the rules of a frame in the terms of the code; and when a box
 -- holds a reading, for its callers too. A split is page Untold where lengths are not told, and page Told where they are. Assumes nothing.
-use Rattle.std.specs.Prelude.{Some, None, Ok, Err}
+use Rattle.std.specs.Prelude.{Some, None, Err}
 use Prim.Native.Nat.{ℕ, ◌≤◌, ◌<◌}
 use mathlib.Core.Path.{◌≡◌, sym, ap, ◌∙◌}
 use mathlib.Core.Bool.{true, false}
@@ -11,11 +11,8 @@ use lib.ListN.{length}
 use Rattle.laws.specs.Lists.{at, all, first_false}
 use Rattle.laws.specs.Tabs.{length-tab}
 use Rattle.laws.specs.Tests.{first-within, first-behind}
-use Rattle.meaning.specs.Answers.{Walk}
-use Rattle.meaning.specs.declared.Refusal.{Refusal}
 use Rattle.meaning.specs.Boxes.{Side, side_at, sides_of, fits}
 use Rattle.meaning.specs.Control.{tile_found, find}
-use Rattle.meaning.specs.Files.{Read}
 use Rattle.meaning.specs.Numbers.{number_at}
 use Rattle.meaning.specs.Refusals.{broken, bad_table}
 use Rattle.meaning.specs.Rules.{Rules}

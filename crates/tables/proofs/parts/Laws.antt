@@ -7,7 +7,7 @@ use mathlib.Core.List.{List}
 use native.Mathlib.Omega.{arith}
 use lib.Dec.{leb}
 use lib.ListN.{length, take, drop}
-use borrow.Author.Tests.{leb-true, le-leb, lt-leb}
+use borrow.Author.Tests.{leb-true, le-leb}
 use Rattle.laws.specs.Pairs.{ok-first, ok-second}
 use Rattle.laws.specs.Guards.{guard}
 use Rattle.laws.specs.Standing.{stand-within}

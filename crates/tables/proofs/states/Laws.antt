@@ -1,19 +1,14 @@
 -- Laws of a state for the proofs of module states: each test that fails alone, and all of them together; the mode at a place with none left, one, and
 -- more. Assumes nothing.
 use Rattle.std.specs.Prelude.{Some, None, Ok, Err}
-use Prim.Native.Nat.{ℕ, zero, suc, ◌-◌, ◌≤◌, ◌<◌}
-use mathlib.Core.Path.{◌≡◌, refl, sym, ap, ◌∙◌}
+use Prim.Native.Nat.{ℕ, zero, suc, ◌-◌}
+use mathlib.Core.Path.{◌≡◌, refl}
 use mathlib.Core.Bool.{Bool, true, false, ◌&&◌}
 use mathlib.Core.List.{List}
 use native.Mathlib.Omega.{arith}
-use lib.Dec.{leb}
-use borrow.Author.Tests.{le-leb, lt-leb}
-use Rattle.meaning.specs.Answers.{Walk}
-use Rattle.meaning.specs.declared.Refusal.{Refusal}
-use Rattle.meaning.specs.Control.{idle, are_read, can_run, mode_at}
+use Rattle.meaning.specs.Control.{idle, mode_at}
 use Rattle.meaning.specs.Numbers.{number_at}
 use Rattle.meaning.specs.Refusals.{bad_state}
-use Rattle.meaning.specs.Verdicts.{modes_at}
 
 and-false : (t : Bool) → (t && false) ≡ false
 and-false true = refl

@@ -24,7 +24,7 @@ use Rattle.meaning.specs.Refusals.{broken, bad_table}
 use Rattle.meaning.specs.Rules as R
 use Rattle.meaning.specs.Rules.{on_safe, rule_from}
 use Rattle.meaning.specs.Trees.{tells}
-use Rattle.meaning.specs.Verdicts.{Length, length_at, on_tried, on_modes, on_read, lengths_at, lengths_by, each, modes_at}
+use Rattle.meaning.specs.Verdicts.{Length, length_at, on_modes, on_read, lengths_at, lengths_by, each, modes_at}
 use Rattle.meaning.specs.Tables.{children_by}
 use Rattle.promises.specs.Tables.Walking.{lengths_count, lengths-by, each-done, each_more, each-held, each-wrong, each-refused, walk-broken, walk-deep, walk-stuck, walk_split, walk-over, walk-tile}
 use Rattle.tables.specs.declared.frames.Frame.{Frame}
