@@ -31,15 +31,11 @@ pub struct Chain {
 fn read_head(s: &[u8]) -> Result<(usize, usize), Refusal>
     ensures { HeadTold s.now result }
 {
-    let Some((form, at)) = numbers::number(s, 0) else {
-        return Err(files::refusals::broken(0));
-    };
+    let (form, at) = numbers::number(s, 0).ok_or(files::refusals::broken(0))?;
     if form != 1 {
         return Err(files::refusals::wrong_form());
     }
-    let Some((m, next)) = numbers::number(s, at) else {
-        return Err(files::refusals::broken(at));
-    };
+    let (m, next) = numbers::number(s, at).ok_or(files::refusals::broken(at))?;
     if ABOVE < m {
         return Err(files::refusals::unfit(at));
     }

@@ -34,10 +34,7 @@ pub struct Turned {
 fn passed(k: usize, table: &[u8], at: usize) -> usize
     ensures { Passed k table.now at result }
 {
-    match lengths::behind(k, table, at) {
-        Ok(m) => m,
-        Err(_) => at,
-    }
+    lengths::behind(k, table, at).unwrap_or(at)
 }
 
 // How many bytes a length takes, where it is told.
@@ -58,10 +55,7 @@ fn sized(f: Counts, table: &[u8], d: usize, b: Bx, at: usize) -> Size
     ensures { Measured f table.now d (box_of f.n b) at result }
 {
     let Some((k, next)) = numbers::number(table, at) else {
-        return Size {
-            behind: at,
-            size: 0,
-        };
+        unreachable!();
     };
     if 0 < k {
         let behind = passed(k, table, next);
@@ -73,12 +67,10 @@ fn sized(f: Counts, table: &[u8], d: usize, b: Bx, at: usize) -> Size
     let count = boxes::count(f.form, f.n, b);
     let mut place = next;
     let mut size: usize = 1;
-    let mut c: usize = 0;
-    while c < count {
+    for c in 0..count {
         let child = boxes::child(f.form, f.n, b, c);
         let kid = sized(f, table, d - 1, child, place);
-        c += 1;
-        let told = long(c < count, kid.size);
+        let told = long(c + 1 < count, kid.size);
         size += kid.size + told;
         place = kid.behind;
     }
@@ -99,20 +91,18 @@ fn tell(
     buf: &mut [u8],
     to: usize,
 ) -> usize
-    requires counts { CountsSound f × Small edge_limit (box_of f.n b) × (count ≡ length (children_by f.form (box_of f.n b))) }
+    requires counts { CountsSound f × Small edge_limit (box_of f.n b) × (count ≡ length (children_by f.form (box_of f.n b))) × (1 ≤ count) }
     requires trees { SomeTrees f false table.now d (children_by f.form (box_of f.n b)) at }
     requires place { to ≤ length buf.old + 1 }
     ensures { Told f table.now d (children_by f.form (box_of f.n b)) at buf.old to result buf.new }
 {
     let mut place = at;
     let mut past = to;
-    let mut c: usize = 0;
-    while c + 1 < count {
+    for c in 0..count - 1 {
         let child = boxes::child(f.form, f.n, b, c);
         let kid = sized(f, table, d, child, place);
         past = numbers::put_number(buf, past, kid.size);
         place = kid.behind;
-        c += 1;
     }
     past
 }
@@ -143,13 +133,14 @@ fn between(
     ensures { Between f told table.now d (children_by f.form (box_of f.n b)) at buf.old to result buf.new }
 {
     if told {
-        let behind = passed(count - 1, table, at);
-        return Turned { behind, to };
+        return Turned {
+            behind: passed(count - 1, table, at),
+            to,
+        };
     }
-    let past = tell(f, table, d, b, count, at, buf, to);
     Turned {
         behind: at,
-        to: past,
+        to: tell(f, table, d, b, count, at, buf, to),
     }
 }
 
@@ -168,7 +159,7 @@ fn turn(
     ensures { Turns f told table.now d (box_of f.n b) at buf.old to result buf.new }
 {
     let Some((k, next)) = numbers::number(table, at) else {
-        return Turned { behind: at, to };
+        unreachable!();
     };
     if 0 < k {
         let behind = passed(k, table, next);
@@ -176,17 +167,16 @@ fn turn(
         return Turned { behind, to: past };
     }
     let count = boxes::count(f.form, f.n, b);
+    let below = d - 1;
     let zero = numbers::put_number(buf, to, 0);
-    let first = between(f, told, table, d - 1, b, count, next, buf, zero);
+    let first = between(f, told, table, below, b, count, next, buf, zero);
     let mut place = first.behind;
     let mut past = first.to;
-    let mut c: usize = 0;
-    while c < count {
+    for c in 0..count {
         let child = boxes::child(f.form, f.n, b, c);
-        let kid = turn(f, told, table, d - 1, child, place, buf, past);
+        let kid = turn(f, told, table, below, child, place, buf, past);
         place = kid.behind;
         past = kid.to;
-        c += 1;
     }
     Turned {
         behind: place,
@@ -209,13 +199,12 @@ pub fn put_table(
     let depth = frames::depth(f.form, f.n, f.d);
     let past_form = numbers::put_number(buf, at, form);
     let past_rooms = numbers::put_number(buf, past_form, f.n);
-    let root = f.root;
     let turned = turn(
         frames::counts_of(f),
         told,
         table,
         depth,
-        root,
+        f.root,
         2,
         buf,
         past_rooms,
@@ -229,8 +218,7 @@ pub fn table_size(f: Frame, table: &[u8]) -> usize
     ensures { TableSized f table.now result }
 {
     let depth = frames::depth(f.form, f.n, f.d);
-    let root = f.root;
-    let tree = sized(frames::counts_of(f), table, depth, root, 2);
+    let tree = sized(frames::counts_of(f), table, depth, f.root, 2);
     2 + tree.size
 }
 

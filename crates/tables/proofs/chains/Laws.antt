@@ -5,19 +5,18 @@ use mathlib.Core.Path.{◌≡◌, refl, sym, ap, ◌∙◌, subst}
 use mathlib.Core.Bool.{Bool, true, false, ◌&&◌}
 use mathlib.Core.List.{List, [], ◌∷◌, ◌++◌}
 use native.Mathlib.Omega.{arith}
-use native.Mathlib.Decide.{ℕ_discrete}
 use native.Mathlib.Numerals.{add-one}
 use native.Mathlib.Nat.{zero-add, mul-le-mul, le_refl}
 use borrow.Author.Tests.{leb-true}
 use lib.Dec.{leb}
 use lib.IntN.{ℤ, pos, neg_ℤ}
-use lib.ListN.{length, drop, set, replicate}
+use lib.ListN.{length, drop, replicate}
 use lib.Seq.{get_or-drop}
 use lib.Signed.{◌≤ℤ◌}
 use Rattle.laws.specs.Integers as Z
 use Rattle.laws.specs.Integers.{zarith}
 use Rattle.laws.specs.Lists.{at, tab, padded, all, first_false}
-use Rattle.laws.specs.Tabs.{padded-at, tab-same, Filled, filled_none, filled_more, filled-padded, at-below, at_stored}
+use Rattle.laws.specs.Tabs.{padded-at, tab-same, Filled, filled_none, filled-padded}
 use Rattle.laws.specs.Tests.{never, second, orders, all-tab}
 use Rattle.meaning.specs.declared.Refusal.{Refusal}
 use Rattle.meaning.specs.Boxes.{Side, side, side_at, within}
@@ -103,25 +102,11 @@ pub record TakenOut (edges : List ℤ) (from j : ℕ) (out : List ℤ) : Type 0 
   pub filled : Filled 4 j out
   pub same : (k : ℕ) → k < j → at out k ≡ at edges (from + 2 * k)
 
-pub none_out : (edges : List ℤ) (from : ℕ) → TakenOut edges from 0 (replicate 4 (pos 0))
-none_out edges from = record { filled = filled_none 4; same = λ k h. absurd (omega arith) }
-
 module _ {edges : List ℤ} {from j : ℕ} {out : List ℤ} (w : TakenOut edges from j out) where
-  pub more-out : (v : ℤ) → j < 4 → v ≡ at edges (from + 2 * j) → TakenOut edges from (j + 1) (set out j v)
-  more-out v h e = record { filled = filled_more v w.filled; same = λ k l. go k l (ℕ_discrete k j) }
-    where
-      go : (k : ℕ) → k < j + 1 → Dec (k ≡ j) → at (set out j v) k ≡ at edges (from + 2 * k)
-      go k l (yes d) = rw d (at_stored out j v (omega (arith, w.filled.size)) ∙ e)
-      go k l (no d) = let m : k < j = omega arith in at-below out j v k m ∙ w.same k m
-
   pub all-out : j ≤ 4 → out ≡ column edges from 2 j
   all-out h =
       sym (filled-padded w.filled h)
       ∙ ap (padded 4 (pos 0)) (tab-same (at out) (λ k. at edges (from + 2 * k)) j 0 (λ k a b. w.same k (omega arith)))
-
--- the place of a box's edges
-pub few-edges : (i n : ℕ) → i < most_above → n ≤ 4 → i * n ≤ 28
-few-edges i n h l = let k : i ≤ 7 = omega arith in mul-le-mul k l
 
 -- ---- values that were read: m is at most 8, and each side of each box is in its range
 

@@ -25,7 +25,6 @@ use Rattle.meaning.specs.Refusals.{broken, wrong_form, unfit, not_held}
 use Rattle.meaning.specs.Starts.{chain_form, box_at, held, on_chain}
 use Rattle.files.specs.Parts.{behind, behind-read, behind-refused, Fails, holds-last, Rows, rows_none, rows_more, rows-fails, rows_all}
 use Rattle.files.specs.Spans.{span_in, Spanned}
-use Rattle.tables.specs.declared.chains.Chain.{Chain}
 use Rattle.tables.specs.declared.frames.Frame.{Frame}
 use Rattle.tables.specs.Boxes.{box_of}
 use Rattle.tables.specs.Chains.{ChainRead, most_above, most_edges, edges_above, values_in, no_chain, chain_with, chain_values, chain_read, Headed, EdgesRead}

@@ -33,7 +33,9 @@ use Rattle.promises.specs.Tables.Layouts.{overs-count}
 use Rattle.tables.specs.declared.frames.Counts.{Counts}
 use Rattle.tables.specs.Lengths.{behind_at}
 use Rattle.tables.proofs.lengths.Laws.{behind_more}
-use Rattle.tables.specs.Turns.{shapes, CountsSound, most_tree, TreeLies, TreesLie, SplitLies, length_if}
+use Rattle.tables.specs.declared.turns.Size.{Size}
+use Rattle.tables.specs.declared.turns.Turned.{Turned}
+use Rattle.tables.specs.Turns.{shapes, CountsSound, most_tree, TreeLies, TreesLie, SplitLies, Measured, Turns, length_if}
 
 value_same : {k next j m : ℕ} → ◌≡◌ {A = Number} (Some (k, next)) (Some (j, m)) → (k ≡ j) × (next ≡ m)
 value_same e = (some-first e, some-second e)
@@ -53,17 +55,20 @@ modes-behind N small (u ∷ us) s at m h p =
 
 -- ---- a node by its number
 
-module _ (f : Counts) (told : Bool) (s : List ℕ) (d : ℕ) (b : List Side) (at : ℕ) (sound : CountsSound f) where
-  -- a tile's number, and a split's
-  tile-number : (us : List ℕ) (m : ℕ) → Pattern f.k f.modes us → Stands s at (bytes_of (length us) ++ modes_bytes us) m
-      → number_at s at ≡ Some (length us, at + length (bytes_of (length us)))
-  tile-number us m g p =
-      reads (length us) at (at + length (bytes_of (length us))) s (omega (arith, g.few, sound.1)) (stand-front (bytes_of (length us)) (modes_bytes us) p)
+tile-number : (f : Counts) → CountsSound f → (s : List ℕ) (at : ℕ) (us : List ℕ) (m : ℕ) → Pattern f.k f.modes us → Stands s at (bytes_of (length us) ++ modes_bytes us) m
+    → number_at s at ≡ Some (length us, at + length (bytes_of (length us)))
+tile-number f sound s at us m g p =
+    reads (length us) at (at + length (bytes_of (length us))) s (omega (arith, g.few, sound.1)) (stand-front (bytes_of (length us)) (modes_bytes us) p)
 
-  pub lies-read : (t : Tree) (m : ℕ) → TreeLies f told s d b at t m → number_at s at ≡ None → ⊥
+some-children : (bs : List (List Side)) → (bs ≡ [] → ⊥) → 1 ≤ length bs
+some-children [] z = absurd (z refl)
+some-children (c ∷ cs) z = omega arith
+
+module _ {f : Counts} {told : Bool} {s : List ℕ} {d : ℕ} {b : List Side} {at : ℕ} (sound : CountsSound f) where
+  pub lies-read : {t : Tree} {m : ℕ} → TreeLies f told s d b at t m → number_at s at ≡ None → ⊥
   unfolding layout Over
-  lies-read (tile us) m l e = let q = sym e ∙ tile-number us m l.over l.stand in never cc
-  lies-read (split g) m l e = let q = sym e ∙ split-read _ s at m l.stand in never cc
+  lies-read {t = tile us} {m} l e = let q = sym e ∙ tile-number f sound s at us m l.over l.stand in never cc
+  lies-read {t = split g} {m} l e = let q = sym e ∙ split-read _ s at m l.stand in never cc
 
   module _ (k next : ℕ) (t : Tree) (m : ℕ) (l : TreeLies f told s d b at t m) where
     pub record WasTile : Type 0 where
@@ -82,11 +87,11 @@ module _ (f : Counts) (told : Bool) (s : List ℕ) (d : ℕ) (b : List Side) (at
       pub first : ℕ
       pub lie : SplitLies f told s (d - 1) (children_by f.form b) next first trees m
 
-  pub was-tile : (k next : ℕ) → number_at s at ≡ Some (k, next) → (t : Tree) (m : ℕ) (l : TreeLies f told s d b at t m) → 0 < k → WasTile k next t m l
+  pub was-tile : {k next : ℕ} → number_at s at ≡ Some (k, next) → {t : Tree} {m : ℕ} (l : TreeLies f told s d b at t m) → 0 < k → WasTile k next t m l
   unfolding layout Over
-  was-tile k next e (split g) m l z = let q = value_same (sym e ∙ split-read _ s at m l.stand) in absurd (omega (arith, q.0))
-  was-tile k next e (tile us) m l z =
-      let q = value_same (sym e ∙ tile-number us m l.over l.stand) in
+  was-tile {k} {next} e {t = split g} {m} l z = let q = value_same (sym e ∙ split-read _ s at m l.stand) in absurd (omega (arith, q.0))
+  was-tile {k} {next} e {t = tile us} {m} l z =
+      let q = value_same (sym e ∙ tile-number f sound s at us m l.over l.stand) in
       record {
         modes = us;
         is = refl;
@@ -95,16 +100,12 @@ module _ (f : Counts) (told : Bool) (s : List ℕ) (d : ℕ) (b : List Side) (at
             (stand-back (bytes_of (length us)) (modes_bytes us) l.stand));
       }
 
-  some-children : (bs : List (List Side)) → (bs ≡ [] → ⊥) → 1 ≤ length bs
-  some-children [] z = absurd (z refl)
-  some-children (c ∷ cs) z = omega arith
-
-  pub was-split : (k next : ℕ) → number_at s at ≡ Some (k, next) → (t : Tree) (m : ℕ) (l : TreeLies f told s d b at t m) → k ≤ 0 → WasSplit k next t m l
+  pub was-split : {k next : ℕ} → number_at s at ≡ Some (k, next) → {t : Tree} {m : ℕ} (l : TreeLies f told s d b at t m) → k ≤ 0 → WasSplit k next t m l
   unfolding layout Over
-  was-split k next e (tile us) m l z =
-      let q = value_same (sym e ∙ tile-number us m l.over l.stand) in
+  was-split {k} {next} e {t = tile us} {m} l z =
+      let q = value_same (sym e ∙ tile-number f sound s at us m l.over l.stand) in
       absurd (omega (arith, z, q.0, l.over.some))
-  was-split k next e (split g) m l z = go d refl l.over
+  was-split {k} {next} e {t = split g} {m} l z = go d refl l.over
     where
       q : next ≡ at + length (bytes_of 0)
       q = (value_same (sym e ∙ split-read _ s at m l.stand)).1
@@ -224,6 +225,16 @@ module _ (f : Counts) (s : List ℕ) (d : ℕ) (bs : List (List Side)) where
         let sum : size + (length (lengths_of true leaf) + length (layouts true leaf)) ≡ length (layout true t) = rw w.0 at z.sum in
         (sym w.1, omega (arith, sum))
 
+-- the next child as the code has it, its size and that of its length counted
+pub sizing-kid : {f : Counts} {s : List ℕ} {d : ℕ} {bs : List (List Side)} {c place size : ℕ} {t : Tree} {m : ℕ} → Sizing f s d bs c place size t m → {count : ℕ} → count ≡ length bs → c < count
+    → {kid : List Side} → kid ≡ get_or bs c [] → (x : Size) → Measured f s d kid place x → {told : ℕ} → told ≡ length_if (ltb (c + 1) count) x.size
+    → Sizing f s d bs (c + 1) x.behind (size + (x.size + told)) t m
+sizing-kid {f} {s} {d} {bs} {c} {place} {size} {t} {m} z q h k x w e =
+    let below : c < length bs = omega (arith, q, h) in
+    let n = next-tree f false s d bs c place z.rest m below z.lie in
+    let y = w n.tree n.behind (rw k n.lies) in
+    rw (e, q) (sizing-more f s d bs c place size t m z below x.behind x.size y.0 y.1)
+
 -- one that another is behind
 first-length : (t : Tree) (g : Forest) (u : Tree) (h : Forest) → g ≡ more u h → lengths_of true (more t g) ≡ bytes_of (length (layout true t)) ++ lengths_of true g
 unfolding layout
@@ -266,6 +277,16 @@ module _ (f : Counts) (s : List ℕ) (d : ℕ) (bs : List (List Side)) (buf₀ :
             ap (lengths_of true) w.is ∙ last-length w.tree w.rest x.0
         go (no k) = let x = no-tree f false s d bs c place z.rest m (omega arith) z.lie in rw x.0 refl
 
+-- the next child as the code has it, its length written
+pub telling-kid : {f : Counts} {s : List ℕ} {d : ℕ} {bs : List (List Side)} {buf₀ : List ℕ} {to c place past : ℕ} {buf : List ℕ} {g : Forest} {m : ℕ} → Telling f s d bs buf₀ to c place past buf g m
+    → c + 1 < length bs → {kid : List Side} → kid ≡ get_or bs c [] → (x : Size) → Measured f s d kid place x → {next : ℕ} {out : List ℕ} → Put buf past (bytes_of x.size) next out
+    → Telling f s d bs buf₀ to (c + 1) x.behind next out g m
+telling-kid {f} {s} {d} {bs} {buf₀} {to} {c} {place} {past} {buf} {g} {m} z h k x w {next} {out} v =
+    let below : c < length bs = omega (arith, h) in
+    let n = next-tree f false s d bs c place z.rest m below z.lie in
+    let y = w n.tree n.behind (rw k n.lies) in
+    telling-more f s d bs buf₀ to c place past buf g m z below h x.behind x.size next out y.0 y.1 v
+
 -- the place behind lengths that are told
 pub told-behind : (f : Counts) (s : List ℕ) (d : ℕ) (bs : List (List Side)) (at first : ℕ) (g : Forest) (m : ℕ) → SplitLies f true s d bs at first g m
     → behind_at (length bs - 1) s at ≡ Ok first
@@ -302,6 +323,16 @@ module _ (f : Counts) (told : Bool) (s : List ℕ) (d : ℕ) (bs : List (List Si
         let w = no-tree f told s d bs c place z.rest m h z.lie in
         let e : layouts (not told) z.rest ≡ [] = ap (layouts (not told)) w.0 in
         (sym w.1, under-done (rw e at z.under))
+
+-- the next child as the code has it, written
+pub turning-kid : {f : Counts} {told : Bool} {s : List ℕ} {d : ℕ} {bs : List (List Side)} {buf₀ : List ℕ} {past₀ c place past : ℕ} {buf : List ℕ} {g : Forest} {m : ℕ}
+    → Turning f told s d bs buf₀ past₀ c place past buf g m → {count : ℕ} → count ≡ length bs → c < count → {kid : List Side} → kid ≡ get_or bs c [] → (x : Turned) {out : List ℕ}
+    → Turns f told s d kid place buf past x out → Turning f told s d bs buf₀ past₀ (c + 1) x.behind x.to out g m
+turning-kid {f} {told} {s} {d} {bs} {buf₀} {past₀} {c} {place} {past} {buf} {g} {m} z q h k x {out} w =
+    let below : c < length bs = omega (arith, q, h) in
+    let n = next-tree f told s d bs c place z.rest m below z.lie in
+    let y = w n.tree n.behind (rw k n.lies) in
+    turning-more f told s d bs buf₀ past₀ c place past buf g m z below x.behind x.to out y.0 y.1
 
 -- a split: its 0, its lengths where they are to be told, its trees
 pub split-turned : (told : Bool) (g : Forest) {buf : List ℕ} {to next : ℕ} {mid : List ℕ} {past₀ : ℕ} {behind : List ℕ} {past : ℕ} {out : List ℕ}

@@ -1,5 +1,5 @@
 -- `chains::box_on` takes a box out of the edges, side by side. Assumes nothing.
-use Prim.Native.Nat.{◌*◌, ◌-◌, ◌≤◌, ◌+◌}
+use Prim.Native.Nat.{◌*◌, ◌+◌}
 use Rattle.tables.proofs.chains.Laws.{TakenOut}
 use Rattle.tables.proofs.chains.box_on.Given as goal
 

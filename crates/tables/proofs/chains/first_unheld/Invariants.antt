@@ -1,5 +1,4 @@
 -- `chains::first_unheld`: the first i boxes keep, and the last of them is at hand. Assumes nothing.
-use Prim.Native.Nat.{◌-◌}
 use mathlib.Core.Path.{◌≡◌}
 use Rattle.laws.specs.Tests.{HoldUpTo}
 use Rattle.meaning.specs.Starts.{box_at, held}

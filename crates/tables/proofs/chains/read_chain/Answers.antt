@@ -1,10 +1,9 @@
 -- `chains::read_chain`: head, edges, bytes left over, 15. Each return cites the law of the part that it stops at. Assumes nothing.
 use Prim.Native.Nat.{◌*◌}
-use mathlib.Core.Path.{◌≡◌, refl, sym, ap, ◌∙◌, subst}
-use native.Mathlib.Omega.{arith}
+use mathlib.Core.Path.{sym, ap, ◌∙◌, subst}
 use Rattle.std.proofs.lemmas.Result.{err_from_is_err_and}
 use Rattle.tables.specs.Chains.{no_chain, HeadTold, EdgesTold}
-use Rattle.tables.proofs.chains.Reading.{few-sides, head-stopped, edges-stopped, over-told, not-kept, taken}
+use Rattle.tables.proofs.chains.Reading.{head-stopped, edges-stopped, over-told, not-kept, taken}
 use Rattle.tables.proofs.chains.read_chain.Goals as goal
 
 pub returns-in_err-m : goal.returns-in_err-m

@@ -1,5 +1,5 @@
 -- `chains::read_edges` reads the boxes' sides one by one. Assumes nothing.
-use mathlib.Core.Path.{sym, subst, ◌∙◌}
+use mathlib.Core.Path.{subst}
 use native.Mathlib.Omega.{arith}
 use lib.IntN.{pos, negsuc}
 use mir.Syntax.{w64}

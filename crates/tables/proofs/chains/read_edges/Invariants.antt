@@ -1,5 +1,4 @@
 -- `chains::read_edges` reads the boxes' sides one by one. Assumes nothing.
-use Prim.Native.Nat.{◌-◌}
 use Rattle.tables.proofs.chains.Reading.{EdgesUpTo}
 use Rattle.tables.proofs.chains.read_edges.Given as goal
 

@@ -4,7 +4,7 @@ use mathlib.Core.Path.{refl, sym, ap, ◌∙◌}
 use native.Mathlib.Omega.{arith}
 use Rattle.meaning.specs.Files.{refused}
 use Rattle.tables.proofs.modes.Laws.{modes-none, modes-all, modes-end, modes-past, modes-next}
-use Rattle.tables.proofs.refusals.Laws.{there, handed}
+use Rattle.tables.proofs.refusals.Laws.{there, nothing}
 use Rattle.tables.proofs.modes.read_modes.Goals as goal
 
 pub loop-i-init : goal.loop-i-init
@@ -15,7 +15,7 @@ returns-in_err-u c =
     let a = c.args in
     let l = c.loop-i in
     let p = err_from_is_err_and c.from_residual.result c.from_residual.ensures.1 in
-    let h = handed c.number.result c.broken.result c.in_err-u.ensures.value in
+    let h = nothing c.number.result c.broken.result c.in_err-u.ensures.value in
     rw (p.1, p.2, h.1) (ap refused c.broken.ensures ∙ modes-end a.modes a.k a.table.now a.at l.i l.w l.us l.invariant (omega arith) (sym c.number.ensures ∙ h.0))
 
 pub returns-then-modes-u : goal.returns-then-modes-u

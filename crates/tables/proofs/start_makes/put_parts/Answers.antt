@@ -1,11 +1,8 @@
 -- `start_makes::put_parts`: whoever writes the tables that are left has written them all. Assumes nothing.
-use Rattle.std.specs.Prelude.{Some, None, Ok, Err}
-use Rattle.std.specs.Option.{ok_or}
+use Rattle.std.specs.Prelude.{Some, None, Err}
 use Rattle.std.proofs.lemmas.Result.{err_from_is_err_and}
-use Rattle.laws.specs.Tests.{never}
-use Rattle.meaning.specs.Answers.{Walk}
 use Prim.Native.Nat.{ℕ, ◌+◌, ◌-◌, ◌≤◌}
-use mathlib.Core.Path.{◌≡◌, refl, sym, ap, ◌∙◌, subst}
+use mathlib.Core.Path.{◌≡◌, refl, sym, ◌∙◌, subst}
 use mathlib.Core.List.{List}
 use native.Mathlib.Omega.{arith}
 use lib.ListN.{length}
@@ -13,20 +10,12 @@ use Rattle.meaning.specs.declared.Refusal.{Refusal}
 use Rattle.meaning.specs.Refusals.{no_table}
 use Rattle.meaning.specs.Starts.{tables_from}
 use Rattle.tables.specs.declared.frames.Frame.{Frame}
-use Rattle.tables.specs.Drafts.{Wrote, Grown, bytes_most}
+use Rattle.tables.specs.Drafts.{Wrote, bytes_most}
 use Rattle.tables.specs.Frames.{rules_in, PlantSound}
 use Rattle.tables.specs.StartMakes.{part_bytes, WroteParts, frames_rules, frames_tables}
+use Rattle.tables.proofs.refusals.Laws.{there, nothing}
 use Rattle.tables.proofs.start_makes.Laws.{Going, parts-begin, parts-done, parts-stopped, parts_more}
 use Rattle.tables.proofs.start_makes.put_parts.Goals as goal
-
--- what an Option with an error in place of None was
-none_of : (o : Grown) (e : Refusal) (x : Walk) → x ≡ ok_or o e → (f : Refusal) → x ≡ Err f → (o ≡ None) × (f ≡ e)
-none_of (Some m) e x v f z = never cc
-none_of None e x v f z = (refl, cc)
-
-some_of : (o : Grown) (e : Refusal) (x : Walk) → x ≡ ok_or o e → (m : ℕ) → x ≡ Ok m → o ≡ Some m
-some_of (Some n) e x v m z = let same : n ≡ m = cc in ap Some same
-some_of None e x v m z = never cc
 
 pub loop-i-init : goal.loop-i-init
 loop-i-init c =
@@ -48,7 +37,7 @@ returns-in_err-place c =
     let wrote : let l = c.loop-i in Wrote (part_bytes (frames_rules c.args.f c.args.bands.now c.args.coef.now c.args.edges.now l.i)) l.buf l.place c.put_part.result left = let l = c.loop-i in subst (λ (f : Frame). Wrote (part_bytes (rules_in f c.args.bands.now c.args.coef.now)) l.buf l.place c.put_part.result left) c.frame_at-own.ensures c.put_part.ensures in
     let stopped : c.put_part.result ≡ None → (e : Refusal) → e ≡ no_table c.loop-i.i → WroteParts (frames_tables c.args.f c.args.bands.now c.args.coef.now c.args.edges.now c.args.m) c.args.buf.now c.args.at (Err e) left = λ z. λ e. λ q. let l = c.loop-i in let a = c.args in parts-stopped (frames_rules a.f a.bands.now a.coef.now a.edges.now) a.m l.i a.buf.now a.at (frames_tables a.f a.bands.now a.coef.now a.edges.now a.m) l.place l.buf l.invariant.1 (omega (arith, c.loop-i-test.true)) c.put_part.result left wrote z e q in
     let x = err_from_is_err_and c.from_residual.result c.from_residual.ensures.1 in
-    let k = none_of c.put_part.result c.no_table.result c.ok_or.result c.ok_or.ensures.value c.in_err-place.field-0.0 c.in_err-place.was in
+    let k = nothing c.put_part.result c.no_table.result c.in_err-place.ensures.value in
     rw x.1 (stopped k.0 x.0 (x.2 ∙ k.1 ∙ c.no_table.ensures))
 
 pub loop-i-preserved : goal.loop-i-preserved
@@ -57,7 +46,7 @@ loop-i-preserved c =
     let wrote : let l = c.loop-i in Wrote (part_bytes (frames_rules c.args.f c.args.bands.now c.args.coef.now c.args.edges.now l.i)) l.buf l.place c.put_part.result left = let l = c.loop-i in subst (λ (f : Frame). Wrote (part_bytes (rules_in f c.args.bands.now c.args.coef.now)) l.buf l.place c.put_part.result left) c.frame_at-own.ensures c.put_part.ensures in
     let goes_on : (next : ℕ) → c.put_part.result ≡ Some next → let i = c.loop-i.i in Going c.args.buf.now c.args.at (frames_tables c.args.f c.args.bands.now c.args.coef.now c.args.edges.now c.args.m) (tables_from (frames_rules c.args.f c.args.bands.now c.args.coef.now c.args.edges.now) (c.args.m + 1 - (i + 1)) (i + 1)) next left = λ next. λ z. let l = c.loop-i in let a = c.args in parts_more (frames_rules a.f a.bands.now a.coef.now a.edges.now) a.m l.i a.buf.now a.at (frames_tables a.f a.bands.now a.coef.now a.edges.now a.m) l.place l.buf l.invariant.1 (omega (arith, c.loop-i-test.true)) c.put_part.result left wrote next z in
     let h = c.loop-i-test.true in
-    (c.put_part.auto.draft ∙ c.loop-i.invariant.0, goes_on c.in_ok-place.place (some_of c.put_part.result c.no_table.result c.ok_or.result c.ok_or.ensures.value c.in_ok-place.place c.in_ok-place.was))
+    (c.put_part.auto.draft ∙ c.loop-i.invariant.0, goes_on c.in_ok-place.place (there c.put_part.result c.no_table.result c.in_ok-place.ensures.value))
 
 pub returns : goal.returns
 returns c =

@@ -1,5 +1,5 @@
 -- `start_makes::put_parts`: whoever writes the tables that are left has written them all. Assumes nothing.
-use Prim.Native.Nat.{◌+◌, ◌-◌, ◌≤◌}
+use Prim.Native.Nat.{◌+◌, ◌-◌}
 use mathlib.Core.Path.{◌≡◌}
 use lib.ListN.{length}
 use Rattle.meaning.specs.Starts.{tables_from}

@@ -5,11 +5,6 @@ use Rattle.tables.specs.Frames.{FrameSound}
 use Rattle.tables.proofs.drafts.Laws.{room_most, room-long, room-few}
 use Rattle.tables.proofs.start_makes.write_start_own.Goals as goal
 
-pub overflow_mul-f : goal.overflow_mul-f
-overflow_mul-f c =
-    let first : FrameSound (frame_at c.args.f c.args.edges.now 0) = (c.requires.1 0 (omega arith)).0 in
-    omega (arith, first.tiles)
-
 pub write_start-requires-clause-room : goal.write_start-requires-clause-room
 write_start-requires-clause-room c = room_most _ (c.requires.1 0 (omega arith)).0
 

@@ -1,81 +1,41 @@
 -- `turns::tell`: in the loop over the children, the lengths that are left are of the trees that are left. Assumes nothing.
-use Prim.Native.Nat.{ℕ, ◌+◌, ◌<◌}
+use Prim.Native.Nat.{◌+◌, ◌<◌}
 use mathlib.Core.Bool.{false}
-use mathlib.Core.List.{List}
 use native.Mathlib.Omega.{arith}
 use lib.ListN.{length}
-use Rattle.laws.specs.Writing.{Put}
-use Rattle.meaning.specs.Boxes.{Side}
-use Rattle.meaning.specs.Numbers.{bytes_of}
 use Rattle.meaning.specs.Plants.{edge_limit}
 use Rattle.meaning.specs.Tables.{children_by}
-use Rattle.meaning.specs.Trees.{Forest}
 use Rattle.tables.specs.Boxes.{box_of}
-use Rattle.tables.specs.Turns.{TreesLie}
 use Rattle.tables.proofs.boxes.Halving.{small-children}
-use Rattle.tables.proofs.turns.Laws.{next-tree, Telling, telling-none, telling-more, telling-done}
+use Rattle.tables.proofs.turns.Laws.{next-tree, telling-none, telling-kid, telling-done}
 use Rattle.tables.proofs.turns.tell.Goals as goal
 
 pub loop-c-init : goal.loop-c-init
-loop-c-init c =
-    let box : List Side = box_of c.args.f.n c.args.b in
-    let kids : List (List Side) = children_by c.args.f.form box in
-    (omega arith, λ g m l. telling-none c.args.f c.args.table.now c.args.d kids c.args.buf.now c.args.to c.args.at g m c.requires.place l)
-
-pub overflow_add-c : goal.overflow_add-c
-overflow_add-c c = let h = c.loop-c.invariant.0 in omega arith
-
-pub child-child-requires : goal.child-child-requires
-child-child-requires c =
-    let box : List Side = box_of c.args.f.n c.args.b in
-    let kids : List (List Side) = children_by c.args.f.form box in
-    let in-box : (j : ℕ) → j + 1 < c.args.count → (j < length kids) × (j + 1 < length kids) = λ j h. let e = c.requires.counts.2 in (omega (arith, h, e), omega (arith, h, e)) in
-    (c.requires.counts.0.0, c.requires.counts.1, (in-box _ c.loop-c-test.true).0)
+loop-c-init c g m l =
+    let a = c.args in
+    telling-none a.f a.table.now a.d (children_by a.f.form (box_of a.f.n a.b)) a.buf.now a.to a.at g m c.requires.place l
 
 pub sized-kid-requires : goal.sized-kid-requires
 sized-kid-requires c =
-    let box : List Side = box_of c.args.f.n c.args.b in
-    let kids : List (List Side) = children_by c.args.f.form box in
-    let in-box : (j : ℕ) → j + 1 < c.args.count → (j < length kids) × (j + 1 < length kids) = λ j h. let e = c.requires.counts.2 in (omega (arith, h, e), omega (arith, h, e)) in
     let a = c.args in
     let p = c.loop-c in
     let l = c.requires.trees in
-    let h = (in-box _ c.loop-c-test.true).0 in
-    let z = p.invariant.1 l.0 l.1 l.2 in
+    let box = box_of a.f.n a.b in
+    let kids = children_by a.f.form box in
+    let h : p.c < length kids = omega (arith, c.requires.counts.2, c.loop-c-test.true) in
+    let z = p.invariant l.0 l.1 l.2 in
     let n = next-tree a.f false a.table.now a.d kids p.c p.place z.rest l.1 h z.lie in
-    (c.requires.counts.0, rw c.child-child.ensures (small-children a.f.form edge_limit box p.c h c.requires.counts.1), (n.tree, n.behind, rw c.child-child.ensures n.lies))
-
-pub put_number-past-requires : goal.put_number-past-requires
-put_number-past-requires c = tt
-
-pub overflow_add-c-in-loop-c : goal.overflow_add-c-in-loop-c
-overflow_add-c-in-loop-c c = let h = c.loop-c-test.true in omega arith
-
-pub loop-c-smaller : goal.loop-c-smaller
-loop-c-smaller c = let h = c.loop-c-test.true in omega arith
+    let e = c.child-child.ensures in
+    (c.requires.counts.0, rw e (small-children a.f.form edge_limit box p.c h c.requires.counts.1), (n.tree, n.behind, rw e n.lies))
 
 pub loop-c-preserved : goal.loop-c-preserved
-loop-c-preserved c =
-    let box : List Side = box_of c.args.f.n c.args.b in
-    let kids : List (List Side) = children_by c.args.f.form box in
-    let in-box : (j : ℕ) → j + 1 < c.args.count → (j < length kids) × (j + 1 < length kids) = λ j h. let e = c.requires.counts.2 in (omega (arith, h, e), omega (arith, h, e)) in
-    let done : ℕ = c.loop-c.c in
-    let more : (next : ℕ) (out : List ℕ) → Put c.loop-c.buf c.loop-c.past (bytes_of c.sized-kid.result.size) next out → (g : Forest) (m : ℕ) → TreesLie c.args.f false c.args.table.now c.args.d kids c.args.at g m → Telling c.args.f c.args.table.now c.args.d kids c.args.buf.now c.args.to (done + 1) c.sized-kid.result.behind next out g m = λ next. λ out. λ v. λ g. λ m. λ l. let a = c.args in let p = c.loop-c in let z = p.invariant.1 g m l in let h = in-box _ c.loop-c-test.true in let n = next-tree a.f false a.table.now a.d kids done p.place z.rest m h.0 z.lie in let e = c.sized-kid.ensures n.tree n.behind (rw c.child-child.ensures n.lies) in telling-more a.f a.table.now a.d kids a.buf.now a.to done p.place p.past p.buf g m z h.0 h.1 c.sized-kid.result.behind c.sized-kid.result.size next out e.0 e.1 v in
-    let h = c.loop-c-test.true in
-    let v = c.put_number-past in
-    (omega arith, more v.result v.new.buf v.ensures)
-
-pub shape_of-buf : goal.shape_of-buf
-shape_of-buf c =
-    let l = c.requires.trees in
-    (c.loop-c.invariant.1 l.0 l.1 l.2).under.long
+loop-c-preserved c g m l =
+    let a = c.args in
+    let h : c.loop-c.c + 1 < length (children_by a.f.form (box_of a.f.n a.b)) = omega (arith, c.requires.counts.2, c.loop-c-test.true) in
+    telling-kid (c.loop-c.invariant g m l) h c.child-child.ensures c.sized-kid.result c.sized-kid.ensures c.put_number-past.ensures
 
 pub returns : goal.returns
 returns c g m l =
-    let box : List Side = box_of c.args.f.n c.args.b in
-    let kids : List (List Side) = children_by c.args.f.form box in
     let a = c.args in
     let p = c.loop-c in
-    let h = c.loop-c-test.false in
-    let e = c.requires.counts.2 in
-    telling-done a.f a.table.now a.d kids a.buf.now a.to p.c p.place p.past p.buf g m (p.invariant.1 g m l) (omega (arith, h, e))
+    telling-done a.f a.table.now a.d (children_by a.f.form (box_of a.f.n a.b)) a.buf.now a.to p.c p.place p.past p.buf g m (p.invariant g m l) (omega (arith, c.requires.counts.2, c.loop-c-test.false))

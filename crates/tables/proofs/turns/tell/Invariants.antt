@@ -1,5 +1,5 @@
 -- `turns::tell`: in the loop over the children, the lengths that are left are of the trees that are left. Assumes nothing.
-use Prim.Native.Nat.{ℕ, ◌-◌, ◌≤◌}
+use Prim.Native.Nat.{ℕ}
 use mathlib.Core.Bool.{false}
 use Rattle.meaning.specs.Tables.{children_by}
 use Rattle.meaning.specs.Trees.{Forest}
@@ -11,7 +11,4 @@ use Rattle.tables.proofs.turns.tell.Given as goal
 abbrev pub invariant-loop-c : goal.invariant-loop-c
 invariant-loop-c l =
     let bs = children_by l.f.form (box_of l.f.n l.b) in
-    (l.c ≤ l.count - 1) × ((g : Forest) (m : ℕ) → TreesLie l.f false l.table l.d bs l.at g m → Telling l.f l.table l.d bs l.initial.buf l.to l.c l.place l.past l.buf g m)
-
-abbrev pub decreases-loop-c : goal.decreases-loop-c
-decreases-loop-c l = l.count - l.c
+    ((g : Forest) (m : ℕ) → TreesLie l.f false l.table l.d bs l.at g m → Telling l.f l.table l.d bs l.initial.buf l.to l.c l.place l.past l.buf g m)
