@@ -23,12 +23,8 @@ fn tile(modes: usize, k: usize, table: &[u8], from: usize) -> Result<(usize, usi
     requires { k ≤ 6 }
     ensures { result ≡ tile_found (modes_at modes k table.now from) from k }
 {
-    let read = modes::read_modes(modes, k, table, from);
-    let answer = read.answer;
-    match answer {
-        Err(e) => Err(e),
-        Ok(_) => Ok((from, k)),
-    }
+    modes::read_modes(modes, k, table, from)?;
+    Ok((from, k))
 }
 
 // Where the child of number c begins, by the lengths at `from` of so many children: all of them are read, and none may point past the table.
@@ -37,14 +33,8 @@ fn place_slowly(count: usize, c: usize, table: &[u8], from: usize) -> Result<usi
     ensures { result ≡ place_of count c table.now from }
 {
     let told = lengths::told(2, count);
-    let behind = lengths::behind(told, table, from);
-    let Ok(first) = behind else {
-        return behind;
-    };
-    let all = lengths::ends(told, table, from, first);
-    let Ok(_) = all else {
-        return all;
-    };
+    let first = lengths::behind(told, table, from)?;
+    lengths::ends(told, table, from, first)?;
     lengths::ends(c, table, from, first)
 }
 
@@ -80,9 +70,7 @@ fn find_walking(
     requires { FrameSound (frame_from f edges.now) × Small edge_limit (box_of f.n b) × (tells f.form ≡ false) }
     ensures { result ≡ find (rules_in (frame_from f edges.now) [] []) d table.now at (box_of f.n b) x }
 {
-    let Some((k, next)) = numbers::number(table, at) else {
-        return Err(files::refusals::broken(at));
-    };
+    let (k, next) = numbers::number(table, at).ok_or(files::refusals::broken(at))?;
     let n = f.n;
     if f.k < k {
         return Err(refusals::bad_table(at));
@@ -96,21 +84,12 @@ fn find_walking(
     let none = [0i64; 1];
     let count = boxes::count(f.form, n, b);
     let mut place = next;
-    let mut c: usize = 0;
-    while c < count {
+    for c in 0..count {
         let child = boxes::child(f.form, n, b, c);
         if n <= boxes::missed(n, child, x) {
             return find_walking(f, edges, table, d - 1, place, child, x);
         }
-        match walks::walk(f, edges, &none, &none, false, table, d - 1, place, child) {
-            Err(e) => {
-                return Err(e);
-            }
-            Ok(m) => {
-                place = m;
-            }
-        }
-        c += 1;
+        place = walks::walk(f, edges, &none, &none, false, table, d - 1, place, child)?;
     }
     // No child holds the reading, or the box has none.
     Err(refusals::bad_table(at))
@@ -136,9 +115,7 @@ pub fn find(
     let mut here = b;
     let mut left = d;
     loop {
-        let Some((k, next)) = numbers::number(table, place) else {
-            return Err(files::refusals::broken(place));
-        };
+        let (k, next) = numbers::number(table, place).ok_or(files::refusals::broken(place))?;
         if f.k < k {
             return Err(refusals::bad_table(place));
         }
@@ -152,14 +129,7 @@ pub fn find(
         if half.count == 1 {
             return Err(refusals::bad_table(place));
         }
-        match place_of(half.count, half.number, table, next) {
-            Err(e) => {
-                return Err(e);
-            }
-            Ok(m) => {
-                place = m;
-            }
-        }
+        place = place_of(half.count, half.number, table, next)?;
         here = half.kid;
         left -= 1;
     }

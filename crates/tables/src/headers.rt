@@ -12,13 +12,7 @@ use meaning::Refusal;
 pub fn known(form: usize) -> bool
     ensures { result ≡ known_form form }
 {
-    if form == 1 {
-        return true;
-    }
-    if form == 2 {
-        return true;
-    }
-    form == 3
+    matches!(form, 1..=3)
 }
 
 // The form that a table says, by which it is judged and run; 1 where it says none that is known, which its header then refuses.
@@ -32,18 +26,15 @@ pub fn form_of(table: &[u8]) -> usize
 }
 
 // The place behind the header of a table of this form for n dimensions.
+#[tactic(auto, unfolding(meaning::specs::Verdicts::header))]
 pub fn header(form: usize, n: usize, table: &[u8]) -> Result<usize, Refusal>
     ensures { result ≡ header form n table.now }
 {
-    let Some((told, at)) = numbers::number(table, 0) else {
-        return Err(files::refusals::broken(0));
-    };
+    let (told, at) = numbers::number(table, 0).ok_or(files::refusals::broken(0))?;
     if told != form {
         return Err(files::refusals::wrong_form());
     }
-    let Some((m, next)) = numbers::number(table, at) else {
-        return Err(files::refusals::broken(at));
-    };
+    let (m, next) = numbers::number(table, at).ok_or(files::refusals::broken(at))?;
     if m != n {
         return Err(refusals::bad_table(at));
     }

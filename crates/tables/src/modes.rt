@@ -9,37 +9,25 @@ use crate::refusals;
 use files::numbers;
 use meaning::Refusal;
 
-// The place behind the modes, and beside it the modes: an enum cannot hold an array. Refused, the array says nothing.
-#[derive(Clone, Copy)]
-pub struct ModesRead {
-    pub answer: Result<usize, Refusal>,
-    pub us: [usize; 6],
-}
-
-// The k modes at `at`, each below `modes`.
-pub fn read_modes(modes: usize, k: usize, table: &[u8], at: usize) -> ModesRead
+// The k modes at `at`, each below `modes`, in front of zeros, and the place behind them.
+pub fn read_modes(
+    modes: usize,
+    k: usize,
+    table: &[u8],
+    at: usize,
+) -> Result<([usize; 6], usize), Refusal>
     requires { k ≤ 6 }
     ensures { read_of k result ≡ modes_at modes k table.now at }
 {
     let mut us = [0usize; 6];
     let mut w = at;
-    let mut i: usize = 0;
-    while i < k {
-        let Some((u, next)) = numbers::number(table, w) else {
-            return ModesRead {
-                answer: Err(files::refusals::broken(w)),
-                us,
-            };
-        };
+    for i in 0..k {
+        let (u, next) = numbers::number(table, w).ok_or(files::refusals::broken(w))?;
         if modes <= u {
-            return ModesRead {
-                answer: Err(refusals::bad_table(w)),
-                us,
-            };
+            return Err(refusals::bad_table(w));
         }
         us[i] = u;
         w = next;
-        i += 1;
     }
-    ModesRead { answer: Ok(w), us }
+    Ok((us, w))
 }

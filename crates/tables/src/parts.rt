@@ -10,9 +10,7 @@ use meaning::Refusal;
 pub fn part_at(s: &[u8], at: usize) -> Result<(usize, usize), Refusal>
     ensures { result ≡ part_at s.now at }
 {
-    let Some((size, first)) = numbers::number(s, at) else {
-        return Err(files::refusals::broken(at));
-    };
+    let (size, first) = numbers::number(s, at).ok_or(files::refusals::broken(at))?;
     let left = s.len() - first;
     if left < size {
         return Err(files::refusals::unfit(at));
@@ -25,14 +23,9 @@ pub fn part_behind(i: usize, s: &[u8], at: usize) -> Result<(usize, usize), Refu
     ensures { result ≡ part_behind i s.now at }
 {
     let mut place = at;
-    let mut left = i;
-    while 0 < left {
-        let part = part_at(s, place);
-        let Ok((first, size)) = part else {
-            return part;
-        };
+    for _ in 0..i {
+        let (first, size) = part_at(s, place)?;
         place = first + size;
-        left -= 1;
     }
     part_at(s, place)
 }

@@ -12,18 +12,7 @@ pub fn can_run(k: usize, modes: usize, table: &[u8], place: usize, left: usize) 
     requires { k ≤ 6 }
     ensures { result ≡ can_run k modes table.now place left }
 {
-    if k < left {
-        return false;
-    }
-    if place < 2 {
-        return false;
-    }
-    let read = modes::read_modes(modes, left, table, place);
-    let answer = read.answer;
-    match answer {
-        Err(_) => false,
-        Ok(_) => true,
-    }
+    left <= k && 2 <= place && modes::read_modes(modes, left, table, place).is_ok()
 }
 
 // The mode at a place with that many left, itself counted, and the state behind it: at the number that follows, or idle behind the last. That none is
@@ -34,9 +23,7 @@ pub fn answer(table: &[u8], place: usize, left: usize) -> Result<(usize, State),
     if left == 0 {
         return Err(refusals::bad_state());
     }
-    let Some((u, next)) = numbers::number(table, place) else {
-        return Err(refusals::bad_state());
-    };
+    let (u, next) = numbers::number(table, place).ok_or(refusals::bad_state())?;
     if left == 1 {
         return Ok((u, State { place: 0, left: 0 }));
     }

@@ -34,22 +34,15 @@ fn tile(
     requires size { k ≤ f.k }
     ensures { result ≡ on_modes (modes_at f.modes k table.now from) at (judge_by judged (rules_in (frame_from f edges.now) bands.now coef.now) (box_of f.n b)) }
 {
-    let read = modes::read_modes(f.modes, k, table, from);
-    let past = read.answer;
-    match past {
-        Err(e) => Err(e),
-        Ok(next) => {
-            if judged {
-                let us = read.us;
-                match tiles::tile_rule(f, edges, bands, coef, k, us, b) {
-                    Tried::Works => Ok(next),
-                    Tried::Leaves(i) => Err(refusals::leaves(at, i)),
-                    Tried::Misses(i) => Err(refusals::misses(at, i)),
-                }
-            } else {
-                Ok(next)
-            }
+    let (us, next) = modes::read_modes(f.modes, k, table, from)?;
+    if judged {
+        match tiles::tile_rule(f, edges, bands, coef, k, us, b) {
+            Tried::Works => Ok(next),
+            Tried::Leaves(i) => Err(refusals::leaves(at, i)),
+            Tried::Misses(i) => Err(refusals::misses(at, i)),
         }
+    } else {
+        Ok(next)
     }
 }
 
@@ -69,9 +62,7 @@ pub fn walk(
     requires { FrameSound (frame_from f edges.now) × Small edge_limit (box_of f.n b) × (judged ≡ true → ModesSound f.n f.modes f.q bands.now coef.now) × (tells f.form ≡ false) }
     ensures { result ≡ walk_by judged (rules_in (frame_from f edges.now) bands.now coef.now) d table.now at (box_of f.n b) }
 {
-    let Some((k, next)) = numbers::number(table, at) else {
-        return Err(files::refusals::broken(at));
-    };
+    let (k, next) = numbers::number(table, at).ok_or(files::refusals::broken(at))?;
     if f.k < k {
         return Err(refusals::bad_table(at));
     }
@@ -87,15 +78,9 @@ pub fn walk(
         return Err(refusals::bad_table(at));
     }
     let mut place = next;
-    let mut c: usize = 0;
-    while c < count {
+    for c in 0..count {
         let child = boxes::child(f.form, n, b, c);
-        let past = walk(f, edges, bands, coef, judged, table, d - 1, place, child);
-        let Ok(m) = past else {
-            return past;
-        };
-        place = m;
-        c += 1;
+        place = walk(f, edges, bands, coef, judged, table, d - 1, place, child)?;
     }
     Ok(place)
 }
@@ -116,9 +101,7 @@ pub fn walk_told(
     requires { FrameSound (frame_from f edges.now) × Small edge_limit (box_of f.n b) × (judged ≡ true → ModesSound f.n f.modes f.q bands.now coef.now) }
     ensures { result ≡ walk_by judged (rules_in (frame_from f edges.now) bands.now coef.now) d table.now at (box_of f.n b) }
 {
-    let Some((k, next)) = numbers::number(table, at) else {
-        return Err(files::refusals::broken(at));
-    };
+    let (k, next) = numbers::number(table, at).ok_or(files::refusals::broken(at))?;
     if f.k < k {
         return Err(refusals::bad_table(at));
     }
@@ -143,26 +126,13 @@ pub fn walk_told(
         return Err(refusals::bad_table(at));
     }
     let told = lengths::told(f.form, count);
-    let behind = lengths::behind(told, table, next);
-    let Ok(first) = behind else {
-        return behind;
-    };
     let mut cursor = next;
-    let mut place = first;
-    let mut c: usize = 0;
-    while c < count {
+    let mut place = lengths::behind(told, table, next)?;
+    for c in 0..count {
         let child = boxes::child(f.form, f.n, b, c);
-        let past = walk_told(f, edges, bands, coef, judged, table, d - 1, place, child);
-        let Ok(m) = past else {
-            return past;
-        };
-        let held = lengths::held(c < told, table, cursor, place, m);
-        let Ok(then) = held else {
-            return held;
-        };
-        cursor = then;
-        place = m;
-        c += 1;
+        let past = walk_told(f, edges, bands, coef, judged, table, d - 1, place, child)?;
+        cursor = lengths::held(c < told, table, cursor, place, past)?;
+        place = past;
     }
     Ok(place)
 }

@@ -1,6 +1,6 @@
 -- Laws of the tile that holds a reading, for the proofs of module finds: a node that is no split, at the rules of a frame in the terms of the code; and when a box
 -- holds a reading, for its callers too. A split is page Untold where lengths are not told, and page Told where they are. Assumes nothing.
-use Rattle.std.specs.Prelude.{Some, None, Ok, Err}
+use Rattle.std.specs.Prelude.{Some, None, Err}
 use Prim.Native.Nat.{ℕ, ◌≤◌, ◌<◌}
 use mathlib.Core.Path.{◌≡◌, sym, ap, ◌∙◌}
 use mathlib.Core.Bool.{true, false}
@@ -11,11 +11,8 @@ use lib.ListN.{length}
 use Rattle.laws.specs.Lists.{at, all, first_false}
 use Rattle.laws.specs.Tabs.{length-tab}
 use Rattle.laws.specs.Tests.{first-within, first-behind}
-use Rattle.meaning.specs.Answers.{Walk}
-use Rattle.meaning.specs.declared.Refusal.{Refusal}
 use Rattle.meaning.specs.Boxes.{Side, side_at, sides_of, fits}
 use Rattle.meaning.specs.Control.{tile_found, find}
-use Rattle.meaning.specs.Files.{Read}
 use Rattle.meaning.specs.Numbers.{number_at}
 use Rattle.meaning.specs.Refusals.{broken, bad_table}
 use Rattle.meaning.specs.Rules.{Rules}
@@ -24,7 +21,6 @@ use Rattle.meaning.specs.Verdicts.{modes_at}
 use Rattle.promises.specs.Tables.Walking.{find-broken, find-deep, find-over, find-tile}
 use Rattle.tables.specs.declared.frames.Frame.{Frame}
 use Rattle.tables.specs.Frames.{rules_in}
-use Rattle.tables.specs.Modes.{told}
 use Rattle.tables.proofs.boxes.Laws.{holds_at, fits-tab}
 
 -- ---- the first dimension that is missed is behind the last exactly where a box holds the reading
@@ -38,14 +34,6 @@ module _ (n : ℕ) (lo hi x : List ℤ) where
 
   pub not-held : first_false (fits (sides_of n lo hi) (reading_of n x)) < n → all (fits (sides_of n lo hi) (reading_of n x)) ≡ false
   not-held h = first-within (fits (sides_of n lo hi) (reading_of n x)) (omega (arith, tests))
-
--- ---- a tile, by what was answered for its modes
-
-pub tile-refused : (us : List ℕ) (m : Read (List ℕ)) (from k : ℕ) (w : Walk) (e : Refusal) → told w us ≡ m → w ≡ Err e → Err e ≡ tile_found m from k
-tile-refused us m from k w e q g = ap (λ (v : Walk). tile_found (told v us) from k) (sym g) ∙ ap (λ (t : Read (List ℕ)). tile_found t from k) q
-
-pub tile-found : (us : List ℕ) (m : Read (List ℕ)) (from k : ℕ) (w : Walk) (next : ℕ) → told w us ≡ m → w ≡ Ok next → Ok (from, k) ≡ tile_found m from k
-tile-found us m from k w next q g = ap (λ (v : Walk). tile_found (told v us) from k) (sym g) ∙ ap (λ (t : Read (List ℕ)). tile_found t from k) q
 
 -- ---- a node
 

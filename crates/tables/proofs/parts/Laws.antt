@@ -7,7 +7,7 @@ use mathlib.Core.List.{List}
 use native.Mathlib.Omega.{arith}
 use lib.Dec.{leb}
 use lib.ListN.{length, take, drop}
-use borrow.Author.Tests.{leb-true, le-leb, lt-leb}
+use borrow.Author.Tests.{leb-true, le-leb}
 use Rattle.laws.specs.Pairs.{ok-first, ok-second}
 use Rattle.laws.specs.Guards.{guard}
 use Rattle.laws.specs.Standing.{stand-within}
@@ -29,13 +29,7 @@ module _ (s : List ℕ) (at : ℕ) where
   pub number-within : (v next : ℕ) → number_at s at ≡ Some (v, next) → next ≤ length s
   number-within v next q = stand-within s (bytes_of v) at next (was v at next s q).1 (bytes-some v)
 
-  pub part-broken : number_at s at ≡ None → Err (broken at) ≡ part_at s at
-  part-broken e = simp e
-
   module _ (size first : ℕ) (e : number_at s at ≡ Some (size, first)) where
-    pub part-over : length s - first < size → Err (unfit at) ≡ part_at s at
-    part-over h = let l : length s < first + size = omega arith in simp (e, lt-leb _ _ l)
-
     pub part-there : size ≤ length s - first → Ok (first, size) ≡ part_at s at
     part-there h = let l : first + size ≤ length s = omega (arith, number-within size first e) in simp (e, le-leb _ _ l)
 
@@ -70,26 +64,27 @@ module _ (s : List ℕ) (at : ℕ) where
 -- ---- behind others
 
 module _ (s : List ℕ) where
-  pub behind-none : (at : ℕ) → part_at s at ≡ part_behind 0 s at
-  unfolding S.on_part
-  behind-none at = refl
-
   behind-step : {A : Type 0} (i at : ℕ) (refuse : Refusal → A) (rest : ℕ → ℕ → A) → on_part (suc i) s at refuse rest ≡ on_found (part_at s at) refuse (λ first size. on_part i s (first + size) refuse rest)
   unfolding S.on_part
   behind-step i at refuse rest = by_length s at refuse (λ first size. on_part i s (first + size) refuse rest)
 
-  -- one is passed, or stops it
-  module _ (left at : ℕ) (h : 0 < left) where
-    one-passed : part_behind left s at ≡ on_found (part_at s at) Err (λ first size. part_behind (left - 1) s (first + size))
-    one-passed =
-        let e : left ≡ suc (left - 1) = omega arith in
-        ap (λ (i : ℕ). part_behind i s at) e ∙ behind-step (left - 1) at Err (λ first size. Ok (first, size))
+  -- k of i are passed; one more is, or stops it
+  module _ (i k at : ℕ) where
+    pub behind-done : i ≤ k → part_at s at ≡ part_behind (i - k) s at
+    unfolding S.on_part
+    behind-done h = let e : i - k ≡ 0 = omega arith in rw e refl
 
-    pub behind_more : (first size : ℕ) → part_at s at ≡ Ok (first, size) → part_behind (left - 1) s (first + size) ≡ part_behind left s at
-    behind_more first size q = sym (one-passed ∙ rw q refl)
+    module _ (h : k < i) where
+      one-passed : part_behind (i - k) s at ≡ on_found (part_at s at) Err (λ first size. part_behind (i - (k + 1)) s (first + size))
+      one-passed =
+          let e : i - k ≡ suc (i - (k + 1)) = omega arith in
+          ap (λ (i : ℕ). part_behind i s at) e ∙ behind-step (i - (k + 1)) at Err (λ first size. Ok (first, size))
 
-    pub behind-stopped : (e : Refusal) → part_at s at ≡ Err e → Err e ≡ part_behind left s at
-    behind-stopped e q = sym (one-passed ∙ rw q refl)
+      pub behind_more : {first size : ℕ} → part_at s at ≡ Ok (first, size) → part_behind (i - (k + 1)) s (first + size) ≡ part_behind (i - k) s at
+      behind_more q = sym (one-passed ∙ rw q refl)
+
+      pub behind-stopped : {e : Refusal} → part_at s at ≡ Err e → Err e ≡ part_behind (i - k) s at
+      behind-stopped q = sym (one-passed ∙ rw q refl)
 
   pub by_part : {A : Type 0} (i at : ℕ) (refuse : Refusal → A) (rest : ℕ → ℕ → A) → on_part i s at refuse rest ≡ on_found (part_behind i s at) refuse rest
   unfolding S.on_part

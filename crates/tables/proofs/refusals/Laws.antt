@@ -1,5 +1,5 @@
 -- What `x.ok_or(e)?` goes by: the value that there was, or the refusal where there was none. Assumes nothing.
-use Rattle.std.specs.Prelude.{Option, Some, None, Result, Ok, Err, ok_or}
+use Rattle.std.specs.Prelude.{Option, Some, None, Ok, Err, ok_or}
 use mathlib.Core.Path.{◌≡◌, refl, ap}
 use Rattle.laws.specs.Tests.{never}
 use Rattle.meaning.specs.declared.Refusal.{Refusal}
@@ -8,11 +8,6 @@ pub there : {A : Type 0} (o : Option A) (e : Refusal) {a : A} → Ok a ≡ ok_or
 there (Some b) e {a} q = let z : b ≡ a = cc in ap Some z
 there None e q = never cc
 
--- what is told where there was none is the refusal that is handed on
-pub handed : {A B : Type 0} (o : Option A) (e : Refusal) {f : Refusal} {whole : Result B Refusal} → Err f ≡ ok_or o e → (o ≡ None → Err e ≡ whole) → Err f ≡ whole
-handed (Some b) e q told = never cc
-handed None e {f} q told = let z : f ≡ e = cc in rw z (told refl)
-
 pub nothing : {A : Type 0} (o : Option A) (e : Refusal) {f : Refusal} → Err f ≡ ok_or o e → (o ≡ None) × (f ≡ e)
 nothing (Some b) e q = never cc
-nothing None e {f} q = let z : f ≡ e = cc in (refl, z)
+nothing None e q = (refl, cc)

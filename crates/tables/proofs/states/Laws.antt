@@ -1,42 +1,18 @@
 -- Laws of a state for the proofs of module states: each test that fails alone, and all of them together; the mode at a place with none left, one, and
 -- more. Assumes nothing.
 use Rattle.std.specs.Prelude.{Some, None, Ok, Err}
-use Prim.Native.Nat.{ℕ, zero, suc, ◌-◌, ◌≤◌, ◌<◌}
-use mathlib.Core.Path.{◌≡◌, refl, sym, ap, ◌∙◌}
+use Prim.Native.Nat.{ℕ, zero, suc, ◌-◌}
+use mathlib.Core.Path.{◌≡◌, refl}
 use mathlib.Core.Bool.{Bool, true, false, ◌&&◌}
 use mathlib.Core.List.{List}
 use native.Mathlib.Omega.{arith}
-use lib.Dec.{leb}
-use borrow.Author.Tests.{le-leb, lt-leb}
-use Rattle.meaning.specs.Answers.{Walk}
-use Rattle.meaning.specs.declared.Refusal.{Refusal}
-use Rattle.meaning.specs.Control.{idle, are_read, can_run, mode_at}
+use Rattle.meaning.specs.Control.{idle, mode_at}
 use Rattle.meaning.specs.Numbers.{number_at}
 use Rattle.meaning.specs.Refusals.{bad_state}
-use Rattle.meaning.specs.Verdicts.{modes_at}
-use Rattle.tables.specs.Modes.{told}
 
 and-false : (t : Bool) → (t && false) ≡ false
 and-false true = refl
 and-false false = refl
-
-module _ (K N : ℕ) (s : List ℕ) (place left : ℕ) where
-  pub too_many : K < left → false ≡ can_run K N s place left
-  too_many h = simp (lt-leb left K h)
-
-  pub too-low : place < 2 → false ≡ can_run K N s place left
-  too-low h = simp (lt-leb 2 place h, and-false (leb left K))
-
-  -- the modes there decide: w is the answer for them, us what was read
-  module _ (a : left ≤ K) (b : 2 ≤ place) (w : Walk) (us : List ℕ) (q : told w us ≡ modes_at N left s place) where
-    by-modes : are_read (told w us) ≡ can_run K N s place left
-    by-modes = ap are_read q ∙ simp (le-leb left K a, le-leb 2 place b)
-
-    pub not-read : (e : Refusal) → w ≡ Err e → false ≡ can_run K N s place left
-    not-read e h = sym (ap (λ (v : Walk). are_read (told v us)) h) ∙ by-modes
-
-    pub all_read : (next : ℕ) → w ≡ Ok next → true ≡ can_run K N s place left
-    all_read next h = sym (ap (λ (v : Walk). are_read (told v us)) h) ∙ by-modes
 
 module _ (s : List ℕ) (place : ℕ) where
   pub none_left : (left : ℕ) → left ≡ 0 → Err bad_state ≡ mode_at s place left

@@ -24,25 +24,15 @@ use Rattle.meaning.specs.Refusals.{broken, bad_table}
 use Rattle.meaning.specs.Rules as R
 use Rattle.meaning.specs.Rules.{on_safe, rule_from}
 use Rattle.meaning.specs.Trees.{tells}
-use Rattle.meaning.specs.Verdicts.{Length, length_at, on_tried, on_modes, on_read, lengths_at, lengths_by, each, modes_at}
+use Rattle.meaning.specs.Verdicts.{Length, length_at, on_modes, on_read, lengths_at, lengths_by, each, modes_at}
 use Rattle.meaning.specs.Tables.{children_by}
 use Rattle.promises.specs.Tables.Walking.{lengths_count, lengths-by, each-done, each_more, each-held, each-wrong, each-refused, walk-broken, walk-deep, walk-stuck, walk_split, walk-over, walk-tile}
 use Rattle.tables.specs.declared.frames.Frame.{Frame}
 use Rattle.tables.specs.Boxes.{box_of}
 use Rattle.tables.specs.Frames.{formed, step_in, rules_in, rules_by, FrameSound}
 use Rattle.tables.specs.Lengths.{behind_at, held_at}
-use Rattle.tables.specs.Modes.{told}
 use Rattle.tables.specs.Walks.{judge_by, walk_by}
 use Rattle.tables.proofs.lengths.Laws.{OneRead, one-read, behind-read, behind-refused}
-
--- ---- a tile: what its modes were told as, and what its judge says of them
-
-module _ (modes : Read (List ℕ)) (at : ℕ) (judge : List ℕ → Tried) (a : Walk) (us : List ℕ) (q : told a us ≡ modes) where
-  pub tile-stopped : (e : Refusal) → a ≡ Err e → Err e ≡ on_modes modes at judge
-  tile-stopped e h = rw (← q, h) refl
-
-  pub tile-judged : (m : ℕ) → a ≡ Ok m → (v : Tried) → v ≡ judge us → on_tried v at m ≡ on_modes modes at judge
-  tile-judged m h v e = rw (← q, h, e) refl
 
 -- ---- children in a loop: c of them are done, behind them is `place`, and of the lengths that the split tells, many, those to come stand at the cursor
 

@@ -1,4 +1,5 @@
 -- `finds::find_walking`, which calls itself with less depth: a node, and a loop over the children of a split up to the one that holds the reading. Assumes nothing.
+use Rattle.std.proofs.lemmas.Result.{err_from_is_err_and}
 use Rattle.std.specs.Prelude.{Some, Err}
 use Prim.Native.Nat.{ℕ, ◌-◌, ◌≤◌, ◌<◌}
 use mathlib.Core.Path.{◌≡◌, sym, ap, ◌∙◌}
@@ -20,41 +21,40 @@ use Rattle.tables.specs.Frames.{frame_from}
 use Rattle.tables.proofs.boxes.Halving.{small-children}
 use Rattle.tables.proofs.finds.Laws.{held, not-held, node-broken, node_over, node-tile, node-deep}
 use Rattle.tables.proofs.finds.Untold.{look-split, look_none, look-here, look-more, look-refused}
+use Rattle.tables.proofs.refusals.Laws.{there, nothing}
 use Rattle.tables.proofs.finds.+find_walking.Goals as goal
 
 -- what the walk is lent for bands and coefficients
 abbrev zero : List ℤ
 zero = replicate 1 (pos 0)
 
-pub returns-in_default : goal.returns-in_default
-returns-in_default t c =
+pub returns-in_err-k : goal.returns-in_err-k
+returns-in_err-k t c =
     let frame : Frame = frame_from c.args.f c.args.edges.now in
     let bytes : List ℕ = c.args.table.now in
     let box : Bx → List Side = λ b. box_of c.args.f.n b in
-    ap Err c.broken.ensures ∙ node-broken frame c.args.x c.args.d bytes c.args.at (box c.args.b) (sym c.number.ensures ∙ c.in_default.is)
+    let p = err_from_is_err_and c.from_residual.result c.from_residual.ensures.1 in
+    let h = nothing c.number.result c.broken.result c.in_err-k.ensures.value in
+    rw (p.1, p.2, h.1) (ap Err c.broken.ensures ∙ node-broken frame c.args.x c.args.d bytes c.args.at (box c.args.b) (sym c.number.ensures ∙ h.0))
 
 pub returns-then-f-k : goal.returns-then-f-k
 returns-then-f-k t c =
     let frame : Frame = frame_from c.args.f c.args.edges.now in
     let bytes : List ℕ = c.args.table.now in
     let box : Bx → List Side = λ b. box_of c.args.f.n b in
-    let size : ℕ = c.in-Some.k in
-    let behind : ℕ = c.in-Some.next in
-    let number : number_at bytes c.args.at ≡ Some (size, behind) = sym c.number.ensures ∙ c.in-Some.is in
+    let size : ℕ = c.in_ok-k.k in
+    let behind : ℕ = c.in_ok-k.next in
+    let number : number_at bytes c.args.at ≡ Some (size, behind) = sym c.number.ensures ∙ there c.number.result c.broken.result c.in_ok-k.ensures.value in
     ap Err c.bad_table.ensures ∙ node_over frame c.args.x c.args.d bytes c.args.at (box c.args.b) size behind number c.if-f-k.true
-
-pub tile-requires : goal.tile-requires
-tile-requires t c =
-    omega (arith, c.if-f-k.false, c.requires.0.longest)
 
 pub returns-then-k-gt0 : goal.returns-then-k-gt0
 returns-then-k-gt0 t c =
     let frame : Frame = frame_from c.args.f c.args.edges.now in
     let bytes : List ℕ = c.args.table.now in
     let box : Bx → List Side = λ b. box_of c.args.f.n b in
-    let size : ℕ = c.in-Some.k in
-    let behind : ℕ = c.in-Some.next in
-    let number : number_at bytes c.args.at ≡ Some (size, behind) = sym c.number.ensures ∙ c.in-Some.is in
+    let size : ℕ = c.in_ok-k.k in
+    let behind : ℕ = c.in_ok-k.next in
+    let number : number_at bytes c.args.at ≡ Some (size, behind) = sym c.number.ensures ∙ there c.number.result c.broken.result c.in_ok-k.ensures.value in
     c.tile.ensures ∙ node-tile frame c.args.x c.args.d bytes c.args.at (box c.args.b) size behind number c.if-k-gt0.true c.if-f-k.false
 
 pub returns-then-d-eq0 : goal.returns-then-d-eq0
@@ -62,33 +62,20 @@ returns-then-d-eq0 t c =
     let frame : Frame = frame_from c.args.f c.args.edges.now in
     let bytes : List ℕ = c.args.table.now in
     let box : Bx → List Side = λ b. box_of c.args.f.n b in
-    let size : ℕ = c.in-Some.k in
-    let behind : ℕ = c.in-Some.next in
-    let number : number_at bytes c.args.at ≡ Some (size, behind) = sym c.number.ensures ∙ c.in-Some.is in
+    let size : ℕ = c.in_ok-k.k in
+    let behind : ℕ = c.in_ok-k.next in
+    let number : number_at bytes c.args.at ≡ Some (size, behind) = sym c.number.ensures ∙ there c.number.result c.broken.result c.in_ok-k.ensures.value in
     ap Err c.bad_table-then-d-eq0.ensures ∙ node-deep frame c.args.x c.args.d bytes c.args.at (box c.args.b) size behind number c.if-k-gt0.false c.if-d-eq0.true
-
-pub count-count-requires : goal.count-count-requires
-count-count-requires t c = c.requires.0.rooms
 
 pub loop-c-init : goal.loop-c-init
 loop-c-init t c =
     let frame : Frame = frame_from c.args.f c.args.edges.now in
     let bytes : List ℕ = c.args.table.now in
     let box : Bx → List Side = λ b. box_of c.args.f.n b in
-    let size : ℕ = c.in-Some.k in
-    let behind : ℕ = c.in-Some.next in
-    let number : number_at bytes c.args.at ≡ Some (size, behind) = sym c.number.ensures ∙ c.in-Some.is in
+    let size : ℕ = c.in_ok-k.k in
+    let behind : ℕ = c.in_ok-k.next in
+    let number : number_at bytes c.args.at ≡ Some (size, behind) = sym c.number.ensures ∙ there c.number.result c.broken.result c.in_ok-k.ensures.value in
     (omega arith, look-split frame c.args.x c.requires.2 c.args.d bytes c.args.at (box c.args.b) size behind number c.if-k-gt0.false c.if-d-eq0.false)
-
-pub child-child-requires : goal.child-child-requires
-child-child-requires t c =
-    (c.requires.0.rooms, c.requires.1, omega (arith, c.loop-c-test.true, c.count-count.ensures))
-
-pub missed-requires : goal.missed-requires
-missed-requires t c = c.requires.0.rooms
-
-pub overflow_sub-d : goal.overflow_sub-d
-overflow_sub-d t c = omega arith
 
 pub find_walking-requires : goal.find_walking-requires
 find_walking-requires t c =
@@ -111,9 +98,6 @@ returns-then-n-missed t c =
     let l = c.loop-c in
     c.find_walking.ensures ∙ look-here frame c.args.x c.requires.2 (c.args.d - 1) bytes c.args.at (box c.args.b) l.c l.place below (box kid) c.child-child.ensures (holds-it c.if-n-missed.true) ∙ l.invariant.1
 
-pub overflow_sub-d-in-loop-c : goal.overflow_sub-d-in-loop-c
-overflow_sub-d-in-loop-c t c = omega arith
-
 pub walk-requires : goal.walk-requires
 walk-requires t c =
     let box : Bx → List Side = λ b. box_of c.args.f.n b in
@@ -123,8 +107,8 @@ walk-requires t c =
     let small : Small edge_limit (box kid) = rw c.child-child.ensures (small-children c.args.f.form edge_limit (box c.args.b) turn below c.requires.1) in
     (c.requires.0, small, (λ e. never e), c.requires.2)
 
-pub returns-in-Err : goal.returns-in-Err
-returns-in-Err t c =
+pub returns-in_err-place : goal.returns-in_err-place
+returns-in_err-place t c =
     let frame : Frame = frame_from c.args.f c.args.edges.now in
     let bytes : List ℕ = c.args.table.now in
     let box : Bx → List Side = λ b. box_of c.args.f.n b in
@@ -134,13 +118,8 @@ returns-in-Err t c =
     let misses-it : c.missed.result < c.args.f.n → all (fits (box kid) (reading_of c.args.f.n c.args.x)) ≡ false = λ h. not-held c.args.f.n kid.lo kid.hi c.args.x (omega (arith, h, c.missed.ensures)) in
     let l = c.loop-c in
     let r = c.walk in
-    look-refused frame c.args.x c.requires.2 (c.args.d - 1) bytes c.args.at (box c.args.b) l.c l.place below (box kid) c.child-child.ensures (misses-it c.if-n-missed.false) zero zero r.result r.ensures c.in-Err.e c.in-Err.is ∙ l.invariant.1
-
-pub overflow_add-c : goal.overflow_add-c
-overflow_add-c t c = omega arith
-
-pub loop-c-smaller : goal.loop-c-smaller
-loop-c-smaller t c = omega arith
+    let p = err_from_is_err_and c.from_residual-in_err-place.result c.from_residual-in_err-place.ensures.1 in
+    rw (p.1, p.2) (look-refused frame c.args.x c.requires.2 (c.args.d - 1) bytes c.args.at (box c.args.b) l.c l.place below (box kid) c.child-child.ensures (misses-it c.if-n-missed.false) zero zero r.result r.ensures _ c.in_err-place.was ∙ l.invariant.1)
 
 pub loop-c-preserved : goal.loop-c-preserved
 loop-c-preserved t c =
@@ -153,7 +132,7 @@ loop-c-preserved t c =
     let misses-it : c.missed.result < c.args.f.n → all (fits (box kid) (reading_of c.args.f.n c.args.x)) ≡ false = λ h. not-held c.args.f.n kid.lo kid.hi c.args.x (omega (arith, h, c.missed.ensures)) in
     let l = c.loop-c in
     let r = c.walk in
-    (omega (arith, c.loop-c-test.true), look-more frame c.args.x c.requires.2 (c.args.d - 1) bytes c.args.at (box c.args.b) l.c l.place below (box kid) c.child-child.ensures (misses-it c.if-n-missed.false) zero zero r.result r.ensures c.in-Ok.m c.in-Ok.is ∙ l.invariant.1)
+    (omega (arith, c.loop-c-test.true), look-more frame c.args.x c.requires.2 (c.args.d - 1) bytes c.args.at (box c.args.b) l.c l.place below (box kid) c.child-child.ensures (misses-it c.if-n-missed.false) zero zero r.result r.ensures c.in_ok-place.place c.in_ok-place.was ∙ l.invariant.1)
 
 pub returns : goal.returns
 returns t c =

@@ -12,8 +12,5 @@ abbrev pub invariant-loop-c : goal.invariant-loop-c
 invariant-loop-c l =
     (l.c ≤ l.count) × (look_from (frame_from l.f l.edges) l.x (l.d - 1) l.table l.at (box_of l.f.n l.b) l.c l.place ≡ find (rules_in (frame_from l.f l.edges) [] []) l.d l.table l.at (box_of l.f.n l.b) l.x)
 
-abbrev pub decreases-loop-c : goal.decreases-loop-c
-decreases-loop-c l = l.count - l.c
-
 abbrev pub decreases-find_walking : goal.decreases-find_walking
 decreases-find_walking l = l.d

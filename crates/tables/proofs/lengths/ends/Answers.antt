@@ -4,13 +4,14 @@ use Rattle.std.proofs.lemmas.Result.{err_from_is_err_and}
 use mathlib.Core.Path.{sym, ap, ◌∙◌}
 use native.Mathlib.Omega.{arith}
 use Rattle.tables.proofs.lengths.Laws.{ends-done, ends-broken, ends-past, ends_more}
-use Rattle.tables.proofs.refusals.Laws.{there, handed}
+use Rattle.tables.proofs.refusals.Laws.{there, nothing}
 use Rattle.tables.proofs.lengths.ends.Goals as goal
 
 pub returns-in_err-size : goal.returns-in_err-size
 returns-in_err-size c =
     let p = err_from_is_err_and c.from_residual.result c.from_residual.ensures.1 in
-    rw (p.1, p.2) (handed c.number.result c.broken.result c.in_err-size.ensures.value (λ v. ap Err c.broken.ensures ∙ ends-broken c.args.table.now c.args.k c.loop.counter c.loop.cursor c.loop.place (omega arith) (sym c.number.ensures ∙ v) ∙ c.loop.invariant.1))
+    let h = nothing c.number.result c.broken.result c.in_err-size.ensures.value in
+    rw (p.1, p.2, h.1) (ap Err c.broken.ensures ∙ ends-broken c.args.table.now c.args.k c.loop.counter c.loop.cursor c.loop.place (omega arith) (sym c.number.ensures ∙ h.0) ∙ c.loop.invariant.1)
 
 pub returns-then-room-size : goal.returns-then-room-size
 returns-then-room-size c =

@@ -1,43 +1,20 @@
 -- `parts::part_behind`: what is left from here is the whole. Assumes nothing.
-use Prim.Native.Nat.{ℕ}
-use mathlib.Core.Path.{◌≡◌, refl, sym, ap, ◌∙◌}
+use Rattle.std.proofs.lemmas.Result.{err_from_is_err_and}
+use mathlib.Core.Path.{sym, ◌∙◌}
 use native.Mathlib.Omega.{arith}
-use Rattle.tables.specs.Parts.{part_behind}
-use Rattle.tables.proofs.parts.Laws.{part-within, behind-none, behind_more, behind-stopped}
+use Rattle.tables.proofs.parts.Laws.{part-within, behind-done, behind_more, behind-stopped}
 use Rattle.tables.proofs.parts.part_behind.Goals as goal
 
-pub loop-left-init : goal.loop-left-init
-loop-left-init c = refl
-
-pub part_at-part-requires : goal.part_at-part-requires
-part_at-part-requires c = tt
-
-pub returns-in_default : goal.returns-in_default
-returns-in_default c =
-    c.in_default.is
-    ∙ behind-stopped c.args.s.now c.loop-left.left c.loop-left.place (omega arith) c.in_default.field-0 (sym c.part_at-part.ensures ∙ c.in_default.is)
-    ∙ c.loop-left.invariant
+pub returns-in_err-first : goal.returns-in_err-first
+returns-in_err-first c =
+    let p = err_from_is_err_and c.from_residual.result c.from_residual.ensures.1 in
+    rw (p.1, p.2) (behind-stopped c.args.s.now c.args.i c.loop.counter c.loop.place (omega arith) (sym c.in_err-first.ensures) ∙ c.loop.invariant)
 
 pub overflow_add-place : goal.overflow_add-place
-overflow_add-place c =
-    omega (arith, part-within c.args.s.now c.loop-left.place c.in-Ok.first c.in-Ok.size (sym c.part_at-part.ensures ∙ c.in-Ok.is))
+overflow_add-place c = omega (arith, part-within c.args.s.now c.loop.place _ _ (sym c.in_ok-first.ensures))
 
-pub overflow_sub-left : goal.overflow_sub-left
-overflow_sub-left c = omega arith
-
-pub loop-left-smaller : goal.loop-left-smaller
-loop-left-smaller c = omega arith
-
-pub loop-left-preserved : goal.loop-left-preserved
-loop-left-preserved c =
-    behind_more c.args.s.now c.loop-left.left c.loop-left.place (omega arith) c.in-Ok.first c.in-Ok.size (sym c.part_at-part.ensures ∙ c.in-Ok.is)
-    ∙ c.loop-left.invariant
-
-pub part_at-requires : goal.part_at-requires
-part_at-requires c = tt
+pub loop-preserved : goal.loop-preserved
+loop-preserved c = behind_more c.args.s.now c.args.i c.loop.counter c.loop.place (omega arith) (sym c.in_ok-first.ensures) ∙ c.loop.invariant
 
 pub returns : goal.returns
-returns c =
-    let s = c.args.s.now in
-    let e : 0 ≡ c.loop-left.left = omega arith in
-    c.part_at.ensures ∙ behind-none s c.loop-left.place ∙ ap (λ (i : ℕ). part_behind i s c.loop-left.place) e ∙ c.loop-left.invariant
+returns c = c.part_at-2.ensures ∙ behind-done c.args.s.now c.args.i c.loop.counter c.loop.place (omega arith) ∙ c.loop.invariant

@@ -15,8 +15,5 @@ abbrev pub invariant-loop-c : goal.invariant-loop-c
 invariant-loop-c l =
     (l.c ≤ l.count) × (each (tree (frame_from l.f l.edges) l.bands l.coef l.judged (l.d - 1) l.table) (drop l.c (children_by l.f.form (box_of l.f.n l.b))) [] l.place ≡ tree (frame_from l.f l.edges) l.bands l.coef l.judged l.d l.table l.at (box_of l.f.n l.b))
 
-abbrev pub decreases-loop-c : goal.decreases-loop-c
-decreases-loop-c l = l.count - l.c
-
 abbrev pub decreases-walk : goal.decreases-walk
 decreases-walk l = l.d

@@ -11,8 +11,5 @@ abbrev pub invariant-loop-c : goal.invariant-loop-c
 invariant-loop-c l =
     (l.c ≤ l.count) × Left (tree (frame_from l.f l.edges) l.bands l.coef l.judged (l.d - 1) l.table) (children_by l.f.form (box_of l.f.n l.b)) l.table l.told l.c l.cursor l.place (tree (frame_from l.f l.edges) l.bands l.coef l.judged l.d l.table l.at (box_of l.f.n l.b))
 
-abbrev pub decreases-loop-c : goal.decreases-loop-c
-decreases-loop-c l = l.count - l.c
-
 abbrev pub decreases-walk_told : goal.decreases-walk_told
 decreases-walk_told l = l.d
