@@ -19,15 +19,14 @@ fn end_by(f: Frame, bands: &[i64], coef: &[i64], table: &[u8]) -> Result<usize, 
     ensures { result ≡ table_end (rules_in f bands.now coef.now) table.now }
 {
     let at = headers::header(f.form, f.n, table)?;
-    let root = f.root;
     let depth = frames::depth(f.form, f.n, f.d);
     let edges = frames::edges_of(f);
     let counts = frames::counts_of(f);
     // A form that tells lengths and those that tell none have a walk each.
     if f.form == 2 {
-        walks::walk_told(counts, &edges, bands, coef, true, table, depth, at, root)
+        walks::walk_told(counts, &edges, bands, coef, true, table, depth, at, f.root)
     } else {
-        walks::walk(counts, &edges, bands, coef, true, table, depth, at, root)
+        walks::walk(counts, &edges, bands, coef, true, table, depth, at, f.root)
     }
 }
 

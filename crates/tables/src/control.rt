@@ -21,16 +21,14 @@ pub(crate) fn admit(can: bool, n: usize, b: Bx, x: [i64; 4]) -> Result<(), Refus
     requires { n ≤ 4 }
     ensures { result ≡ admission can (fits (box_of n b) (reading_of n x)) }
 {
-    let state = refusals::bad_state();
-    let missed = boxes::missed(n, b, x);
-    let reading = refusals::outside(missed);
-    if can {
-        if n <= missed {
-            return Ok(());
-        }
-        return Err(reading);
+    if !can {
+        return Err(refusals::bad_state());
     }
-    Err(state)
+    let missed = boxes::missed(n, b, x);
+    if missed < n {
+        return Err(refusals::outside(missed));
+    }
+    Ok(())
 }
 
 // Idle: the reading must be in R; its tile is found, its first mode answered.

@@ -40,10 +40,7 @@ pub fn held(told: bool, table: &[u8], at: usize, from: usize, end: usize) -> Res
 {
     if told {
         let (size, next) = numbers::number(table, at).ok_or(files::refusals::broken(at))?;
-        if end < from {
-            return Err(refusals::bad_table(at));
-        }
-        if end - from != size {
+        if end < from || end - from != size {
             return Err(refusals::bad_table(at));
         }
         return Ok(next);

@@ -21,7 +21,7 @@ use meaning::{Refusal, StartState, State};
 fn is_idle(st: State) -> bool
     ensures { result ≡ is_idle st }
 {
-    if st.place == 0 { st.left == 0 } else { false }
+    st.place == 0 && st.left == 0
 }
 
 // The lowest index of the boxes that hold a reading; m + 1 where none does.
@@ -67,13 +67,11 @@ fn choose_table(
     requires { (n ≤ 4) × (m ≤ most_above) }
     ensures { result ≡ choice_of n (box_of n root) (values_in m edges.now) st x }
 {
-    let i = st.index;
-    let state = st.state;
-    if m < i {
+    if m < st.index {
         return Err(refusals::bad_state());
     }
-    if is_idle(state) {
-        return idle_choice(n, root, edges, m, i, x);
+    if is_idle(st.state) {
+        return idle_choice(n, root, edges, m, st.index, x);
     }
     Ok(st.index)
 }
@@ -82,14 +80,8 @@ fn choose_table(
 fn state_in(i: usize, st: State) -> StartState
     ensures { result ≡ state_in i st }
 {
-    if is_idle(st) {
-        return StartState {
-            index: 0,
-            state: st,
-        };
-    }
     StartState {
-        index: i,
+        index: if is_idle(st) { 0 } else { i },
         state: st,
     }
 }
@@ -127,10 +119,8 @@ fn start_call(
     requires { FramesSound f edges.now m }
     ensures { result ≡ start_answer f edges.now start.now m at st x }
 {
-    let root = f.root;
-    let state = st.state;
-    let i = choose_table(f.n, root, edges, m, st, x)?;
-    call_behind(chains::frame_at(f, edges, i), start, at, i, state, x)
+    let i = choose_table(f.n, f.root, edges, m, st, x)?;
+    call_behind(chains::frame_at(f, edges, i), start, at, i, st.state, x)
 }
 
 // What the controller answers to a reading, for every plant, start file, state and reading. Numbers of the reading beyond n are ignored.

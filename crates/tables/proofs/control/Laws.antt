@@ -36,9 +36,6 @@ use Rattle.tables.proofs.finds.Laws.{held, not-held}
 
 -- ---- whether a call may go on
 
-pub admit-state : (can : Bool) (fit : List Bool) → can ≡ false → Err bad_state ≡ admission can fit
-admit-state can fit c = simp c
-
 module _ (can : Bool) (c : can ≡ true) (n : ℕ) (lo hi x : List ℤ) (i : ℕ) (q : i ≡ first_false (B.fits (B.sides_of n lo hi) (reading_of n x))) where
   pub admit-reading : i < n → Err (outside i) ≡ admission can (B.fits (B.sides_of n lo hi) (reading_of n x))
   admit-reading h =

@@ -102,26 +102,6 @@ module _ (s : List ℕ) where
         go (refused y) q e = let z : y ≡ x = cc in q ∙ ap refused z
         go (read ls m) q e = never cc
 
--- ---- one held to its child
-
-module _ (told : Bool) (s : List ℕ) (at from end : ℕ) where
-  pub held-untold : told ≡ false → Ok at ≡ held_at told s at from end
-  held-untold t = rw t refl
-
-  module _ (t : told ≡ true) where
-    pub held-broken : number_at s at ≡ None → Err (broken at) ≡ held_at told s at from end
-    held-broken e = rw (t, e) refl
-
-    module _ (size next : ℕ) (e : number_at s at ≡ Some (size, next)) where
-      pub held-before : end < from → Err (bad_table at) ≡ held_at told s at from end
-      held-before h = rw (t, e, ne_eqb end (from + size) (λ q. omega (arith, q))) refl
-
-      pub held-other : from ≤ end → (end - from ≡ size → ⊥) → Err (bad_table at) ≡ held_at told s at from end
-      held-other h n = rw (t, e, ne_eqb end (from + size) (λ q. n (omega (arith, q)))) refl
-
-      pub held_same : from ≤ end → end - from ≡ size → Ok next ≡ held_at told s at from end
-      held_same h q = rw (t, e, eq-eqb end (from + size) (omega (arith, q))) refl
-
 -- ---- where children end by them
 
 module _ (s : List ℕ) where

@@ -54,15 +54,6 @@ is-idle st e =
     let b = eqb st.left 0 in
     zeros (eqb-true st.place 0 (first a b e)) (eqb-true st.left 0 (second a b e))
 
-pub kept-none : (i : ℕ) (st : State) → is_idle st ≡ true → record { index = 0; state = st } ≡ state_in i st
-kept-none i st e = simp e (ap at_zero (is-idle st e))
-  where
-    at_zero : State → StartState
-    at_zero z = record { index = 0; state = z }
-
-pub kept-index : (i : ℕ) (st : State) → is_idle st ≡ false → record { index = i; state = st } ≡ state_in i st
-kept-index i st e = simp e
-
 -- ---- whether Ri holds a reading, by the box that the code has
 
 module _ (n : ℕ) (rooms : n ≤ 4) (root : Bx) (edges : List ℤ) (m : ℕ) (x : List ℤ) (i : ℕ) (b : Bx) (q : b ≡ bx_at n root edges i) where
@@ -104,24 +95,6 @@ module _ (n : ℕ) (root : List Side) (vs : List ℤ) (x : List ℤ) where
 
     pub choice-lowest : v ≡ Ok tt → (k : ℕ) → k ≡ chosen n root vs x → Ok k ≡ idle_choice n root vs i x
     choice-lowest h k c = ap Ok c ∙ accepted-by (eqb i 0) (all fit) (first_false fit) (chosen n root vs x) (sym q ∙ h)
-
-  module _ (st : StartState) where
-    pub index-over : above vs < st.index → Err bad_state ≡ choice_of n root vs st x
-    index-over h = sym (simp (lt-leb st.index (above vs) h))
-
-    -- by the tests
-    abbrev by : Bool → Bool → Result ℕ Refusal
-    by can none = guard can (Err bad_state) λ _. choose none (λ _. idle_choice n root vs st.index x) (λ _. Ok st.index)
-
-    module _ (h : st.index ≤ above vs) where
-      known : (none : Bool) → is_idle st.state ≡ none → by true none ≡ choice_of n root vs st x
-      known none e = sym (ap (λ (t : Bool). by t (is_idle st.state)) (le-leb st.index (above vs) h) ∙ ap (by true) e)
-
-      pub index-idle : is_idle st.state ≡ true → idle_choice n root vs st.index x ≡ choice_of n root vs st x
-      index-idle e = known true e
-
-      pub index-running : is_idle st.state ≡ false → Ok st.index ≡ choice_of n root vs st x
-      index-running e = known false e
 
 -- the first that does not hold is no later than one that does not
 first_under : (t : ℕ → Bool) (m i k : ℕ) → k < m → t (i + k) ≡ false → first_false (tab t m i) ≤ k

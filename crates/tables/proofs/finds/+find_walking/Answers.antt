@@ -21,7 +21,7 @@ use Rattle.tables.specs.Frames.{frame_from}
 use Rattle.tables.proofs.boxes.Halving.{small-children}
 use Rattle.tables.proofs.finds.Laws.{held, not-held, node-broken, node_over, node-tile, node-deep}
 use Rattle.tables.proofs.finds.Untold.{look-split, look_none, look-here, look-more, look-refused}
-use Rattle.tables.proofs.refusals.Laws.{there, handed}
+use Rattle.tables.proofs.refusals.Laws.{there, nothing}
 use Rattle.tables.proofs.finds.+find_walking.Goals as goal
 
 -- what the walk is lent for bands and coefficients
@@ -34,7 +34,7 @@ returns-in_err-k t c =
     let bytes : List ℕ = c.args.table.now in
     let box : Bx → List Side = λ b. box_of c.args.f.n b in
     let p = err_from_is_err_and c.from_residual.result c.from_residual.ensures.1 in
-    let h = handed c.number.result c.broken.result c.in_err-k.ensures.value in
+    let h = nothing c.number.result c.broken.result c.in_err-k.ensures.value in
     rw (p.1, p.2, h.1) (ap Err c.broken.ensures ∙ node-broken frame c.args.x c.args.d bytes c.args.at (box c.args.b) (sym c.number.ensures ∙ h.0))
 
 pub returns-then-f-k : goal.returns-then-f-k

@@ -17,7 +17,7 @@ use Rattle.tables.proofs.boxes.Halving.{small-children}
 use Rattle.tables.proofs.finds.Laws.{node-broken, node_over, node-tile, node-deep}
 use Rattle.tables.proofs.finds.Told.{told-stuck, told-refused, told_child}
 use Rattle.tables.proofs.parts.Laws.{number-within}
-use Rattle.tables.proofs.refusals.Laws.{there, handed}
+use Rattle.tables.proofs.refusals.Laws.{there, nothing}
 use Rattle.tables.proofs.finds.find.Goals as goal
 
 pub returns-in_err-k : goal.returns-in_err-k
@@ -26,7 +26,7 @@ returns-in_err-k c =
     let bytes : List ℕ = c.args.table.now in
     let here : List Side = box_of c.args.f.n c.loop-k.here in
     let p = err_from_is_err_and c.from_residual.result c.from_residual.ensures.1 in
-    let h = handed c.number.result c.broken.result c.in_err-k.ensures.value in
+    let h = nothing c.number.result c.broken.result c.in_err-k.ensures.value in
     rw (p.1, p.2, h.1) (ap Err c.broken.ensures ∙ node-broken frame c.args.x c.loop-k.left bytes c.loop-k.place here (sym c.number.ensures ∙ h.0) ∙ c.loop-k.invariant.2)
 
 pub returns-then-f-k : goal.returns-then-f-k

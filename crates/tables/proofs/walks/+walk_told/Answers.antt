@@ -22,7 +22,7 @@ use Rattle.tables.specs.Frames.{frame_from}
 use Rattle.tables.specs.Lengths.{behind_at}
 use Rattle.tables.proofs.boxes.Halving.{small-children}
 use Rattle.tables.proofs.walks.Laws.{Left, tree, tree-broken, tree_over, tile-alike, tree-deep, tree-stuck, tree-unread, tree-split, left-done, left-stopped, left-more, left-wrong}
-use Rattle.tables.proofs.refusals.Laws.{there, handed}
+use Rattle.tables.proofs.refusals.Laws.{there, nothing}
 use Rattle.tables.proofs.walks.+walk_told.Goals as goal
 
 pub returns-in_err-k : goal.returns-in_err-k
@@ -34,7 +34,7 @@ returns-in_err-k t c =
     let table : List ℕ = c.args.table.now in
     let box : List Side = box_of c.args.f.n c.args.b in
     let p = err_from_is_err_and c.from_residual.result c.from_residual.ensures.1 in
-    let h = handed c.number.result c.broken.result c.in_err-k.ensures.value in
+    let h = nothing c.number.result c.broken.result c.in_err-k.ensures.value in
     rw (p.1, p.2, h.1) (ap Err c.broken.ensures ∙ tree-broken frame bands coef flag c.args.d table c.args.at box (sym c.number.ensures ∙ h.0))
 
 pub returns-then-f-k : goal.returns-then-f-k
