@@ -67,7 +67,8 @@ pub fn first(
     let mut boxes = [0i64; ROOM];
     levels::begin(n, b, &mut boxes);
     *us = [count; LONGEST];
-    for m in 0..k {
+    let mut size: usize = 0;
+    'search: for m in 0..k {
         let mut l: usize = 0;
         let mut u: usize = 0;
         loop {
@@ -82,7 +83,8 @@ pub fn first(
             if l == m {
                 if let Some(v) = steps::last(n, count, coef, limits, marks, &boxes, WIDE * l) {
                     us[l] = v;
-                    return m + 1;
+                    size = m + 1;
+                    break 'search;
                 }
                 u = count;
                 continue;
@@ -95,5 +97,5 @@ pub fn first(
             u += 1;
         }
     }
-    0
+    size
 }
