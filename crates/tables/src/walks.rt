@@ -108,14 +108,7 @@ pub fn walk_told(
     if 0 < k {
         // A tile is judged alike in every form. It is asked of the other walk, so that the tile's function is called in one place and the compiler keeps it in
         // the loop there.
-        let plain = Counts {
-            form: 1,
-            n: f.n,
-            modes: f.modes,
-            q: f.q,
-            k: f.k,
-            d: f.d,
-        };
+        let plain = Counts { form: 1, ..f };
         return walk(plain, edges, bands, coef, judged, table, d, at, b);
     }
     if d == 0 {
