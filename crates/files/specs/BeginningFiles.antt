@@ -57,18 +57,18 @@ pub file-bounds : (b : Beginning) (rest : Form) (vs : List ℤ)
     → file_of (edges_and_bands b.n rest) (edges_in b ++ (bands_in b ++ vs)) ≡ signed_bytes (edges_in b ++ bands_in b) ++ file_of rest vs
 unfolding edges bands
 file-bounds b rest vs =
-    file-times edges_part edge (λ k. signed_bytes (edge k)) (file-edges b.rlo b.rhi b.slo b.shi) b.n 0 (times b.n (span band_limit) rest) (bands_in b ++ vs)
+    file-times edges_part edge (λ k. signed_bytes (edge k)) (file-edges b.root.lo b.root.hi b.safe.lo b.safe.hi) b.n 0 (times b.n (span band_limit) rest) (bands_in b ++ vs)
     ∙ ap (λ (bs : List ℕ). bs ++ file_of (times b.n (span band_limit) rest) (bands_in b ++ vs)) (signed-tabs edge b.n 0)
     ∙ ap (λ (bs : List ℕ). signed_bytes (edges_in b) ++ bs)
-    (file-times (span band_limit) band (λ k. signed_bytes (band k)) (file-bands b.wlo b.whi) b.n 0 rest vs ∙ ap (λ (bs : List ℕ). bs ++ file_of rest vs) (signed-tabs band b.n 0))
+    (file-times (span band_limit) band (λ k. signed_bytes (band k)) (file-bands b.bands.lo b.bands.hi) b.n 0 rest vs ∙ ap (λ (bs : List ℕ). bs ++ file_of rest vs) (signed-tabs band b.n 0))
     ∙ sym (append_assoc (signed_bytes (edges_in b)) (signed_bytes (bands_in b)) (file_of rest vs))
     ∙ ap (λ (bs : List ℕ). bs ++ file_of rest vs) (sym (signed-append (edges_in b) (bands_in b)))
   where
     edge : ℕ → List ℤ
-    edge = edges_of b.rlo b.rhi b.slo b.shi
+    edge = edges_of b.root.lo b.root.hi b.safe.lo b.safe.hi
 
     band : ℕ → List ℤ
-    band = band_of b.wlo b.whi
+    band = band_of b.bands.lo b.bands.hi
 
 -- ---- as it is drafted
 
@@ -154,6 +154,6 @@ beginning-long b = go (dec_lt 4 b.n)
           head-long h,
           signed-long body,
           length-append (edges_in b) (bands_in b),
-          length-tabs (edges_of b.rlo b.rhi b.slo b.shi) 4 (λ k. refl) b.n 0,
-          length-tabs (band_of b.wlo b.whi) 2 (λ k. refl) b.n 0,
+          length-tabs (edges_of b.root.lo b.root.hi b.safe.lo b.safe.hi) 4 (λ k. refl) b.n 0,
+          length-tabs (band_of b.bands.lo b.bands.hi) 2 (λ k. refl) b.n 0,
         ))

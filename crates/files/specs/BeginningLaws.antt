@@ -19,16 +19,16 @@ use Rattle.files.specs.Beginnings.{head_numbers, head_of, edges_in, bands_in, be
 same : (form n m q k d : ℕ) {rlo rhi slo shi wlo whi rlo' rhi' slo' shi' wlo' whi' : List ℤ}
     → rlo ≡ rlo' → rhi ≡ rhi' → slo ≡ slo' → shi ≡ shi' → wlo ≡ wlo' → whi ≡ whi'
     → ◌≡◌ {A = Beginning}
-    (record { form = form; n = n; m = m; q = q; k = k; d = d; rlo = rlo; rhi = rhi; slo = slo; shi = shi; wlo = wlo; whi = whi })
-    (record { form = form; n = n; m = m; q = q; k = k; d = d; rlo = rlo'; rhi = rhi'; slo = slo'; shi = shi'; wlo = wlo'; whi = whi' })
+    (record { form = form; n = n; m = m; q = q; k = k; d = d; root = record { lo = rlo; hi = rhi }; safe = record { lo = slo; hi = shi }; bands = record { lo = wlo; hi = whi } })
+    (record { form = form; n = n; m = m; q = q; k = k; d = d; root = record { lo = rlo'; hi = rhi' }; safe = record { lo = slo'; hi = shi' }; bands = record { lo = wlo'; hi = whi' } })
 same form n m q k d e₀ e₁ e₂ e₃ e₄ e₅ = rw (e₀, e₁, e₂, e₃, e₄, e₅) refl
 
 module _ {forms most : ℕ} {s : List ℕ} (b : Beginning) {next : ℕ} (t : Begun forms most s b next) (rest : List ℤ) where
   abbrev edges : ℕ → List ℤ
-  edges = edges_of b.rlo b.rhi b.slo b.shi
+  edges = edges_of b.root.lo b.root.hi b.safe.lo b.safe.hi
 
   abbrev bands : ℕ → List ℤ
-  bands = band_of b.wlo b.whi
+  bands = band_of b.bands.lo b.bands.hi
 
   abbrev numbers : List ℤ
   numbers = head_numbers (head_of b) ++ (edges_in b ++ (bands_in b ++ rest))
@@ -44,12 +44,12 @@ module _ {forms most : ℕ} {s : List ℕ} (b : Beginning) {next : ℕ} (t : Beg
   beginning-back =
       ap (λ (l : List ℤ). beginning_of (head_numbers (head_of b) ++ l)) (append_assoc (edges_in b) (bands_in b) rest)
       ∙ same b.form b.n b.m b.q b.k b.d
-      (edges-same 0 (omega arith) b.rlo t.rlo-filled (λ i. refl))
-      (edges-same 1 (omega arith) b.rhi t.rhi-filled (λ i. refl))
-      (edges-same 2 (omega arith) b.slo t.slo-filled (λ i. refl))
-      (edges-same 3 (omega arith) b.shi t.shi-filled (λ i. refl))
-      (bands-same 0 (omega arith) b.wlo t.wlo-filled (λ i. refl))
-      (bands-same 1 (omega arith) b.whi t.whi-filled (λ i. refl))
+      (edges-same 0 (omega arith) b.root.lo t.rlo-filled (λ i. refl))
+      (edges-same 1 (omega arith) b.root.hi t.rhi-filled (λ i. refl))
+      (edges-same 2 (omega arith) b.safe.lo t.slo-filled (λ i. refl))
+      (edges-same 3 (omega arith) b.safe.hi t.shi-filled (λ i. refl))
+      (bands-same 0 (omega arith) b.bands.lo t.wlo-filled (λ i. refl))
+      (bands-same 1 (omega arith) b.bands.hi t.whi-filled (λ i. refl))
 
 -- ---- told is settled
 

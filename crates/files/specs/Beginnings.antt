@@ -31,10 +31,10 @@ abbrev pub head_of : Beginning → Header
 head_of b = record { form = b.form; n = b.n; m = b.m; q = b.q; k = b.k; d = b.d }
 
 abbrev pub edges_in : Beginning → List ℤ
-edges_in b = tabs (edges_of b.rlo b.rhi b.slo b.shi) b.n 0
+edges_in b = tabs (edges_of b.root.lo b.root.hi b.safe.lo b.safe.hi) b.n 0
 
 abbrev pub bands_in : Beginning → List ℤ
-bands_in b = tabs (band_of b.wlo b.whi) b.n 0
+bands_in b = tabs (band_of b.bands.lo b.bands.hi) b.n 0
 
 unfoldable pub beginning_numbers : Beginning → List ℤ
 beginning_numbers b = head_numbers (head_of b) ++ (edges_in b ++ bands_in b)
@@ -50,12 +50,9 @@ beginning_of vs =
       q = nat_abs (at vs 3);
       k = nat_abs (at vs 4);
       d = nat_abs (at vs 5);
-      rlo = column vs 6 4 n;
-      rhi = column vs 7 4 n;
-      slo = column vs 8 4 n;
-      shi = column vs 9 4 n;
-      wlo = column vs (6 + 4 * n) 2 n;
-      whi = column vs (7 + 4 * n) 2 n;
+      root = record { lo = column vs 6 4 n; hi = column vs 7 4 n };
+      safe = record { lo = column vs 8 4 n; hi = column vs 9 4 n };
+      bands = record { lo = column vs (6 + 4 * n) 2 n; hi = column vs (7 + 4 * n) 2 n };
     }
 
 -- ---- R lies within S, each band is wide enough: a verdict, which is told behind leftover bytes
@@ -92,13 +89,13 @@ related-verdict q root safe modes rest = go (all (lies root safe))
 
 -- what `related` asks of a beginning, which has one band for each dimension
 abbrev pub related_in : {A : Type 0} → Beginning → (Unit {0} → Judged A) → Judged A
-related_in b rest = related b.q (sides_of b.n b.rlo b.rhi) (sides_of b.n b.slo b.shi) (sides_of b.n b.wlo b.whi ∷ []) rest
+related_in b rest = related b.q (sides_of b.n b.root.lo b.root.hi) (sides_of b.n b.safe.lo b.safe.hi) (sides_of b.n b.bands.lo b.bands.hi ∷ []) rest
 
 abbrev pub relation : Beginning → Verdict
 relation b = verdict_of {A = Unit {0}} (related_in b λ _. good tt)
 
 pub related-by : {A : Type 0} (b : Beginning) (rest : Unit {0} → Judged A) → related_in b rest ≡ by_verdict (relation b) rest
-related-by b rest = related-verdict b.q (sides_of b.n b.rlo b.rhi) (sides_of b.n b.slo b.shi) (sides_of b.n b.wlo b.whi ∷ []) rest
+related-by b rest = related-verdict b.q (sides_of b.n b.root.lo b.root.hi) (sides_of b.n b.safe.lo b.safe.hi) (sides_of b.n b.bands.lo b.bands.hi ∷ []) rest
 
 -- ---- read
 
@@ -120,14 +117,14 @@ pub record Begun (forms most : ℕ) (s : List ℕ) (b : Beginning) (next : ℕ) 
   pub m-high : b.m ≤ most
   pub q-low : 1 ≤ b.q
   pub q-high : b.q ≤ 10000
-  pub rlo-filled : Filled 4 b.n b.rlo
-  pub rhi-filled : Filled 4 b.n b.rhi
-  pub slo-filled : Filled 4 b.n b.slo
-  pub shi-filled : Filled 4 b.n b.shi
-  pub wlo-filled : Filled 4 b.n b.wlo
-  pub whi-filled : Filled 4 b.n b.whi
-  pub edge-sizes : EndsWithin edge_limit b.n b.slo b.shi
-  pub band-sizes : EndsWithin band_limit b.n b.wlo b.whi
+  pub rlo-filled : Filled 4 b.n b.root.lo
+  pub rhi-filled : Filled 4 b.n b.root.hi
+  pub slo-filled : Filled 4 b.n b.safe.lo
+  pub shi-filled : Filled 4 b.n b.safe.hi
+  pub wlo-filled : Filled 4 b.n b.bands.lo
+  pub whi-filled : Filled 4 b.n b.bands.hi
+  pub edge-sizes : EndsWithin edge_limit b.n b.safe.lo b.safe.hi
+  pub band-sizes : EndsWithin band_limit b.n b.bands.lo b.bands.hi
   pub holds : (rest : ℕ → ℕ → ℕ → Form) → values_at (beginning_form forms most rest) s 0 ≡ behind (beginning_numbers b) (values_at (rest b.form b.n b.m) s next)
 
 -- whatever stands behind it
@@ -139,14 +136,14 @@ BeginningTold forms most s (Err e) = (rest : ℕ → ℕ → ℕ → Form) → v
 pub record BoundsRead (s : List ℕ) (h : Header) (from : ℕ) (b : Beginning) (next : ℕ) : Type 0 where
   pub same : head_of b ≡ h
   pub part : Holds (edges_and_bands h.n) s from (edges_in b ++ bands_in b) next
-  pub rlo-filled : Filled 4 h.n b.rlo
-  pub rhi-filled : Filled 4 h.n b.rhi
-  pub slo-filled : Filled 4 h.n b.slo
-  pub shi-filled : Filled 4 h.n b.shi
-  pub wlo-filled : Filled 4 h.n b.wlo
-  pub whi-filled : Filled 4 h.n b.whi
-  pub edge-sizes : EndsWithin edge_limit h.n b.slo b.shi
-  pub band-sizes : EndsWithin band_limit h.n b.wlo b.whi
+  pub rlo-filled : Filled 4 h.n b.root.lo
+  pub rhi-filled : Filled 4 h.n b.root.hi
+  pub slo-filled : Filled 4 h.n b.safe.lo
+  pub shi-filled : Filled 4 h.n b.safe.hi
+  pub wlo-filled : Filled 4 h.n b.bands.lo
+  pub whi-filled : Filled 4 h.n b.bands.hi
+  pub edge-sizes : EndsWithin edge_limit h.n b.safe.lo b.safe.hi
+  pub band-sizes : EndsWithin band_limit h.n b.bands.lo b.bands.hi
 
 abbrev pub BoundsTold : List ℕ → Header → ℕ → Result (Beginning × ℕ) Refusal → Type 0
 BoundsTold s h from (Ok (b, next)) = BoundsRead s h from b next

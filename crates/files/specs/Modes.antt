@@ -73,7 +73,7 @@ after_mode (Ok _) n u thin = cond (ltb thin n) (Err (narrow u thin)) (Ok tt)
 
 -- what is asked of R, S and the bands of the first m modes
 abbrev pub related_by : {A : Type 0} → Beginning → List ℤ → ℕ → (Unit {0} → Judged A) → Judged A
-related_by b bands m rest = related b.q (sides_of b.n b.rlo b.rhi) (sides_of b.n b.slo b.shi) (tab (bands_from b.n bands) m 0) rest
+related_by b bands m rest = related b.q (sides_of b.n b.root.lo b.root.hi) (sides_of b.n b.safe.lo b.safe.hi) (tab (bands_from b.n bands) m 0) rest
 
 abbrev pub relation_by : Beginning → List ℤ → ℕ → Verdict
 relation_by b bands m = verdict_of {A = Unit {0}} (related_by b bands m λ _. good tt)

@@ -44,7 +44,7 @@ body_of s b at = body_judged plant_related rest_form s b at
 
 -- a beginning as a plant's outline, and with the numbers of the modes as a plant
 abbrev pub outline_in : Beginning → Outline
-outline_in b = record { form = b.form; n = b.n; modes = b.m; q = b.q; k = b.k; d = b.d; rlo = b.rlo; rhi = b.rhi; slo = b.slo; shi = b.shi }
+outline_in b = record { form = b.form; n = b.n; modes = b.m; q = b.q; k = b.k; d = b.d; rlo = b.root.lo; rhi = b.root.hi; slo = b.safe.lo; shi = b.safe.hi }
 
 abbrev pub plant_with : Beginning → List ℤ → List ℤ → Plant
 plant_with b bands coef = plant_from (outline_in b) bands coef
@@ -60,12 +60,12 @@ plant_beginning p = record {
   q = p.q;
   k = p.k;
   d = p.d;
-  rlo = p.rlo;
-  rhi = p.rhi;
-  slo = p.slo;
-  shi = p.shi;
-  wlo = L.at p.bands 0 ∷ L.at p.bands 2 ∷ L.at p.bands 4 ∷ L.at p.bands 6 ∷ [];
-  whi = L.at p.bands 1 ∷ L.at p.bands 3 ∷ L.at p.bands 5 ∷ L.at p.bands 7 ∷ [];
+  root = record { lo = p.rlo; hi = p.rhi };
+  safe = record { lo = p.slo; hi = p.shi };
+  bands = record {
+    lo = L.at p.bands 0 ∷ L.at p.bands 2 ∷ L.at p.bands 4 ∷ L.at p.bands 6 ∷ [];
+    hi = L.at p.bands 1 ∷ L.at p.bands 3 ∷ L.at p.bands 5 ∷ L.at p.bands 7 ∷ [];
+  };
 }
 
 abbrev pub rest_of : Plant → List ℤ

@@ -5,11 +5,12 @@ ghost use Rattle.laws.specs.Writing.{Put};
 ghost use Rattle.files.specs.Bounds.{BandSizes};
 ghost use Rattle.files.specs.Beginnings.{relation, BoundsTold, beginning_read, BeginningTold, beginning_bytes};
 
+use crate::bounds::Sides;
 use crate::headers::Header;
 use crate::{bounds, headers, refusals};
 use meaning::Refusal;
 
-// The header's numbers, m being a plant's N or a sheet's r, and the arrays, of which the first n entries count.
+// The header's numbers, m being a plant's N or a sheet's r, then R, S and w.
 #[derive(Clone, Copy)]
 pub struct Beginning {
     pub form: usize,
@@ -18,12 +19,9 @@ pub struct Beginning {
     pub q: usize,
     pub k: usize,
     pub d: usize,
-    pub rlo: [i64; 4],
-    pub rhi: [i64; 4],
-    pub slo: [i64; 4],
-    pub shi: [i64; 4],
-    pub wlo: [i64; 4],
-    pub whi: [i64; 4],
+    pub root: Sides,
+    pub safe: Sides,
+    pub bands: Sides,
 }
 
 // A beginning that was read, what is to be said of its R, S and w, and the place behind it.
@@ -38,15 +36,15 @@ pub struct BeginningRead {
 fn judge(b: Beginning) -> Result<(), Refusal>
     requires fact_1 { b.n ≤ 4 }
     requires fact_2 { b.q ≤ 10000 }
-    requires fact_3 { BandSizes b.n b.wlo b.whi }
+    requires fact_3 { BandSizes b.n b.bands.lo b.bands.hi }
     ensures { result ≡ relation b }
 {
     let n = b.n;
-    let out = bounds::first_out(n, b.rlo, b.rhi, b.slo, b.shi);
+    let out = b.root.first_out(b.safe, n);
     if out < n {
         return Err(refusals::not_in_safe(out));
     }
-    let thin = bounds::first_narrow(n, b.q, b.wlo, b.whi);
+    let thin = b.bands.first_narrow(n, b.q);
     if thin < n {
         return Err(refusals::narrow(0, thin));
     }
@@ -58,28 +56,18 @@ fn read_bounds(s: &[u8], h: Header, at: usize) -> Result<(Beginning, usize), Ref
     requires { h.n ≤ 4 }
     ensures { BoundsTold s.now h at result }
 {
-    let n = h.n;
-    let (edges, mid) = bounds::read_edges(s, at, n)?;
-    let (bands, next) = bounds::read_bands(s, mid, n)?;
-    let rlo = edges.rlo;
-    let rhi = edges.rhi;
-    let slo = edges.slo;
-    let shi = edges.shi;
-    let wlo = bands.wlo;
-    let whi = bands.whi;
+    let (root, safe, mid) = bounds::read_edges(s, at, h.n)?;
+    let (bands, next) = bounds::read_bands(s, mid, h.n)?;
     let beginning = Beginning {
         form: h.form,
-        n,
+        n: h.n,
         m: h.m,
         q: h.q,
         k: h.k,
         d: h.d,
-        rlo,
-        rhi,
-        slo,
-        shi,
-        wlo,
-        whi,
+        root,
+        safe,
+        bands,
     };
     Ok((beginning, next))
 }
@@ -114,6 +102,6 @@ pub fn put_beginning(buf: &mut [u8], b: Beginning) -> usize
     if 4 < n {
         return past_header;
     }
-    let past_edges = bounds::put_edges(buf, past_header, n, b.rlo, b.rhi, b.slo, b.shi);
-    bounds::put_bands(buf, past_edges, n, b.wlo, b.whi)
+    let past_edges = bounds::put_edges(buf, past_header, n, b.root, b.safe);
+    bounds::put_bands(buf, past_edges, n, b.bands)
 }

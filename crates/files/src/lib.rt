@@ -1,12 +1,12 @@
 // Files of document 01, read and written: seven-bit numbers (numbers), lo with hi (spans), the rows of the table of refusals (refusals), lent buffers
-// (buffers) and arrays (arrays), what plants and sheets begin with (beginnings), plants (plants).
-// What they mean stands in crates/meaning; a file's parts are read by private modules (fields, headers, bounds, rows, modes).
+// (buffers) and arrays (arrays), the sides of boxes (bounds), what plants and sheets begin with (beginnings), plants (plants).
+// What they mean stands in crates/meaning; a file's parts are read by private modules (fields, headers, rows, modes), its bounds within the crate.
 
 #![tactic(auto)]
 
 pub mod arrays;
 pub mod beginnings;
-mod bounds;
+pub mod bounds;
 pub mod buffers;
 mod fields;
 mod headers;

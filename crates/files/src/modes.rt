@@ -11,6 +11,7 @@ ghost use Rattle.files.specs.Beginnings.{relation, Begun};
 ghost use Rattle.files.specs.Modes.{ends_alike, ModeTold, after_mode, FurtherTold, ModesTold, rest_numbers};
 
 use crate::beginnings::Beginning;
+use crate::bounds::Sides;
 use crate::{arrays, bounds, refusals, rows};
 use meaning::Refusal;
 
@@ -22,27 +23,27 @@ pub struct ModesRead {
 }
 
 // The bands of mode u, laid into the array behind those of the modes before it, as far as there is room.
-fn lay(n: usize, u: usize, wlo: [i64; 4], whi: [i64; 4], bands: &mut [i64])
+fn lay(n: usize, u: usize, w: Sides, bands: &mut [i64])
     requires { (n ≤ 4) × (u < most_modes) }
-    ensures { bands.new ≡ sets bands.old (2 * n * u) (tabs (band_of wlo whi) n 0) }
+    ensures { bands.new ≡ sets bands.old (2 * n * u) (tabs (band_of w.lo w.hi) n 0) }
 {
     let from = 2 * n * u;
     for i in 0..n {
-        arrays::store(bands, from + 2 * i, wlo[i]);
-        arrays::store(bands, from + 2 * i + 1, whi[i]);
+        arrays::store(bands, from + 2 * i, w.lo[i]);
+        arrays::store(bands, from + 2 * i + 1, w.hi[i]);
     }
 }
 
 // The same bands laid for each mode, as far as there is room.
-fn lay_alike(n: usize, modes: usize, wlo: [i64; 4], whi: [i64; 4], bands: &mut [i64])
+fn lay_alike(n: usize, modes: usize, w: Sides, bands: &mut [i64])
     requires { (n ≤ 4) × (modes ≤ most_modes) }
-    ensures { bands.new ≡ sets bands.old 0 (ends_alike n wlo whi modes) }
+    ensures { bands.new ≡ sets bands.old 0 (ends_alike n w.lo w.hi modes) }
 {
     for u in 0..modes {
         if bands.len() <= 2 * n * u {
             return;
         }
-        lay(n, u, wlo, whi, bands);
+        lay(n, u, w, bands);
     }
 }
 
@@ -60,9 +61,9 @@ fn read_mode(
     requires sizes { (n ≤ 4) × (q ≤ 10_000) × (u < most_modes) }
     ensures { ModeTold s.now at n q u bands.old coef.old bands.new coef.new result }
 {
-    let (read, mid) = bounds::read_bands(s, at, n)?;
-    lay(n, u, read.wlo, read.whi, bands);
-    let thin = bounds::first_narrow(n, q, read.wlo, read.whi);
+    let (w, mid) = bounds::read_bands(s, at, n)?;
+    lay(n, u, w, bands);
+    let thin = w.first_narrow(n, q);
     let next = rows::read_rows(s, mid, n, n, n * (n + 1) * u, coef)?;
     Ok((thin, next))
 }
@@ -115,7 +116,7 @@ fn read_own(
     requires { Begun plant_forms most_modes s.now b at × (own_bands b.form ≡ true) × (related ≡ relation b) }
     ensures { ModesTold s.now b at bands.old coef.old bands.new coef.new result }
 {
-    lay(b.n, 0, b.wlo, b.whi, bands);
+    lay(b.n, 0, b.bands, bands);
     let mid = rows::read_rows(s, at, b.n, b.n, 0, coef)?;
     read_further(s, b, related, mid, bands, coef)
 }
@@ -135,7 +136,7 @@ pub fn read_modes(
     if b.form == 2 {
         return read_own(s, b, related, at, bands, coef);
     }
-    lay_alike(b.n, b.m, b.wlo, b.whi, bands);
+    lay_alike(b.n, b.m, b.bands, bands);
     let next = rows::read_rows(s, at, b.n, b.m * b.n, 0, coef)?;
     Ok(ModesRead { related, next })
 }

@@ -7,6 +7,7 @@ ghost use Rattle.meaning.specs.Plants.{plant_judged, plant_read, bands_left, coe
 ghost use Rattle.files.specs.Plants.{modes_told, outline_in, ValuesTold, plant_draft};
 
 use crate::beginnings::Beginning;
+use crate::bounds::Sides;
 use crate::{arrays, beginnings, buffers, modes, numbers, refusals};
 use meaning::{MODES, Outline, Refusal};
 
@@ -39,10 +40,8 @@ fn third_number(s: &[u8]) -> Option<usize>
 fn outline(b: Beginning) -> Outline
     ensures { result ≡ outline_in b }
 {
-    let rlo = b.rlo;
-    let rhi = b.rhi;
-    let slo = b.slo;
-    let shi = b.shi;
+    let Sides { lo: rlo, hi: rhi } = b.root;
+    let Sides { lo: slo, hi: shi } = b.safe;
     Outline {
         form: b.form,
         n: b.n,
@@ -114,10 +113,13 @@ fn put_plant(p: Outline, bands: &[i64], coef: &[i64], buf: &mut [u8]) -> usize
 {
     let n = p.n;
     let modes = p.modes;
-    let rlo = p.rlo;
-    let rhi = p.rhi;
-    let slo = p.slo;
-    let shi = p.shi;
+    let Outline {
+        rlo,
+        rhi,
+        slo,
+        shi,
+        ..
+    } = p;
     let wlo = ends(bands, 0);
     let whi = ends(bands, 1);
     let b = Beginning {
@@ -127,12 +129,9 @@ fn put_plant(p: Outline, bands: &[i64], coef: &[i64], buf: &mut [u8]) -> usize
         q: p.q,
         k: p.k,
         d: p.d,
-        rlo,
-        rhi,
-        slo,
-        shi,
-        wlo,
-        whi,
+        root: Sides { lo: rlo, hi: rhi },
+        safe: Sides { lo: slo, hi: shi },
+        bands: Sides { lo: wlo, hi: whi },
     };
     let past = beginnings::put_beginning(buf, b);
     if 4 < n {

@@ -15,8 +15,7 @@ use Rattle.meaning.specs.Files.{Form, refused, values_at}
 use Rattle.meaning.specs.Boxes.{sides_of, lies}
 use Rattle.meaning.specs.Plants.{band_limit, span, times, edges, bands, edges_and_bands, headed, wide, wide_modes}
 use Rattle.files.specs.declared.headers.Header.{Header}
-use Rattle.files.specs.declared.bounds.Edges.{Edges}
-use Rattle.files.specs.declared.bounds.Bands.{Bands}
+use Rattle.files.specs.declared.bounds.Sides.{Sides}
 use Rattle.files.specs.declared.beginnings.Beginning.{Beginning}
 use Rattle.files.specs.Headers.{Headed}
 use Rattle.files.specs.Parts.{behind, behind-refused, Fails, holds_then, holds-fails, fails-then}
@@ -29,28 +28,28 @@ use Rattle.files.proofs.bounds.Laws.{inside, lies-tab, broad, wide-tab}
 
 module _ (b : Beginning) where
   in_safe : List Bool
-  in_safe = lies (sides_of b.n b.rlo b.rhi) (sides_of b.n b.slo b.shi)
+  in_safe = lies (sides_of b.n b.root.lo b.root.hi) (sides_of b.n b.safe.lo b.safe.hi)
 
   all_wide : List Bool
-  all_wide = map (wide b.q) (sides_of b.n b.wlo b.whi)
+  all_wide = map (wide b.q) (sides_of b.n b.bands.lo b.bands.hi)
 
   in_safe-long : length in_safe ≡ b.n
   unfolding in_safe
-  in_safe-long = ap length (lies-tab b.rlo b.rhi b.slo b.shi b.n 0) ∙ length-tab (inside b.rlo b.rhi b.slo b.shi) b.n 0
+  in_safe-long = ap length (lies-tab b.root.lo b.root.hi b.safe.lo b.safe.hi b.n 0) ∙ length-tab (inside b.root.lo b.root.hi b.safe.lo b.safe.hi) b.n 0
 
   all_wide-long : length all_wide ≡ b.n
   unfolding all_wide
-  all_wide-long = ap length (wide-tab b.q b.wlo b.whi b.n) ∙ length-tab (broad b.q b.wlo b.whi) b.n 0
+  all_wide-long = ap length (wide-tab b.q b.bands.lo b.bands.hi b.n) ∙ length-tab (broad b.q b.bands.lo b.bands.hi) b.n 0
 
-  module _ (o : ℕ) (i : o ≡ first_false (lies (sides_of b.n b.rlo b.rhi) (sides_of b.n b.slo b.shi))) where
+  module _ (o : ℕ) (i : o ≡ first_false (lies (sides_of b.n b.root.lo b.root.hi) (sides_of b.n b.safe.lo b.safe.hi))) where
     pub out-told : o < b.n → Err (not_in_safe o) ≡ relation b
     unfolding in_safe
     out-told h =
         let a : all in_safe ≡ false = first-within in_safe (omega (arith, in_safe-long, i)) in
         simp a (rw i refl)
 
-    module _ (g : b.n ≤ o) (k : ℕ) (j : k ≡ first_false (map (wide b.q) (sides_of b.n b.wlo b.whi))) where
-      all_in : all (lies (sides_of b.n b.rlo b.rhi) (sides_of b.n b.slo b.shi)) ≡ true
+    module _ (g : b.n ≤ o) (k : ℕ) (j : k ≡ first_false (map (wide b.q) (sides_of b.n b.bands.lo b.bands.hi))) where
+      all_in : all (lies (sides_of b.n b.root.lo b.root.hi) (sides_of b.n b.safe.lo b.safe.hi)) ≡ true
       unfolding in_safe
       all_in = first-behind in_safe (omega (arith, in_safe-long, i))
 
@@ -73,13 +72,13 @@ module _ (s : List ℕ) (h : Header) (from : ℕ) where
   unfolding edges bands
   edges-refused r t = fails-then {g = times h.n (span band_limit)} t
 
-  module _ (e : Edges) (mid : ℕ) (t : EdgesRead s from h.n e mid) where
+  module _ (root safe : Sides) (mid : ℕ) (t : EdgesRead s from h.n root safe mid) where
     pub bands-refused : (r : Refusal) → Fails (times h.n (span band_limit)) s mid r → Fails (edges_and_bands h.n) s from r
     unfolding edges bands
     bands-refused r u = holds-fails t.part u
 
-    pub bounds-read : (w : Bands) (next : ℕ) → BandsRead s mid h.n w next
-        → BoundsRead s h from (record { form = h.form; n = h.n; m = h.m; q = h.q; k = h.k; d = h.d; rlo = e.rlo; rhi = e.rhi; slo = e.slo; shi = e.shi; wlo = w.wlo; whi = w.whi }) next
+    pub bounds-read : (w : Sides) (next : ℕ) → BandsRead s mid h.n w next
+        → BoundsRead s h from (record { form = h.form; n = h.n; m = h.m; q = h.q; k = h.k; d = h.d; root = root; safe = safe; bands = w }) next
     unfolding edges bands
     bounds-read w next u = record {
       same = refl;

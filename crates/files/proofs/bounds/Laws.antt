@@ -4,16 +4,17 @@ use mathlib.Core.Path.{◌≡◌, refl, ap}
 use mathlib.Core.Bool.{Bool, true, false, ◌&&◌}
 use mathlib.Core.List.{List, [], ◌∷◌, ◌++◌, map}
 use native.Mathlib.Omega.{arith}
-use native.Mathlib.Decide.{ℕ_discrete}
-use lib.ListN.{length, set, replicate}
+use native.Mathlib.Decide.{ℕ_discrete, dec_lt}
+use lib.ListN.{length, set, get_or-eq_default}
 use lib.IntN.{ℤ, pos, neg_ℤ, nat_abs, ◌-ℤ◌}
 use lib.Signed.{le_z, lt_z, ◌≤ℤ◌}
 use mir.Syntax.{w64}
 use mir.Val.{SFits, to_z, of_z}
 use mir.Facts.{to_z_pos, to_z-of_z}
+use Rattle.std.specs.Array.{AllOfLen}
 use Rattle.laws.specs.Integers.{zarith, abs-sub, within, le_z-true, lt-nle, nlt-le}
 use Rattle.laws.specs.Lists.{at, tab, tabs}
-use Rattle.laws.specs.Tabs.{Filled, filled_none, filled_more, at-below, at_stored, tabs-step, tabs-done, map-tab}
+use Rattle.laws.specs.Tabs.{Filled, filled_more, at-below, at_stored, tabs-step, tabs-done, map-tab}
 use Rattle.meaning.specs.Boxes.{side_at, sides_of, lies}
 use Rattle.meaning.specs.Plants.{edge_limit, band_limit, span, times, edges_of, band_of, wide}
 use Rattle.meaning.specs.Numbers.{bytes_of, stored}
@@ -31,11 +32,19 @@ pub record BandsUpTo (s : List ℕ) (from n i p : ℕ) (wlo whi : List ℤ) : Ty
   pub whi-filled : Filled 4 i whi
   pub sizes : BandSizes i wlo whi
 
-pub bands-none : (s : List ℕ) (from n : ℕ) → BandsUpTo s from n 0 from (replicate 4 (pos 0)) (replicate 4 (pos 0))
-bands-none s from n = record {
-  rows = rows_none (span band_limit) (band_of (replicate 4 (pos 0)) (replicate 4 (pos 0))) s from n;
-  wlo-filled = filled_none 4;
-  whi-filled = filled_none 4;
+-- four ends at their default are zeros
+filled-default : (l : List ℤ) → AllOfLen (λ v. v ≡ pos 0) l 4 → Filled 4 0 l
+filled-default l h = record { size = h.long; rest = λ k _. go k (dec_lt k 4) }
+  where
+    go : (k : ℕ) → Dec (k < 4) → at l k ≡ pos 0
+    go k (yes a) = h.at k (pos 0) a
+    go k (no a) = get_or-eq_default l (pos 0) (omega (arith, h.long))
+
+pub bands-none : (s : List ℕ) (from n : ℕ) {wlo whi : List ℤ} → AllOfLen (λ v. v ≡ pos 0) wlo 4 → AllOfLen (λ v. v ≡ pos 0) whi 4 → BandsUpTo s from n 0 from wlo whi
+bands-none s from n {wlo} {whi} a b = record {
+  rows = rows_none (span band_limit) (band_of wlo whi) s from n;
+  wlo-filled = filled-default wlo a;
+  whi-filled = filled-default whi b;
   sizes = λ k h. absurd (omega arith);
 }
 
@@ -81,7 +90,7 @@ module _ {s : List ℕ} {from n i p : ℕ} {wlo whi : List ℤ} (w : BandsUpTo s
   pub bands-fails : (e : Refusal) → i < n → Fails (span_in (neg_ℤ (pos band_limit)) (pos band_limit)) s p e → Fails (times n (span band_limit)) s from e
   bands-fails e h t = rows-fails w.rows h t
 
-  pub bands-all : n ≤ i → BandsRead s from n (record { wlo = wlo; whi = whi }) p
+  pub bands-all : n ≤ i → BandsRead s from n (record { lo = wlo; hi = whi }) p
   bands-all h =
       let j : i ≡ n = omega (arith, w.rows.few) in
       record {
@@ -101,13 +110,14 @@ pub record EdgesUpTo (s : List ℕ) (from n i p : ℕ) (rlo rhi slo shi : List �
   pub shi-filled : Filled 4 i shi
   pub sizes : EndsWithin edge_limit i slo shi
 
-pub edges_none : (s : List ℕ) (from n : ℕ) → EdgesUpTo s from n 0 from (replicate 4 (pos 0)) (replicate 4 (pos 0)) (replicate 4 (pos 0)) (replicate 4 (pos 0))
-edges_none s from n = record {
-  rows = rows_none edges_part (edges_of (replicate 4 (pos 0)) (replicate 4 (pos 0)) (replicate 4 (pos 0)) (replicate 4 (pos 0))) s from n;
-  rlo-filled = filled_none 4;
-  rhi-filled = filled_none 4;
-  slo-filled = filled_none 4;
-  shi-filled = filled_none 4;
+pub edges_none : (s : List ℕ) (from n : ℕ) {rlo rhi slo shi : List ℤ} → AllOfLen (λ v. v ≡ pos 0) rlo 4 → AllOfLen (λ v. v ≡ pos 0) rhi 4
+    → AllOfLen (λ v. v ≡ pos 0) slo 4 → AllOfLen (λ v. v ≡ pos 0) shi 4 → EdgesUpTo s from n 0 from rlo rhi slo shi
+edges_none s from n {rlo} {rhi} {slo} {shi} a b c d = record {
+  rows = rows_none edges_part (edges_of rlo rhi slo shi) s from n;
+  rlo-filled = filled-default rlo a;
+  rhi-filled = filled-default rhi b;
+  slo-filled = filled-default slo c;
+  shi-filled = filled-default shi d;
   sizes = λ k h. absurd (omega arith);
 }
 
@@ -142,7 +152,7 @@ module _ {s : List ℕ} {from n i p : ℕ} {rlo rhi slo shi : List ℤ} (w : Edg
   pub safe-fails : (a b : ℤ) (mid : ℕ) (e : Refusal) → i < n → EdgeSpan s p a b mid → Fails (span_in (neg_ℤ (pos edge_limit)) (pos edge_limit)) s mid e → Fails (times n edges_part) s from e
   safe-fails a b mid e h t u = rows-fails w.rows h (holds-fails t.part u)
 
-  pub edges-all : n ≤ i → EdgesRead s from n (record { rlo = rlo; rhi = rhi; slo = slo; shi = shi }) p
+  pub edges-all : n ≤ i → EdgesRead s from n (record { lo = rlo; hi = rhi }) (record { lo = slo; hi = shi }) p
   edges-all h =
       let j : i ≡ n = omega (arith, w.rows.few) in
       record {

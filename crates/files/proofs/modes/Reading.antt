@@ -21,7 +21,7 @@ use Rattle.meaning.specs.Boxes.{Side, sides_of, lies}
 use Rattle.laws.specs.Guards.{guard}
 use Rattle.meaning.specs.Plants.{band_limit, span, times, bands, row, own_bands, mode_form, band_of, band_numbers, row_numbers, band_start, band_side, wide, wide_modes}
 use Rattle.files.specs.declared.beginnings.Beginning.{Beginning}
-use Rattle.files.specs.declared.bounds.Bands.{Bands}
+use Rattle.files.specs.declared.bounds.Sides.{Sides}
 use Rattle.files.specs.declared.modes.ModesRead.{ModesRead}
 use Rattle.files.specs.Parts.{Fails, holds_then, holds-fails, fails-then, holds-last, rows_none, rows_more, rows-fails, rows_all}
 use Rattle.files.specs.Bounds.{BandsRead}
@@ -45,22 +45,22 @@ module _ (s : List ℕ) (at' n q u : ℕ) where
   unfolding bands
   mode-bands-refused e t = fails-then {g = times n (row n)} t
 
-  module _ (w : Bands) (mid : ℕ) (t : BandsRead s at' n w mid) where
+  module _ (w : Sides) (mid : ℕ) (t : BandsRead s at' n w mid) where
     pub mode-rows-refused : (e : Refusal) → Fails (times n (row n)) s mid e → Fails (mode_form n) s at' e
     unfolding bands
     mode-rows-refused e r = holds-fails t.part r
 
-    pub mode-held : {bands₀ bands coef₀ coef : List ℤ} (thin next : ℕ) → bands ≡ sets bands₀ (2 * n * u) (tabs (band_of w.wlo w.whi) n 0)
+    pub mode-held : {bands₀ bands coef₀ coef : List ℤ} (thin next : ℕ) → bands ≡ sets bands₀ (2 * n * u) (tabs (band_of w.lo w.hi) n 0)
         → RowsRead s mid n n (n * (n + 1) * u) coef₀ coef next
-        → thin ≡ first_false (map (wide q) (sides_of n w.wlo w.whi)) → ModeHeld s at' n q u bands₀ coef₀ bands coef thin next
+        → thin ≡ first_false (map (wide q) (sides_of n w.lo w.hi)) → ModeHeld s at' n q u bands₀ coef₀ bands coef thin next
     unfolding bands
     mode-held thin next l r e = record {
-      ends = tabs (band_of w.wlo w.whi) n 0;
+      ends = tabs (band_of w.lo w.hi) n 0;
       entries = r.values;
-      numbers = one-mode n w.wlo w.whi r.values r.long;
+      numbers = one-mode n w.lo w.hi r.values r.long;
       part = holds_then t.part r.part;
       stored = record { bands-stored = l; coef-stored = r.stored };
-      first = e ∙ ap (λ (b : List Side). first_false (map (wide q) b)) (sym (one-sides n w.wlo w.whi));
+      first = e ∙ ap (λ (b : List Side). first_false (map (wide q) b)) (sym (one-sides n w.lo w.hi));
     }
 
 -- ---- the modes behind mode 0, u - 1 of them done
@@ -71,7 +71,7 @@ verdict-more : (b : Beginning) (bands : List ℤ) (u thin : ℕ) → thin ≡ fi
 verdict-more b bands u thin e = go (all in_safe)
   where
     in_safe : List Bool
-    in_safe = lies (sides_of b.n b.rlo b.rhi) (sides_of b.n b.slo b.shi)
+    in_safe = lies (sides_of b.n b.root.lo b.root.hi) (sides_of b.n b.safe.lo b.safe.hi)
 
     f : ℕ → List Side
     f = bands_from b.n bands
@@ -190,8 +190,8 @@ module _ (s : List ℕ) (b : Beginning) (at' : ℕ) (own : own_bands b.form ≡ 
         let n = b.n in
         let up : 1 + (b.m - 1) ≡ b.m = omega arith in
         let zero : n * (n + 1) * 0 ≡ 0 = omega arith in
-        let head = one-mode n b.wlo b.whi r.values r.long in
-        let first : band_numbers n (bands_in b ++ f.ends) 0 ≡ bands_in b = kept (2 * n) 1 (bands_in b) f.ends head.ends-long 0 (omega arith) ∙ of-first (2 * n) (bands_in b) (bands-long n b.wlo b.whi) in
+        let head = one-mode n b.bands.lo b.bands.hi r.values r.long in
+        let first : band_numbers n (bands_in b ++ f.ends) 0 ≡ bands_in b = kept (2 * n) 1 (bands_in b) f.ends head.ends-long 0 (omega arith) ∙ of-first (2 * n) (bands_in b) (bands-long n b.bands.lo b.bands.hi) in
         let rows : row_numbers n (r.values ++ f.entries) 0 ≡ r.values = kept (n * (n + 1)) 1 r.values f.entries head.entries-long 0 (omega arith) ∙ of-first (n * (n + 1)) r.values r.long in
         let further : tabs (mode_numbers n (bands_in b ++ f.ends) (r.values ++ f.entries)) (b.m - 1) 1 ≡ tabs (mode_numbers n f.ends f.entries) (b.m - 1) 0 =
         tabs-later (mode_numbers n (bands_in b ++ f.ends) (r.values ++ f.entries)) (mode_numbers n f.ends f.entries) (b.m - 1) 0 later in
@@ -203,18 +203,18 @@ module _ (s : List ℕ) (b : Beginning) (at' : ℕ) (own : own_bands b.form ≡ 
           first = first;
           alike = λ no. never (sym no ∙ own);
           stored = stored-joined head 0 (record { bands-stored = l; coef-stored = rw zero r.stored }) f.stored;
-          verdict = f.verdict (bands_in b) (bands-long n b.wlo b.whi) (said₀ ∙ one-said);
+          verdict = f.verdict (bands_in b) (bands-long n b.bands.lo b.bands.hi) (said₀ ∙ one-said);
         }
       where
         later : (k : ℕ) → mode_numbers b.n (bands_in b ++ f.ends) (r.values ++ f.entries) (k + 1) ≡ mode_numbers b.n f.ends f.entries k
         later k =
             let n = b.n in
-            let d : length (bands_in b) + 2 * n * k ≡ 2 * n * (k + 1) = omega (arith, bands-long n b.wlo b.whi) in
+            let d : length (bands_in b) + 2 * n * k ≡ 2 * n * (k + 1) = omega (arith, bands-long n b.bands.lo b.bands.hi) in
             let e : length r.values + n * (n + 1) * k ≡ n * (n + 1) * (k + 1) = omega (arith, r.long) in
             rw (tab-behind (bands_in b) f.ends (2 * n) (2 * n * (k + 1)) (2 * n * k) d, tab-behind r.values f.entries (n * (n + 1)) (n * (n + 1) * (k + 1)) (n * (n + 1) * k) e) refl
 
         one-said : relation b ≡ relation_by b (bands_in b) 1
-        one-said = sym (rw (one-sides b.n b.wlo b.whi) refl)
+        one-said = sym (rw (one-sides b.n b.bands.lo b.bands.hi) refl)
 
     pub own-told : (r' : Result ModesRead Refusal) → FurtherTold s b related mid bands coef bands' coef' r' → ModesTold s b at' bands₀ coef₀ bands' coef' r'
     own-told (Ok m) f = own_held f
@@ -224,7 +224,7 @@ module _ (s : List ℕ) (b : Beginning) (at' : ℕ) (own : own_bands b.form ≡ 
 
 module _ (s : List ℕ) (b : Beginning) (at' : ℕ) (some : 1 ≤ b.m) (own : own_bands b.form ≡ false) where
   ends : List ℤ
-  ends = ends_alike b.n b.wlo b.whi b.m
+  ends = ends_alike b.n b.bands.lo b.bands.hi b.m
 
   each : (u : ℕ) → u < b.m → band_numbers b.n ends u ≡ bands_in b
   unfolding ends
@@ -232,30 +232,30 @@ module _ (s : List ℕ) (b : Beginning) (at' : ℕ) (some : 1 ≤ b.m) (own : ow
       let n = b.n in
       tab-moved (at ends) (at (bands_in b)) (2 * n) (2 * n * u) (2 * n * 0) (λ k l.
       let z : 2 * n * 0 + k ≡ k = omega arith in
-      rw z (get_d-tabs (λ _. bands_in b) (2 * n) (λ _. bands-long n b.wlo b.whi) (pos 0) b.m 0 u k h l))
-      ∙ of-first (2 * n) (bands_in b) (bands-long n b.wlo b.whi)
+      rw z (get_d-tabs (λ _. bands_in b) (2 * n) (λ _. bands-long n b.bands.lo b.bands.hi) (pos 0) b.m 0 u k h l))
+      ∙ of-first (2 * n) (bands_in b) (bands-long n b.bands.lo b.bands.hi)
 
   alike-said : relation_by b ends b.m ≡ relation b
   alike-said = go (all in_safe)
     where
       in_safe : List Bool
-      in_safe = lies (sides_of b.n b.rlo b.rhi) (sides_of b.n b.slo b.shi)
+      in_safe = lies (sides_of b.n b.root.lo b.root.hi) (sides_of b.n b.safe.lo b.safe.hi)
 
       f : ℕ → List Side
       f = bands_from b.n ends
 
-      sides : (u : ℕ) → u < b.m → f u ≡ sides_of b.n b.wlo b.whi
-      sides u h = bands-sides b.n u b.wlo b.whi ends (each u h)
+      sides : (u : ℕ) → u < b.m → f u ≡ sides_of b.n b.bands.lo b.bands.hi
+      sides u h = bands-sides b.n u b.bands.lo b.bands.hi ends (each u h)
 
-      one : said b.q 0 (tab f b.m 0) ≡ said b.q 0 (sides_of b.n b.wlo b.whi ∷ [])
+      one : said b.q 0 (tab f b.m 0) ≡ said b.q 0 (sides_of b.n b.bands.lo b.bands.hi ∷ [])
       one = said-alike b.q f b.m some (λ u h. sides u h ∙ sym (sides 0 some)) ∙ ap (λ (x : List Side). said b.q 0 (x ∷ [])) (sides 0 some)
 
       go : (t : Bool) → verdict_of {A = Unit {0}} (guard t (bad (not_in_safe (first_false in_safe))) λ _. wide_modes b.q 0 (tab f b.m 0) λ _. good tt)
-          ≡ verdict_of {A = Unit {0}} (guard t (bad (not_in_safe (first_false in_safe))) λ _. wide_modes b.q 0 (sides_of b.n b.wlo b.whi ∷ []) λ _. good tt)
+          ≡ verdict_of {A = Unit {0}} (guard t (bad (not_in_safe (first_false in_safe))) λ _. wide_modes b.q 0 (sides_of b.n b.bands.lo b.bands.hi ∷ []) λ _. good tt)
       go true = one
       go false = refl
 
-  pub alike-held : {bands₀ coef₀ bands coef : List ℤ} {next : ℕ} {told : Verdict} → bands ≡ sets bands₀ 0 (ends_alike b.n b.wlo b.whi b.m) → told ≡ relation b
+  pub alike-held : {bands₀ coef₀ bands coef : List ℤ} {next : ℕ} {told : Verdict} → bands ≡ sets bands₀ 0 (ends_alike b.n b.bands.lo b.bands.hi b.m) → told ≡ relation b
       → RowsRead s at' b.n (b.m * b.n) 0 coef₀ coef next → ModesHeld s b at' bands₀ coef₀ bands coef told next
   unfolding ends
   alike-held {next = next} l e r =
@@ -265,7 +265,7 @@ module _ (s : List ℕ) (b : Beginning) (at' : ℕ) (some : 1 ≤ b.m) (own : ow
       record {
         ends = ends;
         entries = r.values;
-        numbers = record { ends-long = length-tabs (λ _. bands_in b) (2 * n) (λ _. bands-long n b.wlo b.whi) b.m 0; entries-long = omega (arith, r.long) };
+        numbers = record { ends-long = length-tabs (λ _. bands_in b) (2 * n) (λ _. bands-long n b.bands.lo b.bands.hi) b.m 0; entries-long = omega (arith, r.long) };
         held = rw own (holds-last r.part ∙ ap (λ (vs : List ℤ). read vs next) (sym rows));
         first = each 0 some;
         alike = λ _ u h. each 0 some ∙ sym (each u h);

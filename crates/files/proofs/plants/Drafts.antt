@@ -99,7 +99,7 @@ first-bands : (p : Plant) → p.n ≤ 4 → bands_in (plant_beginning p) ≡ ban
 unfolding tab tabs
 first-bands p h = go p.n h
   where
-    go : (n : ℕ) → n ≤ 4 → tabs (band_of (plant_beginning p).wlo (plant_beginning p).whi) n 0 ≡ tab (at p.bands) (2 * n) (2 * n * 0)
+    go : (n : ℕ) → n ≤ 4 → tabs (band_of (plant_beginning p).bands.lo (plant_beginning p).bands.hi) n 0 ≡ tab (at p.bands) (2 * n) (2 * n * 0)
     go zero h = refl
     go (suc zero) h = refl
     go (suc (suc zero)) h = refl

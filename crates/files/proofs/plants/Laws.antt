@@ -133,13 +133,13 @@ module _ (s : List ℕ) (b : Beginning) (from' : ℕ) where
 
       judged : plant_related (read (beginning_numbers b ++ rest) next) ≡ related_by b v.ends b.m (λ _. good (plant_with b v.ends v.entries))
       unfolding p
-      judged = ap (λ (x : Plant). related_by (record { form = x.form; n = x.n; m = x.modes; q = x.q; k = x.k; d = x.d; rlo = x.rlo; rhi = x.rhi; slo = x.slo; shi = x.shi; wlo = b.wlo; whi = b.whi }) x.bands x.modes λ _. good x) given_back
+      judged = ap (λ (x : Plant). related_by (record { form = x.form; n = x.n; m = x.modes; q = x.q; k = x.k; d = x.d; root = record { lo = x.rlo; hi = x.rhi }; safe = record { lo = x.slo; hi = x.shi }; bands = b.bands }) x.bands x.modes λ _. good x) given_back
 
       by-verdict : (y : Verdict) → told ≡ y → body_of s b from' ≡ by_verdict y λ _. good (plant_with b v.ends v.entries)
       unfolding rest
       by-verdict y g =
           body-values plant_related rest_form s (λ e. refl) b from' rest next v.held whole ∙ judged
-          ∙ related-verdict b.q (sides_of b.n b.rlo b.rhi) (sides_of b.n b.slo b.shi) (tab (bands_from b.n v.ends) b.m 0) (λ _. good (plant_with b v.ends v.entries))
+          ∙ related-verdict b.q (sides_of b.n b.root.lo b.root.hi) (sides_of b.n b.safe.lo b.safe.hi) (tab (bands_from b.n v.ends) b.m 0) (λ _. good (plant_with b v.ends v.entries))
           ∙ ap (λ (z : Verdict). by_verdict z λ _. good (plant_with b v.ends v.entries)) (sym v.verdict ∙ g)
 
       pub thin-told : (e : Refusal) → told ≡ Err e → body_of s b from' ≡ bad e

@@ -12,13 +12,13 @@ pub loop-i-preserved : goal.loop-i-preserved
 loop-i-preserved c =
     let a = c.args in
     let i = c.loop-i.i in
-    let f1 = ok64 (at a.wlo i) (omega arith) in
+    let f1 = ok64 (at a.bands.lo i) (omega arith) in
     let t1 = simp to_z-of_z at c.put_signed-p.ensures in
-    let f2 = ok64 (at a.whi i) (omega arith) in
+    let f2 = ok64 (at a.bands.hi i) (omega arith) in
     let t2 = simp to_z-of_z at c.put_signed-p-in-loop-i.ensures in
-    under_more (under_more (rw (bands-step a.wlo a.whi a.n i (omega arith)) at c.loop-i.invariant) t1) t2
+    under_more (under_more (rw (bands-step a.bands.lo a.bands.hi a.n i (omega arith)) at c.loop-i.invariant) t1) t2
 
 pub returns : goal.returns
 returns c =
     let a = c.args in
-    under-done (rw (tabs-over (band_of a.wlo a.whi) a.n c.loop-i.i (omega arith)) at c.loop-i.invariant)
+    under-done (rw (tabs-over (band_of a.bands.lo a.bands.hi) a.n c.loop-i.i (omega arith)) at c.loop-i.invariant)

@@ -7,4 +7,4 @@ use Rattle.files.specs.Signed.{signed_bytes}
 use Rattle.files.proofs.bounds.put_edges.Given as goal
 
 abbrev pub invariant-loop-i : goal.invariant-loop-i
-invariant-loop-i l = Under l.initial.buf l.at (signed_bytes (tabs (edges_of l.rlo l.rhi l.slo l.shi) l.n 0)) (signed_bytes (tabs (edges_of l.rlo l.rhi l.slo l.shi) (l.n - l.i) l.i)) l.p l.buf
+invariant-loop-i l = Under l.initial.buf l.at (signed_bytes (tabs (edges_of l.root.lo l.root.hi l.safe.lo l.safe.hi) l.n 0)) (signed_bytes (tabs (edges_of l.root.lo l.root.hi l.safe.lo l.safe.hi) (l.n - l.i) l.i)) l.p l.buf

@@ -8,7 +8,7 @@ use Rattle.files.proofs.bounds.Laws.{bands-none, bands-more, bands-fails, bands-
 use Rattle.files.proofs.bounds.read_bands.Goals as goal
 
 pub loop-i-init : goal.loop-i-init
-loop-i-init c = bands-none c.args.s.now c.args.at c.args.n
+loop-i-init c = let w = c.default-bands.ensures in bands-none c.args.s.now c.args.at c.args.n w.0 w.1
 
 pub returns-in_err-lo : goal.returns-in_err-lo
 returns-in_err-lo c =

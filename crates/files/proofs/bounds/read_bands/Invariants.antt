@@ -3,4 +3,4 @@ use Rattle.files.proofs.bounds.Laws.{BandsUpTo}
 use Rattle.files.proofs.bounds.read_bands.Given as goal
 
 abbrev pub invariant-loop-i : goal.invariant-loop-i
-invariant-loop-i l = BandsUpTo l.s l.at l.n l.i l.p l.wlo l.whi
+invariant-loop-i l = BandsUpTo l.s l.at l.n l.i l.p l.bands.lo l.bands.hi

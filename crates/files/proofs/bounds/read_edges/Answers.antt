@@ -8,7 +8,10 @@ use Rattle.files.proofs.bounds.Laws.{edges_none, edges_more, root-fails, safe-fa
 use Rattle.files.proofs.bounds.read_edges.Goals as goal
 
 pub loop-i-init : goal.loop-i-init
-loop-i-init c = edges_none c.args.s.now c.args.at c.args.n
+loop-i-init c =
+    let r = c.default-root.ensures in
+    let w = c.default-safe.ensures in
+    edges_none c.args.s.now c.args.at c.args.n r.0 r.1 w.0 w.1
 
 pub returns-in_err-root_lo : goal.returns-in_err-root_lo
 returns-in_err-root_lo c =

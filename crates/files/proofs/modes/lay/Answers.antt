@@ -9,7 +9,7 @@ use Rattle.files.proofs.modes.lay.Goals as goal
 pub loop-i-preserved : goal.loop-i-preserved
 loop-i-preserved c =
     let i = c.loop-i.i in
-    rw (c.store-in-loop-i.ensures, c.store.ensures, to_z-of_z (ok64 (at c.args.wlo i) (omega arith)), to_z-of_z (ok64 (at c.args.whi i) (omega arith)))
+    rw (c.store-in-loop-i.ensures, c.store.ensures, to_z-of_z (ok64 (at c.args.w.lo i) (omega arith)), to_z-of_z (ok64 (at c.args.w.hi i) (omega arith)))
     (laid_more _ _ _ _ _ c.loop-i.invariant (omega arith))
 
 pub returns : goal.returns

@@ -3,4 +3,4 @@ use Rattle.files.proofs.modes.Laws.{LaidTo}
 use Rattle.files.proofs.modes.lay.Given as goal
 
 abbrev pub invariant-loop-i : goal.invariant-loop-i
-invariant-loop-i l = LaidTo l.n l.u l.wlo l.whi l.initial.bands l.i l.bands
+invariant-loop-i l = LaidTo l.n l.u l.w.lo l.w.hi l.initial.bands l.i l.bands
