@@ -75,12 +75,12 @@ sheet_with b time outside rooms = record {
   q = b.q;
   k = b.k;
   d = b.d;
-  rlo = b.rlo;
-  rhi = b.rhi;
-  slo = b.slo;
-  shi = b.shi;
-  wlo = b.wlo;
-  whi = b.whi;
+  rlo = b.root.lo;
+  rhi = b.root.hi;
+  slo = b.safe.lo;
+  shi = b.safe.hi;
+  wlo = b.bands.lo;
+  whi = b.bands.hi;
   time = time;
   outside = outside;
   rooms = rooms;
@@ -94,12 +94,9 @@ sheet_beginning h = record {
   q = h.q;
   k = h.k;
   d = h.d;
-  rlo = h.rlo;
-  rhi = h.rhi;
-  slo = h.slo;
-  shi = h.shi;
-  wlo = h.wlo;
-  whi = h.whi;
+  root = record { lo = h.rlo; hi = h.rhi };
+  safe = record { lo = h.slo; hi = h.shi };
+  bands = record { lo = h.wlo; hi = h.whi };
 }
 
 -- ---- the numbers of a sheet that was taken are in range

@@ -12,6 +12,7 @@ use crate::floats::Asked;
 use crate::made::Made;
 use crate::{floats, made, rooms};
 use files::beginnings::Beginning;
+use files::bounds::Sides;
 use files::{beginnings, buffers, plants};
 use meaning::{Refusal, Room, Sheet};
 
@@ -29,12 +30,9 @@ fn accepted(b: Beginning, time: f64, outside: f64, rooms: [Room; 4]) -> Result<S
         q,
         k,
         d,
-        rlo,
-        rhi,
-        slo,
-        shi,
-        wlo,
-        whi,
+        root: Sides { lo: rlo, hi: rhi },
+        safe: Sides { lo: slo, hi: shi },
+        bands: Sides { lo: wlo, hi: whi },
     } = b;
     Ok(Sheet {
         n,
@@ -127,12 +125,9 @@ fn put_sheet(h: Sheet, buf: &mut [u8]) -> usize
         q,
         k,
         d,
-        rlo,
-        rhi,
-        slo,
-        shi,
-        wlo,
-        whi,
+        root: Sides { lo: rlo, hi: rhi },
+        safe: Sides { lo: slo, hi: shi },
+        bands: Sides { lo: wlo, hi: whi },
     };
     let past = beginnings::put_beginning(buf, b);
     if 4 < n || 1_000 < r {
