@@ -91,7 +91,8 @@ fn tree(
 }
 
 // The table of a frame, in arrays that have room for its limits: header, then the tree of the box that is tiled. The limits are made once, and lent from then
-// on. Each size of the arrays has a call of its own, so that makers for few modes have no room for many on their stack.
+// on. Never inlined, so that each size of the arrays has a call of its own, and makers for few modes have no room for many on their stack.
+#[inline(never)]
 fn table_with<const LIMITS: usize, const MARKS: usize>(
     f: Frame,
     bands: &[i64],

@@ -17,7 +17,8 @@ use files::{buffers, plants};
 use meaning::{BANDS, COEFFICIENTS, Refusal};
 
 // The table of a frame, drafted in an array that has room for it, and written, with the lengths that form 2 tells: 9, 10. Finished, only the table's bytes are
-// changed; refused, the buffer is all zeros.
+// changed; refused, the buffer is all zeros. Never inlined, so that no call has room for another size of draft on its stack.
+#[inline(never)]
 fn write_table<const DRAFT: usize>(
     f: Frame,
     bands: &[i64],
@@ -55,7 +56,8 @@ fn write_own(f: Frame, bands: &[i64], coef: &[i64], buf: &mut [u8]) -> Result<us
     write_table::<LONG>(f, bands, coef, buf)
 }
 
-// The table's file for a plant's file, the plant being read into arrays that have room for it.
+// The table's file for a plant's file, the plant being read into arrays that have room for it. Never inlined, as above.
+#[inline(never)]
 fn make_in<const SIDES: usize, const ROWS: usize>(
     plant: &[u8],
     form: usize,

@@ -71,6 +71,8 @@ fn put_parts(
 }
 
 // The chain's bytes, then the tables, in a draft that has room for each: 9, 10. Finished, only the file's bytes are changed; refused, the buffer is all zeros.
+// Never inlined, so that no call has room for another size of draft on its stack.
+#[inline(never)]
 fn write_start<const DRAFT: usize>(
     f: Frame,
     bands: &[i64],
@@ -148,7 +150,8 @@ fn make_start(
     }
 }
 
-// The start file for a plant's file and a chain's, the plant being read into arrays that have room for it.
+// The start file for a plant's file and a chain's, the plant being read into arrays that have room for it. Never inlined, as above.
+#[inline(never)]
 fn start_make_in<const SIDES: usize, const ROWS: usize>(
     plant: &[u8],
     chain: &[u8],
