@@ -62,7 +62,7 @@ fn judge<'a>(f: Frame, bands: &'a [i64], coef: &'a [i64], table: &[u8]) -> Resul
     }
 }
 
-// In arrays of these sizes, which have room for the plant.
+// In arrays of these sizes, which have room for the plant. Never inlined, so that a plant of few modes takes no stack for one of many.
 #[inline(never)]
 fn check_in<const B: usize, const C: usize>(plant: &[u8], table: &[u8]) -> Result<(), Refusal>
     requires room { RoomFor plant.now (replicate B (pos 0)) (replicate C (pos 0)) }

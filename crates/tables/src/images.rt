@@ -20,9 +20,15 @@ pub struct Span {
     pub hi: i64,
 }
 
+// The negative part of a number: the number where it is below 0, else 0. What is left of the number is its positive part.
+fn negative_part(a: i64) -> i64
+    ensures { result ≡ negative_part a }
+{
+    a.min(0)
+}
+
 // One more term of a row: s and entry j, taken over side j. A larger reading makes the product with a positive part larger and that with a negative
 // part smaller, so for the least the positive part takes the low edge and the negative part the high one, and for the greatest the other way round.
-// The negative part of a number is the number where it is below 0, else 0; what is left of the number is its positive part.
 fn more(coef: &[i64], start: usize, j: usize, lo: &[i64; 4], hi: &[i64; 4], s: Span) -> Span
     requires place { (j < 4) × (start + j < length coef.now) }
     requires entry { (nat_abs (at coef.now (start + j)) ≤ entry_limit) × Bounded edge_limit (side_at lo.now hi.now j) }
@@ -33,7 +39,7 @@ fn more(coef: &[i64], start: usize, j: usize, lo: &[i64; 4], hi: &[i64; 4], s: S
     let a = coef[start + j];
     let l = lo[j];
     let h = hi[j];
-    let negative = a.min(0);
+    let negative = negative_part(a);
     let positive = a - negative;
     let least = s.lo + positive * l + negative * h;
     let greatest = s.hi + positive * h + negative * l;

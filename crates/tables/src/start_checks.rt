@@ -64,7 +64,7 @@ fn tables_at<'a>(
     }
 }
 
-// In arrays of these sizes, which have room for the plant.
+// In arrays of these sizes, which have room for the plant. Never inlined, so that a plant of few modes takes no stack for one of many.
 #[inline(never)]
 fn start_check_in<const B: usize, const C: usize>(plant: &[u8], start: &[u8]) -> Result<(), Refusal>
     requires room { RoomFor plant.now (replicate B (pos 0)) (replicate C (pos 0)) }

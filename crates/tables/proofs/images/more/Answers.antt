@@ -8,7 +8,7 @@ use Rattle.meaning.specs.Boxes.{Side, side_at}
 use Rattle.meaning.specs.Images.{least_of, greatest_of}
 use Rattle.meaning.specs.Plants.{edge_limit, entry_limit}
 use Rattle.tables.specs.Images.{negative_part, row_limit}
-use Rattle.tables.proofs.images.Laws.{min-negative, negative-small, parts_added}
+use Rattle.tables.proofs.images.Laws.{negative-small, parts_added}
 use Rattle.tables.proofs.images.more.Goals as goal
 
 pub overflow_mul-least : goal.overflow_mul-least
@@ -16,8 +16,8 @@ overflow_mul-least c =
     let entry : Ex = var (at c.args.coef.now (c.args.start + c.args.j)) entry_limit c.requires.entry.0 in
     let sides : Side = side_at c.args.lo.now c.args.hi.now c.args.j in
     let low : Ex = var sides.lo edge_limit c.requires.entry.1.low in
-    let gave : c.min-negative.result ≡ negative_part (val entry) = (rw (exact entry tt) at c.min-negative.ensures.value) ∙ min-negative (val entry) in
-    let negative : Ex = var c.min-negative.result entry_limit (negative-small (val entry) gave c.requires.entry.0) in
+    let gave : c.negative_part-negative.result ≡ negative_part (val entry) = rw (exact entry tt) at c.negative_part-negative.ensures in
+    let negative : Ex = var c.negative_part-negative.result entry_limit (negative-small (val entry) gave c.requires.entry.0) in
     let positive : Ex = entry ⊝ negative in
     need (positive ⊗ low) tt
 
@@ -26,8 +26,8 @@ overflow_add-least c =
     let entry : Ex = var (at c.args.coef.now (c.args.start + c.args.j)) entry_limit c.requires.entry.0 in
     let sides : Side = side_at c.args.lo.now c.args.hi.now c.args.j in
     let low : Ex = var sides.lo edge_limit c.requires.entry.1.low in
-    let gave : c.min-negative.result ≡ negative_part (val entry) = (rw (exact entry tt) at c.min-negative.ensures.value) ∙ min-negative (val entry) in
-    let negative : Ex = var c.min-negative.result entry_limit (negative-small (val entry) gave c.requires.entry.0) in
+    let gave : c.negative_part-negative.result ≡ negative_part (val entry) = rw (exact entry tt) at c.negative_part-negative.ensures in
+    let negative : Ex = var c.negative_part-negative.result entry_limit (negative-small (val entry) gave c.requires.entry.0) in
     let positive : Ex = entry ⊝ negative in
     let least₁ : Ex = var c.args.s.lo row_limit c.requires.sums.0 ⊕ positive ⊗ low in
     need least₁ tt
@@ -37,8 +37,8 @@ overflow_mul-least-2 c =
     let entry : Ex = var (at c.args.coef.now (c.args.start + c.args.j)) entry_limit c.requires.entry.0 in
     let sides : Side = side_at c.args.lo.now c.args.hi.now c.args.j in
     let high : Ex = var sides.hi edge_limit c.requires.entry.1.high in
-    let gave : c.min-negative.result ≡ negative_part (val entry) = (rw (exact entry tt) at c.min-negative.ensures.value) ∙ min-negative (val entry) in
-    let negative : Ex = var c.min-negative.result entry_limit (negative-small (val entry) gave c.requires.entry.0) in
+    let gave : c.negative_part-negative.result ≡ negative_part (val entry) = rw (exact entry tt) at c.negative_part-negative.ensures in
+    let negative : Ex = var c.negative_part-negative.result entry_limit (negative-small (val entry) gave c.requires.entry.0) in
     need (negative ⊗ high) tt
 
 pub overflow_add-least-2 : goal.overflow_add-least-2
@@ -47,8 +47,8 @@ overflow_add-least-2 c =
     let sides : Side = side_at c.args.lo.now c.args.hi.now c.args.j in
     let low : Ex = var sides.lo edge_limit c.requires.entry.1.low in
     let high : Ex = var sides.hi edge_limit c.requires.entry.1.high in
-    let gave : c.min-negative.result ≡ negative_part (val entry) = (rw (exact entry tt) at c.min-negative.ensures.value) ∙ min-negative (val entry) in
-    let negative : Ex = var c.min-negative.result entry_limit (negative-small (val entry) gave c.requires.entry.0) in
+    let gave : c.negative_part-negative.result ≡ negative_part (val entry) = rw (exact entry tt) at c.negative_part-negative.ensures in
+    let negative : Ex = var c.negative_part-negative.result entry_limit (negative-small (val entry) gave c.requires.entry.0) in
     let positive : Ex = entry ⊝ negative in
     let least₁ : Ex = var c.args.s.lo row_limit c.requires.sums.0 ⊕ positive ⊗ low in
     need (least₁ ⊕ negative ⊗ high) tt
@@ -58,8 +58,8 @@ overflow_mul-greatest c =
     let entry : Ex = var (at c.args.coef.now (c.args.start + c.args.j)) entry_limit c.requires.entry.0 in
     let sides : Side = side_at c.args.lo.now c.args.hi.now c.args.j in
     let high : Ex = var sides.hi edge_limit c.requires.entry.1.high in
-    let gave : c.min-negative.result ≡ negative_part (val entry) = (rw (exact entry tt) at c.min-negative.ensures.value) ∙ min-negative (val entry) in
-    let negative : Ex = var c.min-negative.result entry_limit (negative-small (val entry) gave c.requires.entry.0) in
+    let gave : c.negative_part-negative.result ≡ negative_part (val entry) = rw (exact entry tt) at c.negative_part-negative.ensures in
+    let negative : Ex = var c.negative_part-negative.result entry_limit (negative-small (val entry) gave c.requires.entry.0) in
     let positive : Ex = entry ⊝ negative in
     need (positive ⊗ high) tt
 
@@ -68,8 +68,8 @@ overflow_add-greatest c =
     let entry : Ex = var (at c.args.coef.now (c.args.start + c.args.j)) entry_limit c.requires.entry.0 in
     let sides : Side = side_at c.args.lo.now c.args.hi.now c.args.j in
     let high : Ex = var sides.hi edge_limit c.requires.entry.1.high in
-    let gave : c.min-negative.result ≡ negative_part (val entry) = (rw (exact entry tt) at c.min-negative.ensures.value) ∙ min-negative (val entry) in
-    let negative : Ex = var c.min-negative.result entry_limit (negative-small (val entry) gave c.requires.entry.0) in
+    let gave : c.negative_part-negative.result ≡ negative_part (val entry) = rw (exact entry tt) at c.negative_part-negative.ensures in
+    let negative : Ex = var c.negative_part-negative.result entry_limit (negative-small (val entry) gave c.requires.entry.0) in
     let positive : Ex = entry ⊝ negative in
     let greatest₁ : Ex = var c.args.s.hi row_limit c.requires.sums.1 ⊕ positive ⊗ high in
     need greatest₁ tt
@@ -79,8 +79,8 @@ overflow_mul-greatest-2 c =
     let entry : Ex = var (at c.args.coef.now (c.args.start + c.args.j)) entry_limit c.requires.entry.0 in
     let sides : Side = side_at c.args.lo.now c.args.hi.now c.args.j in
     let low : Ex = var sides.lo edge_limit c.requires.entry.1.low in
-    let gave : c.min-negative.result ≡ negative_part (val entry) = (rw (exact entry tt) at c.min-negative.ensures.value) ∙ min-negative (val entry) in
-    let negative : Ex = var c.min-negative.result entry_limit (negative-small (val entry) gave c.requires.entry.0) in
+    let gave : c.negative_part-negative.result ≡ negative_part (val entry) = rw (exact entry tt) at c.negative_part-negative.ensures in
+    let negative : Ex = var c.negative_part-negative.result entry_limit (negative-small (val entry) gave c.requires.entry.0) in
     need (negative ⊗ low) tt
 
 pub overflow_add-greatest-2 : goal.overflow_add-greatest-2
@@ -89,8 +89,8 @@ overflow_add-greatest-2 c =
     let sides : Side = side_at c.args.lo.now c.args.hi.now c.args.j in
     let low : Ex = var sides.lo edge_limit c.requires.entry.1.low in
     let high : Ex = var sides.hi edge_limit c.requires.entry.1.high in
-    let gave : c.min-negative.result ≡ negative_part (val entry) = (rw (exact entry tt) at c.min-negative.ensures.value) ∙ min-negative (val entry) in
-    let negative : Ex = var c.min-negative.result entry_limit (negative-small (val entry) gave c.requires.entry.0) in
+    let gave : c.negative_part-negative.result ≡ negative_part (val entry) = rw (exact entry tt) at c.negative_part-negative.ensures in
+    let negative : Ex = var c.negative_part-negative.result entry_limit (negative-small (val entry) gave c.requires.entry.0) in
     let positive : Ex = entry ⊝ negative in
     let greatest₁ : Ex = var c.args.s.hi row_limit c.requires.sums.1 ⊕ positive ⊗ high in
     let greatest : Ex = greatest₁ ⊕ negative ⊗ low in
@@ -102,8 +102,8 @@ returns c =
     let sides : Side = side_at c.args.lo.now c.args.hi.now c.args.j in
     let low : Ex = var sides.lo edge_limit c.requires.entry.1.low in
     let high : Ex = var sides.hi edge_limit c.requires.entry.1.high in
-    let gave : c.min-negative.result ≡ negative_part (val entry) = (rw (exact entry tt) at c.min-negative.ensures.value) ∙ min-negative (val entry) in
-    let negative : Ex = var c.min-negative.result entry_limit (negative-small (val entry) gave c.requires.entry.0) in
+    let gave : c.negative_part-negative.result ≡ negative_part (val entry) = rw (exact entry tt) at c.negative_part-negative.ensures in
+    let negative : Ex = var c.negative_part-negative.result entry_limit (negative-small (val entry) gave c.requires.entry.0) in
     let positive : Ex = entry ⊝ negative in
     let least₁ : Ex = var c.args.s.lo row_limit c.requires.sums.0 ⊕ positive ⊗ low in
     let least : Ex = least₁ ⊕ negative ⊗ high in
