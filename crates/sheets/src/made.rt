@@ -1,5 +1,5 @@
-// The plant made of a sheet: its numbers in plant order, or the place of the first that the plant cannot hold. Relies on bands, equations
-// and wholes. Leaves out the files (the sheet's and the plant's).
+// The plant made of a sheet: its numbers in plant order, or the place of the first that the plant cannot hold. Relies on bands, equations,
+// wholes and refusals. Leaves out the files (the sheet's and the plant's).
 ghost use Rattle.std.specs.Prelude.{◌≡◌, ◌≤◌};
 ghost use Rattle.meaning.specs.Sheets.{made_modes};
 ghost use Rattle.sheets.specs.Sizes.{Sized};
