@@ -10,7 +10,7 @@ ghost use Rattle.files.specs.Signed.{signed_bytes};
 ghost use Rattle.files.specs.Beginnings.{relation, Begun};
 ghost use Rattle.files.specs.Modes.{ends_alike, ModeTold, after_mode, FurtherTold, ModesTold, rest_numbers};
 
-use crate::beginnings::Beginning;
+use crate::beginnings::{Beginning, BeginningRead};
 use crate::bounds::Sides;
 use crate::{arrays, bounds, refusals, rows};
 use meaning::Refusal;
@@ -107,38 +107,39 @@ fn read_further(
 // The modes of form 2: the rows of mode 0, and then each further mode.
 fn read_own(
     s: &[u8],
-    b: Beginning,
-    related: Result<(), Refusal>,
-    at: usize,
+    begun: BeginningRead,
     bands: &mut [i64],
     coef: &mut [i64],
 ) -> Result<ModesRead, Refusal>
-    requires { Begun plant_forms most_modes s.now b at × (own_bands b.form ≡ true) × (related ≡ relation b) }
-    ensures { ModesTold s.now b at bands.old coef.old bands.new coef.new result }
+    requires { Begun plant_forms most_modes s.now begun.beginning begun.next × (own_bands begun.beginning.form ≡ true) × (begun.related ≡ relation begun.beginning) }
+    ensures { ModesTold s.now begun.beginning begun.next bands.old coef.old bands.new coef.new result }
 {
+    let b = begun.beginning;
     lay(b.n, 0, b.bands, bands);
-    let mid = rows::read_rows(s, at, b.n, b.n, 0, coef)?;
-    read_further(s, b, related, mid, bands, coef)
+    let mid = rows::read_rows(s, begun.next, b.n, b.n, 0, coef)?;
+    read_further(s, b, begun.related, mid, bands, coef)
 }
 
 // The modes behind a beginning: in form 1 its bands hold for each of them, and all rows follow.
 pub fn read_modes(
     s: &[u8],
-    b: Beginning,
-    related: Result<(), Refusal>,
-    at: usize,
+    begun: BeginningRead,
     bands: &mut [i64],
     coef: &mut [i64],
 ) -> Result<ModesRead, Refusal>
-    requires { Begun plant_forms most_modes s.now b at × (related ≡ relation b) }
-    ensures { ModesTold s.now b at bands.old coef.old bands.new coef.new result }
+    requires { Begun plant_forms most_modes s.now begun.beginning begun.next × (begun.related ≡ relation begun.beginning) }
+    ensures { ModesTold s.now begun.beginning begun.next bands.old coef.old bands.new coef.new result }
 {
+    let b = begun.beginning;
     if b.form == 2 {
-        return read_own(s, b, related, at, bands, coef);
+        return read_own(s, begun, bands, coef);
     }
     lay_alike(b.n, b.m, b.bands, bands);
-    let next = rows::read_rows(s, at, b.n, b.m * b.n, 0, coef)?;
-    Ok(ModesRead { related, next })
+    let next = rows::read_rows(s, begun.next, b.n, b.m * b.n, 0, coef)?;
+    Ok(ModesRead {
+        related: begun.related,
+        next,
+    })
 }
 
 // What stands behind the bands of mode 0, from `at` on, as far as there is room; the place behind it.

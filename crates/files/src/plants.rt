@@ -60,14 +60,13 @@ fn outline(b: Beginning) -> Outline
 fn read_values(s: &[u8], bands: &mut [i64], coef: &mut [i64]) -> Result<Outline, Refusal>
     ensures { ValuesTold (plant_judged s.now) bands.old coef.old bands.new coef.new result }
 {
-    let read = beginnings::read_beginning(s, 2, MODES)?;
-    let b = read.beginning;
-    let modes = modes::read_modes(s, b, read.related, read.next, bands, coef)?;
+    let begun = beginnings::read_beginning(s, 2, MODES)?;
+    let modes = modes::read_modes(s, begun, bands, coef)?;
     if modes.next != s.len() {
         return Err(refusals::unfit(modes.next));
     }
     modes.related?;
-    Ok(outline(b))
+    Ok(outline(begun.beginning))
 }
 
 // A plant's file, judged in order: number, place and step of the first fault, or the plant. Its bands and coefficients are left in the arrays that are lent
