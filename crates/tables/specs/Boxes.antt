@@ -4,10 +4,10 @@ use Rattle.std.specs.Prelude.{ℕ, suc, ◌/◌, ◌%◌, cond, List, [], ◌∷
 use Rattle.std.specs.Int.Signed.{le_z}
 use Rattle.meaning.specs.Boxes.{Side, side, sides_of, long, middle, reach, furthest}
 use Rattle.promises.specs.Files.Sound.{Bounded}
-use Rattle.tables.specs.declared.boxes.Bx.{Bx}
+use Rattle.files.specs.declared.bounds.Sides.{Sides}
 
 -- the first n sides
-abbrev pub box_of : ℕ → Bx → List Side
+abbrev pub box_of : ℕ → Sides → List Side
 box_of n b = sides_of n b.lo b.hi
 
 -- each side of a box, not of two arrays (promises' `Edges`): boxes are computed, too

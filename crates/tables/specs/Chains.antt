@@ -10,7 +10,7 @@ use Rattle.meaning.specs.Files.{end, Read, refused, values_at, values_of}
 use Rattle.meaning.specs.Plants.{edge_limit, span, times, column}
 use Rattle.meaning.specs.Starts.{chain_form, above, on_chain}
 use Rattle.files.specs.Parts.{behind, Holds, Fails}
-use Rattle.tables.specs.declared.boxes.Bx.{Bx}
+use Rattle.files.specs.declared.bounds.Sides.{Sides}
 use Rattle.tables.specs.declared.chains.Chain.{Chain}
 use Rattle.tables.specs.declared.frames.Frame.{Frame}
 use Rattle.tables.specs.Boxes.{box_of}
@@ -55,15 +55,15 @@ chain_read whole f s = on_chain f.n (box_of f.n f.root) (box_of f.n f.safe) (cha
 -- ---- boxes and frames taken out of it
 
 -- the i-th box above R, from 0; and Ri, R being root
-abbrev pub box_on : ℕ → List ℤ → ℕ → Bx
+abbrev pub box_on : ℕ → List ℤ → ℕ → Sides
 box_on n edges i = box_from (column edges (2 * (i * n)) 2 n) (column edges (2 * (i * n) + 1) 2 n)
 
-abbrev pub bx_at : ℕ → Bx → List ℤ → ℕ → Bx
+abbrev pub bx_at : ℕ → Sides → List ℤ → ℕ → Sides
 bx_at n root edges zero = root
 bx_at n root edges (suc i) = box_on n edges i
 
 -- the box that the patterns of Ri's table end in
-abbrev pub bx_below : ℕ → Bx → List ℤ → ℕ → Bx
+abbrev pub bx_below : ℕ → Sides → List ℤ → ℕ → Sides
 bx_below n root edges zero = root
 bx_below n root edges (suc i) = bx_at n root edges i
 
@@ -88,7 +88,7 @@ pub record FramesSound (f : Frame) (edges : List ℤ) (m : ℕ) : Type 0 where
   pub each : (i : ℕ) → i ≤ m → FrameSound (frame_at f edges i)
 
 -- a box holds the one below it and lies in S
-abbrev pub keeps : ℕ → Bx → Bx → Bx → Bool
+abbrev pub keeps : ℕ → Sides → Sides → Sides → Bool
 keeps n below b safe = within (box_of n below) (box_of n b) && within (box_of n b) (box_of n safe)
 
 -- ---- its parts: form and m, then the edges, two by two

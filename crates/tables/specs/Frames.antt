@@ -9,13 +9,13 @@ use Rattle.meaning.specs.Images.{Step}
 use Rattle.meaning.specs.Plants.{Plant, outline_of, edge_limit, most_modes, row_start, band_side}
 use Rattle.meaning.specs.Rules.{Rules}
 use Rattle.meaning.specs.Tables.{known_form, rules_from}
-use Rattle.tables.specs.declared.boxes.Bx.{Bx}
+use Rattle.files.specs.declared.bounds.Sides.{Sides}
 use Rattle.tables.specs.declared.frames.Frame.{Frame}
 use Rattle.tables.specs.declared.frames.Counts.{Counts}
 use Rattle.tables.specs.Boxes.{box_of, Small}
 use Rattle.tables.specs.Images.{step_from, RowSound, BandSound}
 
-abbrev pub box_from : List ℤ → List ℤ → Bx
+abbrev pub box_from : List ℤ → List ℤ → Sides
 box_from lo hi = record { lo = lo; hi = hi }
 
 -- a plant's own, of form 1: R is tiled, and patterns end in R

@@ -1,5 +1,5 @@
 // Boxes (document 01, "Split"; request 2026-06): the split of a side, the children of a box by a table's form, a reading in a box and in a child of it, a box in a box.
-// Relies on crates/meaning for what they are. Leaves out who splits which box, and to what depth.
+// Relies on crate files for the ends of a box's sides, on crates/meaning for what boxes are. Leaves out who splits which box, and to what depth.
 // Each loop goes through the first n sides; what an array holds behind them is never read.
 ghost use Rattle.std.specs.Prelude.{◌≡◌, true, ◌&&◌, [], ◌≤◌, ◌<◌, ◌*◌, length, get_or, nat_abs};
 ghost use Rattle.std.specs.Int.Signed.{le_z};
@@ -10,11 +10,7 @@ ghost use Rattle.meaning.specs.Tables.{reading_of, children_by};
 ghost use Rattle.tables.specs.Boxes.{box_of, Small, piece_of, rest_of, part_of, bit_of, longest_at};
 ghost use Rattle.tables.specs.Finds.{holds_in, HalfOf};
 
-#[derive(Clone, Copy)]
-pub struct Bx {
-    pub lo: [i64; 4],
-    pub hi: [i64; 4],
-}
+use files::bounds::Sides;
 
 // One side of a child, and the bits of the child's number that are left for the other sides.
 #[derive(Clone, Copy)]
@@ -37,7 +33,7 @@ struct Part {
 // side is long, and there are none.
 #[derive(Clone, Copy)]
 pub struct Holder {
-    pub kid: Bx,
+    pub kid: Sides,
     pub number: usize,
     pub count: usize,
 }
@@ -78,7 +74,7 @@ fn half(l: i64, h: i64, x: usize) -> Piece
 }
 
 // Child x where all long sides are halved at once: dimension 1 takes the lowest bit of x.
-fn all_halved(n: usize, b: Bx, x: usize) -> Bx
+fn all_halved(n: usize, b: Sides, x: usize) -> Sides
     requires { (n ≤ 4) × Small edge_limit (box_of n b) × (x < length (children (box_of n b))) }
     ensures { box_of n result ≡ get_or (children (box_of n b)) x [] }
 {
@@ -128,7 +124,7 @@ fn part_of(l: i64, h: i64, v: i64, count: usize) -> Part
 }
 
 // The child of a box that holds a reading that the box holds, with no child tried: each side says by itself which of its halves it is.
-pub fn half_of(n: usize, b: Bx, x: [i64; 4]) -> Holder
+pub fn half_of(n: usize, b: Sides, x: [i64; 4]) -> Holder
     requires { (n ≤ 4) × Small edge_limit (box_of n b) × (holds_in n x (box_of n b) ≡ true) }
     ensures { HalfOf n (box_of n b) x result }
 {
@@ -146,7 +142,7 @@ pub fn half_of(n: usize, b: Bx, x: [i64; 4]) -> Holder
 }
 
 // The dimension, from 0, of the longest side, the lowest where several are equal. No side is empty: the first leads until another reaches further.
-fn longest(n: usize, b: Bx) -> usize
+fn longest(n: usize, b: Sides) -> usize
     requires { (n ≤ 4) × Small edge_limit (box_of n b) }
     ensures { result ≡ longest_at (box_of n b) }
 {
@@ -163,7 +159,7 @@ fn longest(n: usize, b: Bx) -> usize
 }
 
 // Child x where the longest side alone is halved, lower half first. That side is long, so one edge of it moves.
-fn longest_halved(n: usize, b: Bx, x: usize) -> Bx
+fn longest_halved(n: usize, b: Sides, x: usize) -> Sides
     requires { (n ≤ 4) × Small edge_limit (box_of n b) × (x < length (longest_halved (box_of n b))) }
     ensures { box_of n result ≡ get_or (longest_halved (box_of n b)) x [] }
 {
@@ -182,7 +178,7 @@ fn longest_halved(n: usize, b: Bx, x: usize) -> Bx
 }
 
 // Child x of a box that has more than x children.
-pub fn child(form: usize, n: usize, b: Bx, x: usize) -> Bx
+pub fn child(form: usize, n: usize, b: Sides, x: usize) -> Sides
     requires { (n ≤ 4) × Small edge_limit (box_of n b) × (x < length (children_by form (box_of n b))) }
     ensures { box_of n result ≡ get_or (children_by form (box_of n b)) x [] }
 {
@@ -194,7 +190,7 @@ pub fn child(form: usize, n: usize, b: Bx, x: usize) -> Bx
 }
 
 // How many children a box has by a form: 2 to the number of its long sides, in form 3 two, and none where there is no long side.
-pub fn count(form: usize, n: usize, b: Bx) -> usize
+pub fn count(form: usize, n: usize, b: Sides) -> usize
     requires { n ≤ 4 }
     ensures { result ≡ length (children_by form (box_of n b)) }
 {
@@ -221,7 +217,7 @@ pub fn ordered(a: i64, b: i64, c: i64, d: i64) -> bool
 }
 
 // The first dimension, from 0, in which a reading is outside a box; n where it is inside.
-pub fn missed(n: usize, b: Bx, x: [i64; 4]) -> usize
+pub fn missed(n: usize, b: Sides, x: [i64; 4]) -> usize
     requires { n ≤ 4 }
     ensures { result ≡ first_false (fits (box_of n b) (reading_of n x)) }
 {
@@ -234,7 +230,7 @@ pub fn missed(n: usize, b: Bx, x: [i64; 4]) -> usize
 }
 
 // Whether a lies in b.
-pub fn within(n: usize, a: Bx, b: Bx) -> bool
+pub fn within(n: usize, a: Sides, b: Sides) -> bool
     requires { n ≤ 4 }
     ensures { result ≡ within (box_of n a) (box_of n b) }
 {

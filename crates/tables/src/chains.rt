@@ -7,9 +7,9 @@ ghost use Rattle.meaning.specs.Starts.{held};
 ghost use Rattle.tables.specs.Boxes.{box_of};
 ghost use Rattle.tables.specs.Chains.{most_above, most_edges, values_in, chain_read, box_on, bx_at, bx_below, frame_at, keeps, HeadTold, EdgesTold};
 
-use crate::boxes::Bx;
 use crate::frames::Frame;
 use crate::{boxes, refusals};
+use files::bounds::Sides;
 use files::{numbers, spans};
 use meaning::Refusal;
 
@@ -58,7 +58,7 @@ fn read_edges(s: &[u8], at: usize, count: usize, edges: &mut [i64; EDGES]) -> Re
 }
 
 // The i-th box above R, from 0.
-fn box_on(n: usize, edges: &[i64; EDGES], i: usize) -> Bx
+fn box_on(n: usize, edges: &[i64; EDGES], i: usize) -> Sides
     requires { (n ≤ 4) × (i < most_above) }
     ensures { result ≡ box_on n edges.now i }
 {
@@ -69,11 +69,11 @@ fn box_on(n: usize, edges: &[i64; EDGES], i: usize) -> Bx
         lo[j] = edges[from + 2 * j];
         hi[j] = edges[from + 1 + 2 * j];
     }
-    Bx { lo, hi }
+    Sides { lo, hi }
 }
 
 // Ri, R being root.
-pub fn box_at(n: usize, root: Bx, edges: &[i64; EDGES], i: usize) -> Bx
+pub fn box_at(n: usize, root: Sides, edges: &[i64; EDGES], i: usize) -> Sides
     requires { (n ≤ 4) × (i ≤ most_above) }
     ensures { result ≡ bx_at n root edges.now i }
 {
@@ -84,7 +84,7 @@ pub fn box_at(n: usize, root: Bx, edges: &[i64; EDGES], i: usize) -> Bx
 }
 
 // The box that the patterns of Ri's table end in.
-fn box_below(n: usize, root: Bx, edges: &[i64; EDGES], i: usize) -> Bx
+fn box_below(n: usize, root: Sides, edges: &[i64; EDGES], i: usize) -> Sides
     requires { (n ≤ 4) × (i ≤ most_above) }
     ensures { result ≡ bx_below n root edges.now i }
 {
@@ -107,7 +107,7 @@ pub fn frame_at(f: Frame, edges: &[i64; EDGES], i: usize) -> Frame
 }
 
 // Whether a box holds the one below it and lies in S.
-fn keeps(n: usize, below: Bx, b: Bx, safe: Bx) -> bool
+fn keeps(n: usize, below: Sides, b: Sides, safe: Sides) -> bool
     requires { n ≤ 4 }
     ensures { result ≡ keeps n below b safe }
 {
@@ -115,7 +115,7 @@ fn keeps(n: usize, below: Bx, b: Bx, safe: Bx) -> bool
 }
 
 // The first box above R, from 0, that does not hold the one below it or is not in S; m where there is none.
-fn first_unheld(n: usize, root: Bx, safe: Bx, edges: &[i64; EDGES], m: usize) -> usize
+fn first_unheld(n: usize, root: Sides, safe: Sides, edges: &[i64; EDGES], m: usize) -> usize
     requires { (n ≤ 4) × (m ≤ most_above) }
     ensures { result ≡ first_false (tab (held n (box_of n root) (values_in m edges.now) (box_of n safe)) m 0) }
 {

@@ -4,7 +4,7 @@
 ghost use Rattle.std.specs.Prelude.{◌≡◌, ◌≤◌, pos, replicate};
 ghost use Rattle.meaning.specs.Tables.{form_of, checked};
 ghost use Rattle.meaning.specs.Verdicts.{table_end, verdict};
-ghost use Rattle.tables.specs.Arrays.{RoomFor};
+ghost use Rattle.tables.specs.Arrays.{RoomFor, most_bands, most_coefficients};
 ghost use Rattle.tables.specs.Frames.{rules_in, rules_by, PlantSound};
 
 use crate::arrays::{FEW_BANDS, FEW_COEFFICIENTS, FEW_MODES};
@@ -64,13 +64,16 @@ fn judge<'a>(f: Frame, bands: &'a [i64], coef: &'a [i64], table: &[u8]) -> Resul
 
 // In arrays of these sizes, which have room for the plant. Never inlined, so that a plant of few modes takes no stack for one of many.
 #[inline(never)]
-fn check_in<const B: usize, const C: usize>(plant: &[u8], table: &[u8]) -> Result<(), Refusal>
-    requires room { RoomFor plant.now (replicate B (pos 0)) (replicate C (pos 0)) }
-    requires sizes { (B ≤ 2_048) × (C ≤ 5_120) }
+fn check_in<const SIDES: usize, const ROWS: usize>(
+    plant: &[u8],
+    table: &[u8],
+) -> Result<(), Refusal>
+    requires room { RoomFor plant.now (replicate SIDES (pos 0)) (replicate ROWS (pos 0)) }
+    requires small { (SIDES ≤ most_bands) × (ROWS ≤ most_coefficients) }
     ensures { result ≡ checked plant.now table.now }
 {
-    let mut bands = [0i64; B];
-    let mut coef = [0i64; C];
+    let mut bands = [0i64; SIDES];
+    let mut coef = [0i64; ROWS];
     let outline = plants::read_plant(plant, &mut bands, &mut coef)?;
     judge(frames::framed(outline), &bands, &coef, table)
 }

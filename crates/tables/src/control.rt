@@ -10,14 +10,14 @@ ghost use Rattle.tables.specs.Boxes.{box_of};
 ghost use Rattle.tables.specs.Frames.{rules_in, rules_by, FrameSound};
 ghost use Rattle.tables.specs.Control.{admission};
 
-use crate::boxes::Bx;
 use crate::frames::Frame;
 use crate::{boxes, finds, frames, headers, refusals, states};
+use files::bounds::Sides;
 use files::plants;
 use meaning::{Refusal, State};
 
 // Whether a call may go on: the state can be, and then the box holds the reading; 12 before 11.
-pub(crate) fn admit(can: bool, n: usize, b: Bx, x: [i64; 4]) -> Result<(), Refusal>
+pub(crate) fn admit(can: bool, n: usize, b: Sides, x: [i64; 4]) -> Result<(), Refusal>
     requires { n ≤ 4 }
     ensures { result ≡ admission can (fits (box_of n b) (reading_of n x)) }
 {

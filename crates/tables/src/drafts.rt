@@ -12,11 +12,11 @@ ghost use Rattle.tables.specs.Limits.{limits_size, marks_size, LimitsLaid};
 ghost use Rattle.tables.specs.Tiles.{longest_pattern, pattern_of};
 ghost use Rattle.tables.specs.Drafts.{Wrote, tree_bytes, draft_bytes};
 
-use crate::boxes::Bx;
 use crate::frames::{Counts, Frame};
 use crate::levels::LONGEST;
 use crate::limits::{FEW_LIMITS, FEW_MARKS, FEW_MODES, MOST_LIMITS, MOST_MARKS};
 use crate::{boxes, frames, limits, search};
+use files::bounds::Sides;
 use files::numbers;
 
 // No table has more bytes than MOST; none of at most BRIEF modes, which take a byte each, more than LONG; and none of such and at most sixteen tiles more than
@@ -51,7 +51,7 @@ fn tree(
     limits: &[i64],
     marks: &[i64],
     d: usize,
-    b: Bx,
+    b: Sides,
     buf: &mut [u8],
     at: usize,
 ) -> Option<usize>

@@ -12,9 +12,9 @@ ghost use Rattle.tables.specs.Boxes.{box_of, Small};
 ghost use Rattle.tables.specs.Finds.{holds_in, place_of};
 ghost use Rattle.tables.specs.Frames.{frame_from, rules_in, FrameSound};
 
-use crate::boxes::Bx;
 use crate::frames::Counts;
 use crate::{boxes, lengths, modes, refusals, walks};
+use files::bounds::Sides;
 use files::numbers;
 use meaning::Refusal;
 
@@ -64,7 +64,7 @@ fn find_walking(
     table: &[u8],
     d: usize,
     at: usize,
-    b: Bx,
+    b: Sides,
     x: [i64; 4],
 ) -> Result<(usize, usize), Refusal>
     requires { FrameSound (frame_from f edges.now) × Small edge_limit (box_of f.n b) × (tells f.form ≡ false) }
@@ -102,7 +102,7 @@ pub fn find(
     table: &[u8],
     d: usize,
     at: usize,
-    b: Bx,
+    b: Sides,
     x: [i64; 4],
 ) -> Result<(usize, usize), Refusal>
     requires { FrameSound (frame_from f edges.now) × Small edge_limit (box_of f.n b) × (holds_in f.n x (box_of f.n b) ≡ true) }

@@ -4,7 +4,7 @@ ghost use Rattle.std.specs.Prelude.{◌≡◌, ◌≤◌};
 ghost use Rattle.meaning.specs.Tables.{depth_by};
 ghost use Rattle.tables.specs.Frames.{frame_of, formed, counts_of, edges_of};
 
-use crate::boxes::Bx;
+use files::bounds::Sides;
 use meaning::Outline;
 
 // The form of its table; the box that is tiled, the box that patterns end in, the box that nothing may leave; the rest as in a plant.
@@ -16,9 +16,9 @@ pub struct Frame {
     pub q: usize,
     pub k: usize,
     pub d: usize,
-    pub root: Bx,
-    pub goal: Bx,
-    pub safe: Bx,
+    pub root: Sides,
+    pub goal: Sides,
+    pub safe: Sides,
 }
 
 // A plant's own frame, of form 1: R is tiled, and patterns end in R.
@@ -29,7 +29,7 @@ pub fn framed(p: Outline) -> Frame
     let rhi = p.rhi;
     let slo = p.slo;
     let shi = p.shi;
-    let root = Bx { lo: rlo, hi: rhi };
+    let root = Sides { lo: rlo, hi: rhi };
     Frame {
         form: 1,
         n: p.n,
@@ -39,7 +39,7 @@ pub fn framed(p: Outline) -> Frame
         d: p.d,
         root,
         goal: root,
-        safe: Bx { lo: slo, hi: shi },
+        safe: Sides { lo: slo, hi: shi },
     }
 }
 
@@ -86,8 +86,8 @@ pub fn counts_of(f: Frame) -> Counts
 pub fn edges_of(f: Frame) -> [[i64; 4]; 6]
     ensures { result ≡ edges_of f }
 {
-    let Bx { lo: rlo, hi: rhi } = f.root;
-    let Bx { lo: glo, hi: ghi } = f.goal;
-    let Bx { lo: slo, hi: shi } = f.safe;
+    let Sides { lo: rlo, hi: rhi } = f.root;
+    let Sides { lo: glo, hi: ghi } = f.goal;
+    let Sides { lo: slo, hi: shi } = f.safe;
     [rlo, rhi, glo, ghi, slo, shi]
 }

@@ -10,8 +10,8 @@ ghost use Rattle.tables.specs.Boxes.{box_of, Small};
 ghost use Rattle.promises.specs.Files.Sound.{Bounded};
 ghost use Rattle.tables.specs.Images.{negative_part, row_limit, entries_of, row_at, step_from, RowSound, StepSound, Extremes};
 
-use crate::boxes::Bx;
 use crate::division;
+use files::bounds::Sides;
 
 // A least and a greatest number.
 #[derive(Clone, Copy)]
@@ -118,7 +118,7 @@ pub fn image(
     u: usize,
     lo: &[i64; 4],
     hi: &[i64; 4],
-) -> Bx
+) -> Sides
     requires { StepSound n q bands.now coef.now u × Small edge_limit (sides_of n lo.now hi.now) }
     ensures { box_of n result ≡ image (step_from n q bands.now coef.now u) (sides_of n lo.now hi.now) }
 {
@@ -133,7 +133,7 @@ pub fn image(
         least[i] = s.lo;
         greatest[i] = s.hi;
     }
-    Bx {
+    Sides {
         lo: least,
         hi: greatest,
     }

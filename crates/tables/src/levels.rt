@@ -11,9 +11,9 @@ ghost use Rattle.promises.specs.Files.Sound.{Bounded};
 ghost use Rattle.tables.specs.Images.{row_limit, entries_of, RowSound, Extremes};
 ghost use Rattle.tables.specs.Levels.{wide, room, side_in, box_in, stored};
 
-use crate::boxes::Bx;
 use crate::images;
 use crate::images::Span;
+use files::bounds::Sides;
 
 // The modes of the longest pattern; the numbers of a box, and of a box for each of those modes.
 pub const LONGEST: usize = 6;
@@ -32,7 +32,7 @@ pub fn put_side(boxes: &mut [i64], place: usize, i: usize, lo: i64, hi: i64)
 }
 
 // Box b, in front.
-pub fn begin(n: usize, b: Bx, boxes: &mut [i64; ROOM])
+pub fn begin(n: usize, b: Sides, boxes: &mut [i64; ROOM])
     requires { (n ≤ 4) × (length boxes.old ≡ room) × Small edge_limit (box_of n b) }
     ensures { (box_in n boxes.new 0 ≡ box_of n b) × (length boxes.new ≡ room) }
 {

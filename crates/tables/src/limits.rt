@@ -13,10 +13,10 @@ ghost use Rattle.tables.specs.Images.{entries_of, RowSound};
 ghost use Rattle.tables.specs.Levels.{wide, side_in, Beside};
 ghost use Rattle.tables.specs.Limits.{limit_side, limits_size, marks_size, limit_at, Laid, last_entries, last_offset, RowsSound, BandsSound, MarksLent, LimitsLaid};
 
-use crate::boxes::Bx;
 use crate::frames::Frame;
 use crate::images::Span;
 use crate::{images, levels};
+use files::bounds::Sides;
 
 // The limits of a mode: those of S, then those of the goal; a span of sixteen is found without a product. Its mark and its offset stand side by side in a
 // slice of their own: the search reads these two and one side for most modes.
@@ -49,7 +49,7 @@ fn around(q: usize, wl: i64, wh: i64, l: i64, h: i64) -> Span
 }
 
 // The limits of box b under mode u, at `base`.
-fn lay_box(n: usize, q: usize, bands: &[i64], u: usize, b: Bx, limits: &mut [i64], base: usize)
+fn lay_box(n: usize, q: usize, bands: &[i64], u: usize, b: Sides, limits: &mut [i64], base: usize)
     requires step { (n ≤ 4) × (q ≤ 10_000) × BandsSound n bands.now u × Small edge_limit (box_of n b) }
     requires place { base + wide ≤ length limits.old }
     ensures sides { (i : ℕ) → i < n → side_in limits.new base i ≡ limit_at n q bands.now u b.lo b.hi i }

@@ -11,9 +11,9 @@ ghost use Rattle.tables.specs.Limits.{stays_lent, image_lent, Lent, MarksLent};
 ghost use Rattle.tables.specs.Tiles.{longest_pattern, mode_at};
 ghost use Rattle.tables.specs.Search.{pattern_by, shortest_lent, Standing, SameTo};
 
-use crate::boxes::Bx;
 use crate::levels::{LONGEST, ROOM, WIDE};
 use crate::{levels, steps};
+use files::bounds::Sides;
 
 // Whether the image of level l under mode u lies in S; where it does it stands at level l + 1, and the modes up to u are us[0..=l].
 fn descend(
@@ -57,7 +57,7 @@ pub fn first(
     coef: &[i64],
     limits: &[i64],
     marks: &[i64],
-    b: Bx,
+    b: Sides,
     us: &mut [usize; LONGEST],
 ) -> usize
     requires { Lent n count q bands.now coef.now limits.now × (k ≤ longest_pattern) × Small edge_limit (box_of n b) × MarksLent n count coef.now marks.now }

@@ -3,7 +3,7 @@
 // Relies on crate files for the plant, on chains for the boxes, on parts and checks for a table. Leaves out how the tables are made.
 ghost use Rattle.std.specs.Prelude.{◌≡◌, ◌+◌, ◌≤◌, pos, replicate};
 ghost use Rattle.meaning.specs.Starts.{tables_at, start_checked};
-ghost use Rattle.tables.specs.Arrays.{RoomFor};
+ghost use Rattle.tables.specs.Arrays.{RoomFor, most_bands, most_coefficients};
 ghost use Rattle.tables.specs.Chains.{FramesSound};
 ghost use Rattle.tables.specs.Frames.{rules_by, ModesSound, PlantSound};
 ghost use Rattle.tables.specs.StartChecks.{rules_at, table_at};
@@ -66,13 +66,16 @@ fn tables_at<'a>(
 
 // In arrays of these sizes, which have room for the plant. Never inlined, so that a plant of few modes takes no stack for one of many.
 #[inline(never)]
-fn start_check_in<const B: usize, const C: usize>(plant: &[u8], start: &[u8]) -> Result<(), Refusal>
-    requires room { RoomFor plant.now (replicate B (pos 0)) (replicate C (pos 0)) }
-    requires sizes { (B ≤ 2_048) × (C ≤ 5_120) }
+fn start_check_in<const SIDES: usize, const ROWS: usize>(
+    plant: &[u8],
+    start: &[u8],
+) -> Result<(), Refusal>
+    requires room { RoomFor plant.now (replicate SIDES (pos 0)) (replicate ROWS (pos 0)) }
+    requires small { (SIDES ≤ most_bands) × (ROWS ≤ most_coefficients) }
     ensures { result ≡ start_checked plant.now start.now }
 {
-    let mut bands = [0i64; B];
-    let mut coef = [0i64; C];
+    let mut bands = [0i64; SIDES];
+    let mut coef = [0i64; ROWS];
     let outline = plants::read_plant(plant, &mut bands, &mut coef)?;
     let f = frames::framed(outline);
     let chain = chains::read_chain(f, false, start)?;

@@ -10,10 +10,10 @@ ghost use Rattle.tables.specs.Chains.{most_above, values_in, FramesSound};
 ghost use Rattle.tables.specs.Frames.{FrameSound};
 ghost use Rattle.tables.specs.StartControl.{idle_choice, choice_of, call_behind, start_answer};
 
-use crate::boxes::Bx;
 use crate::chains::EDGES;
 use crate::frames::Frame;
 use crate::{boxes, chains, control, frames, parts, refusals};
+use files::bounds::Sides;
 use files::plants;
 use meaning::{Refusal, StartState, State};
 
@@ -25,7 +25,7 @@ fn is_idle(st: State) -> bool
 }
 
 // The lowest index of the boxes that hold a reading; m + 1 where none does.
-fn lowest(n: usize, root: Bx, edges: &[i64; EDGES], m: usize, x: [i64; 4]) -> usize
+fn lowest(n: usize, root: Sides, edges: &[i64; EDGES], m: usize, x: [i64; 4]) -> usize
     requires { (n ≤ 4) × (m ≤ most_above) }
     ensures { result ≡ chosen n (box_of n root) (values_in m edges.now) x }
 {
@@ -41,7 +41,7 @@ fn lowest(n: usize, root: Bx, edges: &[i64; EDGES], m: usize, x: [i64; 4]) -> us
 // Idle: no index may be kept, and the reading must be in Rm; of the boxes that hold it the lowest index.
 fn idle_choice(
     n: usize,
-    root: Bx,
+    root: Sides,
     edges: &[i64; EDGES],
     m: usize,
     i: usize,
@@ -58,7 +58,7 @@ fn idle_choice(
 // The table that a state and a reading call: an index over m cannot be.
 fn choose_table(
     n: usize,
-    root: Bx,
+    root: Sides,
     edges: &[i64; EDGES],
     m: usize,
     st: StartState,

@@ -13,11 +13,11 @@ ghost use Rattle.tables.specs.Levels.{wide, room, side_in, box_in, Beside};
 ghost use Rattle.tables.specs.Limits.{add_limit, limits_size, safe_at, goal_at, mark_at, offset_at, sum_side, sums_at, covered, stays_lent, lands_lent, image_lent, landing, divided_in, Within, RowsSound, BandsSound, last_entries, last_offset, MarksLent};
 ghost use Rattle.tables.specs.Search.{one_of};
 
-use crate::boxes::Bx;
 use crate::images::Span;
 use crate::levels::{ROOM, WIDE};
 use crate::limits::{GOAL, PAIR, SPAN};
 use crate::{boxes, division, images, levels};
+use files::bounds::Sides;
 
 // The least and the greatest of A·x + b over the box at `place`, by the row that starts at `start`.
 fn sums(n: usize, coef: &[i64], start: usize, boxes: &[i64; ROOM], place: usize) -> Span
@@ -54,7 +54,7 @@ fn stays(
     u: usize,
     boxes: &[i64; ROOM],
     place: usize,
-) -> Option<Bx>
+) -> Option<Sides>
     requires rows { RowsSound n coef.now u × (base + wide ≤ length limits.now) }
     requires edges { (place + wide ≤ room) × Small edge_limit (box_in n boxes.now place) }
     ensures stays { is_some result ≡ covered n coef.now limits.now base u (box_in n boxes.now place) }
@@ -71,7 +71,7 @@ fn stays(
         lo[i] = s.lo;
         hi[i] = s.hi;
     }
-    Some(Bx { lo, hi })
+    Some(Sides { lo, hi })
 }
 
 // The sides of an image under mode u from its sums, put at `place`: with the band added, divided by q.

@@ -8,9 +8,9 @@ ghost use Rattle.tables.specs.Boxes.{box_of, Small};
 ghost use Rattle.tables.specs.Frames.{frame_from, rules_in, PlantSound};
 ghost use Rattle.tables.specs.Tiles.{pattern_of, Pattern};
 
-use crate::boxes::Bx;
 use crate::frames::Counts;
 use crate::{boxes, images};
+use files::bounds::Sides;
 use meaning::Tried;
 
 // The first k modes of us, tried on box b. Leaving S is told before missing R.
@@ -21,7 +21,7 @@ pub fn tile_rule(
     coef: &[i64],
     k: usize,
     us: [usize; 6],
-    b: Bx,
+    b: Sides,
 ) -> Tried
     requires plant { PlantSound (frame_from f edges.now) bands.now coef.now × Small edge_limit (box_of f.n b) }
     requires pattern { Pattern f.modes k us }
@@ -31,8 +31,8 @@ pub fn tile_rule(
     let ghi = edges[3];
     let slo = edges[4];
     let shi = edges[5];
-    let goal = Bx { lo: glo, hi: ghi };
-    let safe = Bx { lo: slo, hi: shi };
+    let goal = Sides { lo: glo, hi: ghi };
+    let safe = Sides { lo: slo, hi: shi };
     let mut c = b;
     for i in 0..k {
         c = images::image(f.n, f.q, bands, coef, us[i], &c.lo, &c.hi);

@@ -10,9 +10,9 @@ ghost use Rattle.tables.specs.Boxes.{box_of, Small};
 ghost use Rattle.tables.specs.Frames.{FrameSound};
 ghost use Rattle.tables.specs.Turns.{most_tree, CountsSound, Passed, length_if, SomeTree, SomeTrees, SomeSplit, Measured, Told, Between, Turns, SomeTable, TableTurned, TableSized, TableLeft};
 
-use crate::boxes::Bx;
 use crate::frames::{Counts, Frame};
 use crate::{boxes, frames, lengths};
+use files::bounds::Sides;
 use files::{buffers, numbers};
 use meaning::Refusal;
 
@@ -50,7 +50,7 @@ fn long(told: bool, size: usize) -> usize
 }
 
 // The tree at `at`, whose splits tell no lengths, over box b with depth d left.
-fn sized(f: Counts, table: &[u8], d: usize, b: Bx, at: usize) -> Size
+fn sized(f: Counts, table: &[u8], d: usize, b: Sides, at: usize) -> Size
     requires { CountsSound f × Small edge_limit (box_of f.n b) × SomeTree f false table.now d (box_of f.n b) at }
     ensures { Measured f table.now d (box_of f.n b) at result }
 {
@@ -85,7 +85,7 @@ fn tell(
     f: Counts,
     table: &[u8],
     d: usize,
-    b: Bx,
+    b: Sides,
     count: usize,
     at: usize,
     buf: &mut [u8],
@@ -121,7 +121,7 @@ fn between(
     told: bool,
     table: &[u8],
     d: usize,
-    b: Bx,
+    b: Sides,
     count: usize,
     at: usize,
     buf: &mut [u8],
@@ -150,7 +150,7 @@ fn turn(
     told: bool,
     table: &[u8],
     d: usize,
-    b: Bx,
+    b: Sides,
     at: usize,
     buf: &mut [u8],
     to: usize,

@@ -11,9 +11,9 @@ ghost use Rattle.tables.specs.Boxes.{box_of, Small};
 ghost use Rattle.tables.specs.Frames.{frame_from, rules_in, FrameSound, ModesSound};
 ghost use Rattle.tables.specs.Walks.{judge_by, walk_by};
 
-use crate::boxes::Bx;
 use crate::frames::Counts;
 use crate::{boxes, lengths, modes, refusals, tiles};
+use files::bounds::Sides;
 use files::numbers;
 use meaning::{Refusal, Tried};
 
@@ -28,7 +28,7 @@ fn tile(
     at: usize,
     k: usize,
     from: usize,
-    b: Bx,
+    b: Sides,
 ) -> Result<usize, Refusal>
     requires frame { FrameSound (frame_from f edges.now) × Small edge_limit (box_of f.n b) × (judged ≡ true → ModesSound f.n f.modes f.q bands.now coef.now) }
     requires size { k ≤ f.k }
@@ -57,7 +57,7 @@ pub fn walk(
     table: &[u8],
     d: usize,
     at: usize,
-    b: Bx,
+    b: Sides,
 ) -> Result<usize, Refusal>
     requires { FrameSound (frame_from f edges.now) × Small edge_limit (box_of f.n b) × (judged ≡ true → ModesSound f.n f.modes f.q bands.now coef.now) × (tells f.form ≡ false) }
     ensures { result ≡ walk_by judged (rules_in (frame_from f edges.now) bands.now coef.now) d table.now at (box_of f.n b) }
@@ -96,7 +96,7 @@ pub fn walk_told(
     table: &[u8],
     d: usize,
     at: usize,
-    b: Bx,
+    b: Sides,
 ) -> Result<usize, Refusal>
     requires { FrameSound (frame_from f edges.now) × Small edge_limit (box_of f.n b) × (judged ≡ true → ModesSound f.n f.modes f.q bands.now coef.now) }
     ensures { result ≡ walk_by judged (rules_in (frame_from f edges.now) bands.now coef.now) d table.now at (box_of f.n b) }

@@ -30,7 +30,7 @@ use Rattle.promises.specs.Files.Files.{file-writes}
 use Rattle.promises.specs.Files.Sound.{Bounded, Sound}
 use Rattle.promises.specs.Files.Forms as F
 use Rattle.promises.specs.Files.Forms.{Right, values-right, times-right}
-use Rattle.tables.specs.declared.boxes.Bx.{Bx}
+use Rattle.files.specs.declared.bounds.Sides.{Sides}
 use Rattle.tables.specs.declared.chains.Chain.{Chain}
 use Rattle.tables.specs.declared.frames.Frame.{Frame}
 use Rattle.tables.specs.Boxes.{box_of, Small}
@@ -69,7 +69,7 @@ module _ (n : ℕ) (rooms : n ≤ 4) (edges vs : List ℤ) (q : Edged edges vs) 
   pub box-on : (i : ℕ) → box_of n (box_on n edges i) ≡ tab (chain_side n vs i) n 0
   box-on i = tab-same (side_at (box_on n edges i).lo (box_on n edges i).hi) (chain_side n vs i) n 0 (λ j a b. side-on i j (omega arith))
 
-  module _ (root : Bx) where
+  module _ (root : Sides) where
     pub box-same : (i : ℕ) → box_of n (bx_at n root edges i) ≡ box_at n (box_of n root) vs i
     box-same zero = refl
     box-same (suc i) = box-on i
@@ -86,14 +86,14 @@ module _ (n : ℕ) (rooms : n ≤ 4) (edges vs : List ℤ) (q : Edged edges vs) 
         ∙ ap (λ (b : List Side). answer (box_at n (box_of n root) vs i) b) (below-same i)
 
 -- one box more holds the one below and lies in S
-pub held-as : (n : ℕ) → n ≤ 4 → (edges : List ℤ) (m : ℕ) (root : List Side) (safe below b : Bx) (i : ℕ) → box_of n below ≡ box_at n root (values_in m edges) i → b ≡ box_on n edges i
+pub held-as : (n : ℕ) → n ≤ 4 → (edges : List ℤ) (m : ℕ) (root : List Side) (safe below b : Sides) (i : ℕ) → box_of n below ≡ box_at n root (values_in m edges) i → b ≡ box_on n edges i
     → keeps n below b safe ≡ held n root (values_in m edges) (box_of n safe) i
 held-as n rooms edges m root safe below b i p q =
     let box : box_of n b ≡ box_at n root (values_in m edges) (suc i) = ap (box_of n) q ∙ box-on n rooms edges (values_in m edges) (in-edged m edges) i in
     ap (λ (x : List Side). within x (box_of n b) && within (box_of n b) (box_of n safe)) p
     ∙ ap (λ (x : List Side). within (box_at n root (values_in m edges) i) x && within x (box_of n safe)) box
 
-pub next-box : (n : ℕ) → n ≤ 4 → (edges : List ℤ) (m : ℕ) (root : List Side) (b : Bx) (i : ℕ) → b ≡ box_on n edges i → box_of n b ≡ box_at n root (values_in m edges) (i + 1)
+pub next-box : (n : ℕ) → n ≤ 4 → (edges : List ℤ) (m : ℕ) (root : List Side) (b : Sides) (i : ℕ) → b ≡ box_on n edges i → box_of n b ≡ box_at n root (values_in m edges) (i + 1)
 next-box n rooms edges m root b i q = rw add-one (ap (box_of n) q ∙ box-on n rooms edges (values_in m edges) (in-edged m edges) i)
 
 -- ---- every second of the edges from a place on, taken out into an array: j of them are done

@@ -28,7 +28,7 @@ use Rattle.meaning.specs.Refusals.{outside, bad_state, moved}
 use Rattle.meaning.specs.Starts as S
 use Rattle.meaning.specs.Starts.{above, box_at, chosen, part, is_idle, state_in, answer_in, on_part, on_start, call_in, start_call, start_controlled}
 use Rattle.meaning.specs.Tables.{reading_of, form_of, table_rules}
-use Rattle.tables.specs.declared.boxes.Bx.{Bx}
+use Rattle.files.specs.declared.bounds.Sides.{Sides}
 use Rattle.tables.specs.declared.frames.Frame.{Frame}
 use Rattle.tables.specs.Boxes.{box_of}
 use Rattle.tables.specs.Chains.{values_in, bx_at, frame_at}
@@ -56,7 +56,7 @@ is-idle st e =
 
 -- ---- whether Ri holds a reading, by the box that the code has
 
-module _ (n : ℕ) (rooms : n ≤ 4) (root : Bx) (edges : List ℤ) (m : ℕ) (x : List ℤ) (i : ℕ) (b : Bx) (q : b ≡ bx_at n root edges i) where
+module _ (n : ℕ) (rooms : n ≤ 4) (root : Sides) (edges : List ℤ) (m : ℕ) (x : List ℤ) (i : ℕ) (b : Sides) (q : b ≡ bx_at n root edges i) where
   box : box_of n b ≡ box_at n (box_of n root) (values_in m edges) i
   box = ap (box_of n) q ∙ box-same n rooms edges (values_in m edges) (in-edged m edges) root i
 

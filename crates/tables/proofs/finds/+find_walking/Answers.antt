@@ -14,7 +14,7 @@ use Rattle.meaning.specs.Boxes.{Side, fits}
 use Rattle.meaning.specs.Numbers.{number_at}
 use Rattle.meaning.specs.Plants.{edge_limit}
 use Rattle.meaning.specs.Tables.{children_by, reading_of}
-use Rattle.tables.specs.declared.boxes.Bx.{Bx}
+use Rattle.files.specs.declared.bounds.Sides.{Sides}
 use Rattle.tables.specs.declared.frames.Frame.{Frame}
 use Rattle.tables.specs.Boxes.{box_of, Small}
 use Rattle.tables.specs.Frames.{frame_from}
@@ -32,7 +32,7 @@ pub returns-in_err-k : goal.returns-in_err-k
 returns-in_err-k t c =
     let frame : Frame = frame_from c.args.f c.args.edges.now in
     let bytes : List ℕ = c.args.table.now in
-    let box : Bx → List Side = λ b. box_of c.args.f.n b in
+    let box : Sides → List Side = λ b. box_of c.args.f.n b in
     let p = err_from_is_err_and c.from_residual.result c.from_residual.ensures.1 in
     let h = nothing c.number.result c.broken.result c.in_err-k.ensures.value in
     rw (p.1, p.2, h.1) (ap Err c.broken.ensures ∙ node-broken frame c.args.x c.args.d bytes c.args.at (box c.args.b) (sym c.number.ensures ∙ h.0))
@@ -41,7 +41,7 @@ pub returns-then-f-k : goal.returns-then-f-k
 returns-then-f-k t c =
     let frame : Frame = frame_from c.args.f c.args.edges.now in
     let bytes : List ℕ = c.args.table.now in
-    let box : Bx → List Side = λ b. box_of c.args.f.n b in
+    let box : Sides → List Side = λ b. box_of c.args.f.n b in
     let size : ℕ = c.in_ok-k.k in
     let behind : ℕ = c.in_ok-k.next in
     let number : number_at bytes c.args.at ≡ Some (size, behind) = sym c.number.ensures ∙ there c.number.result c.broken.result c.in_ok-k.ensures.value in
@@ -51,7 +51,7 @@ pub returns-then-k-gt0 : goal.returns-then-k-gt0
 returns-then-k-gt0 t c =
     let frame : Frame = frame_from c.args.f c.args.edges.now in
     let bytes : List ℕ = c.args.table.now in
-    let box : Bx → List Side = λ b. box_of c.args.f.n b in
+    let box : Sides → List Side = λ b. box_of c.args.f.n b in
     let size : ℕ = c.in_ok-k.k in
     let behind : ℕ = c.in_ok-k.next in
     let number : number_at bytes c.args.at ≡ Some (size, behind) = sym c.number.ensures ∙ there c.number.result c.broken.result c.in_ok-k.ensures.value in
@@ -61,7 +61,7 @@ pub returns-then-d-eq0 : goal.returns-then-d-eq0
 returns-then-d-eq0 t c =
     let frame : Frame = frame_from c.args.f c.args.edges.now in
     let bytes : List ℕ = c.args.table.now in
-    let box : Bx → List Side = λ b. box_of c.args.f.n b in
+    let box : Sides → List Side = λ b. box_of c.args.f.n b in
     let size : ℕ = c.in_ok-k.k in
     let behind : ℕ = c.in_ok-k.next in
     let number : number_at bytes c.args.at ≡ Some (size, behind) = sym c.number.ensures ∙ there c.number.result c.broken.result c.in_ok-k.ensures.value in
@@ -71,7 +71,7 @@ pub loop-c-init : goal.loop-c-init
 loop-c-init t c =
     let frame : Frame = frame_from c.args.f c.args.edges.now in
     let bytes : List ℕ = c.args.table.now in
-    let box : Bx → List Side = λ b. box_of c.args.f.n b in
+    let box : Sides → List Side = λ b. box_of c.args.f.n b in
     let size : ℕ = c.in_ok-k.k in
     let behind : ℕ = c.in_ok-k.next in
     let number : number_at bytes c.args.at ≡ Some (size, behind) = sym c.number.ensures ∙ there c.number.result c.broken.result c.in_ok-k.ensures.value in
@@ -79,9 +79,9 @@ loop-c-init t c =
 
 pub find_walking-requires : goal.find_walking-requires
 find_walking-requires t c =
-    let box : Bx → List Side = λ b. box_of c.args.f.n b in
+    let box : Sides → List Side = λ b. box_of c.args.f.n b in
     let turn : ℕ = c.loop-c.c in
-    let kid : Bx = c.child-child.result in
+    let kid : Sides = c.child-child.result in
     let below : turn < length (children_by c.args.f.form (box c.args.b)) = omega (arith, c.loop-c-test.true, c.count-count.ensures) in
     let small : Small edge_limit (box kid) = rw c.child-child.ensures (small-children c.args.f.form edge_limit (box c.args.b) turn below c.requires.1) in
     (omega (arith, c.requires.0, c.if-d-eq0.false), (c.requires.0, small, c.requires.2))
@@ -90,9 +90,9 @@ pub returns-then-n-missed : goal.returns-then-n-missed
 returns-then-n-missed t c =
     let frame : Frame = frame_from c.args.f c.args.edges.now in
     let bytes : List ℕ = c.args.table.now in
-    let box : Bx → List Side = λ b. box_of c.args.f.n b in
+    let box : Sides → List Side = λ b. box_of c.args.f.n b in
     let turn : ℕ = c.loop-c.c in
-    let kid : Bx = c.child-child.result in
+    let kid : Sides = c.child-child.result in
     let below : turn < length (children_by c.args.f.form (box c.args.b)) = omega (arith, c.loop-c-test.true, c.count-count.ensures) in
     let holds-it : c.args.f.n ≤ c.missed.result → all (fits (box kid) (reading_of c.args.f.n c.args.x)) ≡ true = λ h. held c.args.f.n kid.lo kid.hi c.args.x (omega (arith, h, c.missed.ensures)) in
     let l = c.loop-c in
@@ -100,9 +100,9 @@ returns-then-n-missed t c =
 
 pub walk-requires : goal.walk-requires
 walk-requires t c =
-    let box : Bx → List Side = λ b. box_of c.args.f.n b in
+    let box : Sides → List Side = λ b. box_of c.args.f.n b in
     let turn : ℕ = c.loop-c.c in
-    let kid : Bx = c.child-child.result in
+    let kid : Sides = c.child-child.result in
     let below : turn < length (children_by c.args.f.form (box c.args.b)) = omega (arith, c.loop-c-test.true, c.count-count.ensures) in
     let small : Small edge_limit (box kid) = rw c.child-child.ensures (small-children c.args.f.form edge_limit (box c.args.b) turn below c.requires.1) in
     (c.requires.0, small, (λ e. never e), c.requires.2)
@@ -111,9 +111,9 @@ pub returns-in_err-place : goal.returns-in_err-place
 returns-in_err-place t c =
     let frame : Frame = frame_from c.args.f c.args.edges.now in
     let bytes : List ℕ = c.args.table.now in
-    let box : Bx → List Side = λ b. box_of c.args.f.n b in
+    let box : Sides → List Side = λ b. box_of c.args.f.n b in
     let turn : ℕ = c.loop-c.c in
-    let kid : Bx = c.child-child.result in
+    let kid : Sides = c.child-child.result in
     let below : turn < length (children_by c.args.f.form (box c.args.b)) = omega (arith, c.loop-c-test.true, c.count-count.ensures) in
     let misses-it : c.missed.result < c.args.f.n → all (fits (box kid) (reading_of c.args.f.n c.args.x)) ≡ false = λ h. not-held c.args.f.n kid.lo kid.hi c.args.x (omega (arith, h, c.missed.ensures)) in
     let l = c.loop-c in
@@ -125,9 +125,9 @@ pub loop-c-preserved : goal.loop-c-preserved
 loop-c-preserved t c =
     let frame : Frame = frame_from c.args.f c.args.edges.now in
     let bytes : List ℕ = c.args.table.now in
-    let box : Bx → List Side = λ b. box_of c.args.f.n b in
+    let box : Sides → List Side = λ b. box_of c.args.f.n b in
     let turn : ℕ = c.loop-c.c in
-    let kid : Bx = c.child-child.result in
+    let kid : Sides = c.child-child.result in
     let below : turn < length (children_by c.args.f.form (box c.args.b)) = omega (arith, c.loop-c-test.true, c.count-count.ensures) in
     let misses-it : c.missed.result < c.args.f.n → all (fits (box kid) (reading_of c.args.f.n c.args.x)) ≡ false = λ h. not-held c.args.f.n kid.lo kid.hi c.args.x (omega (arith, h, c.missed.ensures)) in
     let l = c.loop-c in
@@ -138,6 +138,6 @@ pub returns : goal.returns
 returns t c =
     let frame : Frame = frame_from c.args.f c.args.edges.now in
     let bytes : List ℕ = c.args.table.now in
-    let box : Bx → List Side = λ b. box_of c.args.f.n b in
+    let box : Sides → List Side = λ b. box_of c.args.f.n b in
     let l = c.loop-c in
     ap Err c.bad_table-2.ensures ∙ look_none frame c.args.x c.requires.2 (c.args.d - 1) bytes c.args.at (box c.args.b) l.c l.place (omega (arith, c.loop-c-test.false, c.count-count.ensures)) ∙ l.invariant.1

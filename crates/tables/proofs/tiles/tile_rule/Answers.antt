@@ -7,7 +7,7 @@ use lib.IntN.{ℤ}
 use Rattle.meaning.specs.declared.Tried.TheVariants.{Misses}
 use Rattle.meaning.specs.Boxes.{Side}
 use Rattle.meaning.specs.Rules.{Rules}
-use Rattle.tables.specs.declared.boxes.Bx.{Bx}
+use Rattle.files.specs.declared.bounds.Sides.{Sides}
 use Rattle.tables.specs.declared.frames.Frame.{Frame}
 use Rattle.tables.specs.Boxes.{box_of}
 use Rattle.tables.specs.Images.{StepSound}
@@ -33,7 +33,7 @@ returns-then-not-within c =
     let coef : List ℤ = c.args.coef.now in
     let frame : Frame = frame_from c.args.f c.args.edges.now in
     let modes : ℕ → ℕ = mode_at c.args.us in
-    let box : Bx → List Side = λ b. box_of c.args.f.n b in
+    let box : Sides → List Side = λ b. box_of c.args.f.n b in
     let l = c.loop-i in
     let e = sym c.within.ensures ∙ c.if-not-within.true in
     sym (tile-leaves frame bands coef modes c.args.k l.i (box l.c) (box c.image-c.result) c.loop-i-test.true c.image-c.ensures e) ∙ l.invariant.2
@@ -44,7 +44,7 @@ loop-i-preserved c =
     let coef : List ℤ = c.args.coef.now in
     let frame : Frame = frame_from c.args.f c.args.edges.now in
     let modes : ℕ → ℕ = mode_at c.args.us in
-    let box : Bx → List Side = λ b. box_of c.args.f.n b in
+    let box : Sides → List Side = λ b. box_of c.args.f.n b in
     let l = c.loop-i in
     let h = c.loop-i-test.true in
     let e = sym c.within.ensures ∙ c.if-not-within.false in (
@@ -60,7 +60,7 @@ returns-then-within c =
     let frame : Frame = frame_from c.args.f c.args.edges.now in
     let rules : Rules = rules_in frame bands coef in
     let modes : ℕ → ℕ = mode_at c.args.us in
-    let box : Bx → List Side = λ b. box_of c.args.f.n b in
+    let box : Sides → List Side = λ b. box_of c.args.f.n b in
     let l = c.loop-i in
     sym (rule-works rules modes c.args.k l.i (box l.c) c.loop-i-test.false (sym c.within-2.ensures ∙ c.if-within.true)) ∙ l.invariant.2
 
@@ -71,7 +71,7 @@ returns-else-within c =
     let frame : Frame = frame_from c.args.f c.args.edges.now in
     let rules : Rules = rules_in frame bands coef in
     let modes : ℕ → ℕ = mode_at c.args.us in
-    let box : Bx → List Side = λ b. box_of c.args.f.n b in
+    let box : Sides → List Side = λ b. box_of c.args.f.n b in
     let l = c.loop-i in
     let q : c.args.k ≡ l.i = omega arith in
     ap Misses q ∙ sym (rule-misses rules modes c.args.k l.i (box l.c) c.loop-i-test.false (sym c.within-2.ensures ∙ c.if-within.false)) ∙ l.invariant.2
