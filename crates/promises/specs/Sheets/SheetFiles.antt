@@ -3,7 +3,6 @@
 -- Where a file's bytes have to give a sheet's floats back, the floats are asked to be f64s (`HeldSheet`), as every float of a running program is.
 use Rattle.std.specs.Prelude.{ℕ, ◌≤◌, ◌<◌, ◌≡◌, List, length, take, Ok}
 use Rattle.std.proofs.Common.{sym, ap, ◌∙◌, subst}
-use Rattle.meaning.specs.Answers.{SheetRead}
 use Rattle.meaning.specs.declared.Refusal.{Refusal}
 use Rattle.meaning.specs.declared.Sheet.{Sheet}
 use Rattle.meaning.specs.Refusals.{short}

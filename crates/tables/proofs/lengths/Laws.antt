@@ -10,7 +10,7 @@ use native.Mathlib.Omega.{arith}
 use native.Mathlib.Nat.{zero-add}
 use lib.Dec.{leb}
 use lib.ListN.{length}
-use borrow.Author.Tests.{eq-eqb, ne_eqb, le-leb, lt-leb}
+use borrow.Author.Tests.{le-leb, lt-leb}
 use Rattle.laws.specs.Pairs.{some-first, some-second}
 use Rattle.laws.specs.Guards.{guard}
 use Rattle.laws.specs.Tests.{never}
@@ -24,7 +24,7 @@ use Rattle.meaning.specs.Verdicts.{Length, length_at, on_number, on_read, length
 use Rattle.promises.specs.Files.Numbers.{was}
 use Rattle.promises.specs.Tables.Walking.{lengths-broken, lengths-more}
 use Rattle.tables.specs.Finds.{place_by, or_past}
-use Rattle.tables.specs.Lengths.{behind_at, held_at, ends_at, sum_of, total_of, total_at}
+use Rattle.tables.specs.Lengths.{behind_at, ends_at, sum_of, total_of, total_at}
 use Rattle.tables.proofs.parts.Laws.{number-within}
 
 -- ---- one that was read, and those behind it

@@ -10,7 +10,7 @@ use native.Mathlib.Nat.{zero-add}
 use lib.Dec.{leb, eqb}
 use lib.IntN.{ℤ}
 use lib.ListN.{length, take, drop}
-use borrow.Author.Tests.{leb-true, eqb-true, le-leb, lt-leb}
+use borrow.Author.Tests.{leb-true, eqb-true}
 use Rattle.laws.specs.Guards.{guard, choose}
 use Rattle.laws.specs.Lists as L
 use Rattle.laws.specs.Lists.{tab, all, first_false}
