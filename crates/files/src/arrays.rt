@@ -15,7 +15,7 @@ pub fn store(values: &mut [i64], at: usize, v: i64)
 pub fn number(values: &[i64], i: usize) -> i64
     ensures { result ≡ L.at values.now i }
 {
-    values.get(i).copied().unwrap_or(0)
+    if i < values.len() { values[i] } else { 0 }
 }
 
 // Zeros the whole array, as a refused read does.

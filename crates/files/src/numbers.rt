@@ -11,7 +11,10 @@ pub fn number(s: &[u8], at: usize) -> Option<(usize, usize)>
     let mut w: usize = 1;
     for k in 0..5 {
         let i = at + k;
-        let c = *s.get(i)? as usize;
+        if s.len() <= i {
+            return None;
+        }
+        let c = s[i] as usize;
         if c < 128 {
             if c == 0 && w != 1 {
                 return None;

@@ -19,12 +19,26 @@ pub enum Asked {
     Above,
 }
 
-// The value of the eight bytes at `at`, low byte first, where they are there.
+// The value of eight bytes that are there, low byte first.
+fn low_first(s: &[u8], at: usize) -> u64
+    requires { at + 8 ≤ length s.now }
+    ensures { float_at s.now at ≡ taken (pos result) (at + 8) }
+{
+    let mut bytes = [0u8; 8];
+    bytes.copy_from_slice(&s[at..at + 8]);
+    u64::from_le_bytes(bytes)
+}
+
+// The value of the eight bytes at `at`, where they are there.
 fn read_bits(s: &[u8], at: usize) -> Option<(u64, usize)>
     ensures { bits_taken result ≡ float_at s.now at }
 {
-    let bytes = s.get(at..)?.first_chunk::<8>()?;
-    Some((u64::from_le_bytes(*bytes), at + 8))
+    if 8 <= s.len() {
+        if at <= s.len() - 8 {
+            return Some((low_first(s, at), at + 8));
+        }
+    }
+    None
 }
 
 fn passes(x: f64, asked: Asked) -> bool

@@ -36,6 +36,8 @@ fn entry(h: Sheet, sums: [f64; 4], bits: [usize; 4], p: usize) -> Option<i64>
 }
 
 // The coefficients, zeros behind them; or 14 at the first that is out, `place` being that of the first of them.
+// Always inlined: its array is part of what `make` answers, and is not to be copied on the way.
+#[inline(always)]
 fn coefficients(h: Sheet, place: usize, count: usize) -> Result<[i64; ENTRIES], Refusal>
     requires fact_1 { Sized h }
     requires fact_2 { count ≤ most_entries }
@@ -69,6 +71,7 @@ pub struct Made {
 }
 
 // The plant of a sheet; or 14 at the first of the plant file's numbers, its form being 0, that the plant cannot hold. Those in front of the bands it can.
+#[inline(always)]
 pub fn make(h: Sheet) -> Result<Made, Refusal>
     requires { Sized h }
     ensures { result ≡ made_of h }

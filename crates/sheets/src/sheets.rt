@@ -150,6 +150,7 @@ pub fn write_sheet(h: Sheet, buf: &mut [u8]) -> Result<usize, Refusal>
 }
 
 // The plant of a sheet's file, judged as the sheet, with its arrays.
+#[inline(always)]
 fn planned(sheet: &[u8]) -> Result<Made, Refusal>
     ensures { result ≡ planned_of sheet.now }
 {

@@ -4,12 +4,18 @@ ghost use Rattle.std.specs.Prelude.{◌≡◌, ◌≤◌, nat_abs};
 ghost use Rattle.laws.specs.Division.{floor_z, ceil_z};
 ghost use Rattle.tables.specs.Images.{sum_limit};
 
-// Rounded down: the divisor is above 0, so that the quotient which leaves no negative remainder is the floor.
+// Rounded down. The machine cuts towards zero, so that what is divided is made a number above 0: num + q, which gives one more, and below 0
+// q - 1 - num, mirrored. Above 0 and small, it is divided by the machine's short division, and a sign costs nothing.
 pub fn floor(num: i64, q: usize) -> i64
     requires { (nat_abs num ≤ sum_limit) × (1 ≤ q) × (q ≤ 10_000) }
     ensures { result ≡ floor_z num q }
 {
-    num.div_euclid(q as i64)
+    let d = q as i64;
+    if 0 <= num {
+        (num + d) / d - 1
+    } else {
+        0 - (d - 1 - num) / d
+    }
 }
 
 // Rounded up: the floor of what is mirrored at 0.
@@ -17,5 +23,5 @@ pub fn ceiling(num: i64, q: usize) -> i64
     requires { (nat_abs num ≤ sum_limit) × (1 ≤ q) × (q ≤ 10_000) }
     ensures { result ≡ ceil_z num q }
 {
-    -floor(-num, q)
+    0 - floor(0 - num, q)
 }

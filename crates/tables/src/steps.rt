@@ -46,6 +46,7 @@ fn inside(limits: &[i64], base: usize, i: usize, least: i64, greatest: i64) -> b
 }
 
 // The sums under mode u over the box at `place`, where they lie in the limits at `base`.
+#[inline(always)]
 fn stays(
     n: usize,
     coef: &[i64],

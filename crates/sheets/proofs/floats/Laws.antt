@@ -13,7 +13,7 @@ use lib.IntN.{pos}
 use lib.Ieee.{Float, binary64, odd, of_fields, of_bits, to_bits, nan_bits, nan, inf, fin, is_nan}
 use lib.Ieee.Fits.{and_l}
 use lib.Ieee.Bits.{to_bits-of_bits}
-use borrow.Author.Tests.{lt-ltb, eq-eqb}
+use borrow.Author.Tests.{lt-ltb, eq-eqb, ne_eqb}
 use Rattle.std.specs.Int.{w64, from_le_bytes, to_le_bytes}
 use Rattle.std.proofs.lemmas.List.{get_or-drop, drop_all}
 use Rattle.laws.specs.Lists.{all}
@@ -53,6 +53,12 @@ low-read s from h b =
     let long : length cs ≡ 8 = omega (arith, length-take 8 (drop from s), length-drop from s) in
     let bytes = small-bytes 8 (drop from s) (λ i. rw (get_or-drop from s i 0) (b (from + i))) in
     simp (eq-eqb (length cs) 8 long, bytes, little-eight cs long)
+
+-- fewer than eight
+pub cut_short : (s : List ℕ) (from : ℕ) → length s < from + 8 → float_at s from ≡ none
+cut_short s from h =
+    let long : length (take 8 (drop from s)) < 8 = omega (arith, length-take 8 (drop from s), length-drop from s) in
+    simp (ne_eqb (length (take 8 (drop from s))) 8 (λ e. absurd (omega arith)))
 
 -- ---- its bits
 

@@ -8,26 +8,22 @@ use Rattle.files.proofs.numbers.Laws.{weight-next, group-le, short, zero-first, 
 use Rattle.files.proofs.numbers.number.Goals as goal
 use Rattle.files.proofs.numbers.number.Goals.{else-c-eq0-via-then-c-eq0+else-w-ne1, else-c-eq0-via-else-c-eq0}
 
-pub returns-in_err-c : goal.returns-in_err-c
-returns-in_err-c c =
+pub returns-then-s-i : goal.returns-then-s-i
+returns-then-s-i c =
     let l = c.loop-k in
-    let here = c.in_err-c.ensures.lookup in
-    c.from_residual.ensures ∙ sym (short c.args.s.now (c.args.at + l.k) l.v l.w l.k (omega arith) (grind arith)) ∙ l.invariant.3
+    sym (short c.args.s.now (c.args.at + l.k) l.v l.w l.k (omega arith) (omega arith)) ∙ l.invariant.3
 
 pub returns-then-w-ne1 : goal.returns-then-w-ne1
 returns-then-w-ne1 c =
     let l = c.loop-k in
-    let here = c.in_ok-c.ensures.lookup in
     sym (zero-late c.args.s.now (c.args.at + l.k) l.v l.w l.k (omega arith) (grind arith) (grind arith) c.if-w-ne1.true) ∙ l.invariant.3
 
 pub returns-then-c-lt128 : goal.returns-then-c-lt128
 returns-then-c-lt128 c =
     let l = c.loop-k in
-    let here = c.in_ok-c.ensures.lookup in
-    let read : c.in_ok-c.field-0.now ≡ get_or c.args.s.now (c.args.at + l.k) 0 = grind arith in
     elim c.else-c-eq0.branch [
-      | else-c-eq0-via-then-c-eq0+else-w-ne1 w ↦ rw read (sym (zero-first c.args.s.now (c.args.at + l.k) l.v l.w l.k (omega arith) (grind arith) (grind arith) (grind arith) (grind arith)) ∙ l.invariant.3)
-      | else-c-eq0-via-else-c-eq0 w ↦ rw read (sym (last c.args.s.now (c.args.at + l.k) l.v l.w l.k (omega arith) (grind arith) (grind arith) (grind arith)) ∙ l.invariant.3)
+      | else-c-eq0-via-then-c-eq0+else-w-ne1 w ↦ (sym (zero-first c.args.s.now (c.args.at + l.k) l.v l.w l.k (omega arith) (grind arith) (grind arith) (grind arith) (grind arith)) ∙ l.invariant.3)
+      | else-c-eq0-via-else-c-eq0 w ↦ (sym (last c.args.s.now (c.args.at + l.k) l.v l.w l.k (omega arith) (grind arith) (grind arith) (grind arith)) ∙ l.invariant.3)
     ]
 
 pub loop-k-preserved : goal.loop-k-preserved
@@ -35,11 +31,9 @@ loop-k-preserved c =
     let l = c.loop-k in
     let s = c.args.s.now in
     let i = c.args.at + l.k in
-    let here = c.in_ok-c.ensures.lookup in
     let known = c.type_inv.s i in
     let on : c.args.at + (l.k + 1) ≡ i + 1 = omega arith in
-    let read : c.in_ok-c.field-0.now ≡ get_or s i 0 = grind arith in
-    rw (read, on) (
+    rw on (
       omega arith,
       weight-next l.k l.w l.invariant.1,
       omega (arith, group-le (get_or s i 0 - 128) l.w (omega (arith, known))),
