@@ -5,10 +5,10 @@
    The two controllers answer a mode, and their out has the number before these.
    Every number is 64 bits wide, answers and lengths too, so that one proved module serves every processor.
 
-   Stack, in bytes, measured on an emulated Cortex-M4, each on a table of form 3 that is halved twelve times: plant 2,624, sheet 12,464, control 14,800,
-   start_control 15,424, whatever the plant; start_check 18,712 and start_make 57,192 on a plant of one mode; check 75,528, relay 76,496 and make 208,424 on
-   one of 129, whose larger arrays they keep. On tables of form 1, split six times at most, each takes 5,808 less, and a maker 6,432. On tables of form 2,
-   down which a call goes in a loop, control takes 3,344 and start_control 3,968. */
+   Stack, in bytes, measured on an emulated Cortex-M4, each on a table of form 3 that is halved twelve times: plant 2,480, sheet 20,312, control 13,240,
+   start_control 14,568, whatever the plant; start_check 19,424 and start_make 56,404 on a plant of one mode; check 70,912, relay 71,752 and make 167,164 on
+   one of 129, whose larger arrays they keep. On tables of form 1, split six times at most, each takes 5,280 less, and a maker 6,048. On tables of form 2,
+   down which a call goes in a loop, control takes 3,088 and start_control 4,416. */
 #ifndef HOACHULIM_H
 #define HOACHULIM_H
 
