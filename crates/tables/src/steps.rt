@@ -2,7 +2,7 @@
 // Relies on levels for the boxes and the extremes of a row, on limits for where the sums have to lie. Leaves out which modes are tried in which
 // order (search).
 // Neither test divides. What a call reads is lent, so that it copies only small numbers.
-ghost use Rattle.std.specs.Prelude.{◌≡◌, true, false, ℕ, ◌+◌, ◌-◌, ◌*◌, ◌≤◌, ◌<◌, length, nat_abs, pos, is_some, IfSome, IfNone};
+ghost use Rattle.std.specs.Prelude.{◌≡◌, true, false, ℕ, ◌+◌, ◌-◌, ◌*◌, ◌≤◌, ◌<◌, length, nat_abs, pos, IfSome, IfNone};
 ghost use Rattle.laws.specs.Lists.{at, tab};
 ghost use Rattle.meaning.specs.Boxes.{side, covers};
 ghost use Rattle.meaning.specs.Defined.{first_mode};
@@ -45,8 +45,8 @@ fn inside(limits: &[i64], base: usize, i: usize, least: i64, greatest: i64) -> b
     boxes::ordered(from, least, greatest, to)
 }
 
-// The sums under mode u over the box at `place`, where they lie in the limits at `base`.
-#[inline(always)]
+// Whether the sums under mode u over the box at `place` lie in the limits at `base`; where they do they are left in `kept`, of which otherwise nothing is
+// said. It is lent: as a part of an answer the sums would be copied whole right after they are written one by one, for which a processor waits.
 fn stays(
     n: usize,
     coef: &[i64],
@@ -55,24 +55,23 @@ fn stays(
     u: usize,
     boxes: &[i64; ROOM],
     place: usize,
-) -> Option<Sides>
+    kept: &mut Sides,
+) -> bool
     requires rows { RowsSound n coef.now u × (base + wide ≤ length limits.now) }
-    requires edges { (place + wide ≤ room) × Small edge_limit (box_in n boxes.now place) }
-    ensures stays { is_some result ≡ covered n coef.now limits.now base u (box_in n boxes.now place) }
-    ensures sums { IfSome result (λ s. box_of n s ≡ tab (sums_at n coef.now u (box_in n boxes.now place)) n 0) }
-    ensures sizes { IfSome result (λ s. Within add_limit n s.lo s.hi) }
+    requires edges { (place + wide ≤ room) × Small edge_limit (box_in n boxes.now place) × (length kept.old.lo ≡ 4) × (length kept.old.hi ≡ 4) }
+    ensures stays { result ≡ covered n coef.now limits.now base u (box_in n boxes.now place) }
+    ensures sums { result ≡ true → box_of n kept.new ≡ tab (sums_at n coef.now u (box_in n boxes.now place)) n 0 }
+    ensures sizes { result ≡ true → Within add_limit n kept.new.lo kept.new.hi }
 {
-    let mut lo = [0i64; 4];
-    let mut hi = [0i64; 4];
     for i in 0..n {
         let s = sums(n, coef, (u * n + i) * (n + 1), boxes, place);
         if !inside(limits, base, i, s.lo, s.hi) {
-            return None;
+            return false;
         }
-        lo[i] = s.lo;
-        hi[i] = s.hi;
+        kept.lo[i] = s.lo;
+        kept.hi[i] = s.hi;
     }
-    Some(Sides { lo, hi })
+    true
 }
 
 // The sides of an image under mode u from its sums, put at `place`: with the band added, divided by q.
@@ -118,8 +117,9 @@ pub fn step(
     ensures beside { Beside (place + wide) boxes.old boxes.new }
     ensures untouched { result ≡ false → boxes.new ≡ boxes.old }
 {
-    if let Some(sums) = stays(n, coef, limits, SPAN * u, u, boxes, place) {
-        divide(n, q, bands, u, &sums.lo, &sums.hi, boxes, place + WIDE);
+    let mut kept = Sides::default();
+    if stays(n, coef, limits, SPAN * u, u, boxes, place, &mut kept) {
+        divide(n, q, bands, u, &kept.lo, &kept.hi, boxes, place + WIDE);
         return true;
     }
     false
@@ -147,6 +147,25 @@ fn shared(
     e
 }
 
+// Whether the sums under mode u over the box at `place` lie in the limits at `base`. Never inlined: few modes come to it, and the loop over them stays small.
+#[inline(never)]
+fn keeps(
+    n: usize,
+    coef: &[i64],
+    limits: &[i64],
+    base: usize,
+    u: usize,
+    boxes: &[i64; ROOM],
+    place: usize,
+) -> bool
+    requires rows { RowsSound n coef.now u × (base + wide ≤ length limits.now) }
+    requires edges { (place + wide ≤ room) × Small edge_limit (box_in n boxes.now place) }
+    ensures { result ≡ covered n coef.now limits.now base u (box_in n boxes.now place) }
+{
+    let mut kept = Sides::default();
+    stays(n, coef, limits, base, u, boxes, place, &mut kept)
+}
+
 // Whether the image under mode u lies in the goal. The last row is tried first, by its extremes e; most modes fail there, and need no other sum. The limits
 // are lent on as a part, the whole, which is made where all rows are tried: lent on as they are, they would be put by for that at every mode.
 fn lands(
@@ -167,7 +186,7 @@ fn lands(
     let base = SPAN * u + GOAL;
     if inside(limits, base, n - 1, e.lo + offset, e.hi + offset) {
         let whole: usize = 0;
-        return stays(n, coef, &limits[whole..], base, u, boxes, place).is_some();
+        return keeps(n, coef, &limits[whole..], base, u, boxes, place);
     }
     false
 }

@@ -20,7 +20,7 @@ pub loop-i-init : goal.loop-i-init
 unfolding tab
 loop-i-init c =
     let test : ℕ → Bool = let a = c.args in covered_at a.n a.coef.now a.limits.now a.base a.u (box_in a.n a.boxes.now a.place) in
-    (refl, refl, refl, hold-none test c.args.n, λ i h. absurd (omega arith))
+    (c.requires.edges.2, c.requires.edges.3, refl, hold-none test c.args.n, λ i h. absurd (omega arith))
 
 pub returns-then-not-inside-clause-stays : goal.returns-then-not-inside-clause-stays
 returns-then-not-inside-clause-stays c =
@@ -45,13 +45,13 @@ loop-i-preserved c =
     let h = c.loop-i-test.true in
     let r = row in
     let w = c.sums-s in
-    let a : l.i < length l.lo = omega (arith, l.invariant.0, r.rooms) in
-    let b : l.i < length l.hi = omega (arith, l.invariant.1, r.rooms) in (
+    let a : l.i < length l.kept.lo = omega (arith, l.invariant.0, r.rooms) in
+    let b : l.i < length l.kept.hi = omega (arith, l.invariant.1, r.rooms) in (
       simp length-set l.invariant.0,
       simp length-set l.invariant.1,
-      image-more sides l.lo l.hi l.i _ _ a b (rw (exact least tt, exact greatest tt) w.ensures.sides) l.invariant.2,
+      image-more sides l.kept.lo l.kept.hi l.i _ _ a b (rw (exact least tt, exact greatest tt) w.ensures.sides) l.invariant.2,
       hold-more l.invariant.3 h (sym tested ∙ c.if-not-inside.false),
-      within_more l.lo l.hi (mach least) (mach greatest) a b l.invariant.4 (under least add_limit tt) (under greatest add_limit tt),
+      within_more l.kept.lo l.kept.hi (mach least) (mach greatest) a b l.invariant.4 (under least add_limit tt) (under greatest add_limit tt),
     )
 
 pub returns : goal.returns
@@ -59,4 +59,4 @@ returns c =
     let sides : ℕ → Side = let a = c.args in sums_at a.n a.coef.now a.u (box_in a.n a.boxes.now a.place) in
     let l = c.loop-i in
     let few = c.loop-i.invariant.3.few in
-    let q : l.i ≡ c.args.n = omega arith in record { stays = all_hold l.invariant.3 c.loop-i-test.false; sums = image-done sides l.lo l.hi c.args.n l.i q l.invariant.2; sizes = λ j h. l.invariant.4 j (omega arith) }
+    let q : l.i ≡ c.args.n = omega arith in record { stays = all_hold l.invariant.3 c.loop-i-test.false; sums = λ e. image-done sides l.kept.lo l.kept.hi c.args.n l.i q l.invariant.2; sizes = λ e j h. l.invariant.4 j (omega arith) }

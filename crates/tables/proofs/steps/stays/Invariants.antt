@@ -10,4 +10,4 @@ use Rattle.tables.proofs.steps.stays.Given as goal
 
 abbrev pub invariant-loop-i : goal.invariant-loop-i
 invariant-loop-i l =
-    (length l.lo ≡ 4) × (length l.hi ≡ 4) × (tab (side_at l.lo l.hi) l.i 0 ≡ tab (sums_at l.n l.coef l.u (box_in l.n l.boxes l.place)) l.i 0) × HoldUpTo (covered_at l.n l.coef l.limits l.base l.u (box_in l.n l.boxes l.place)) l.n l.i × Within add_limit l.i l.lo l.hi
+    (length l.kept.lo ≡ 4) × (length l.kept.hi ≡ 4) × (tab (side_at l.kept.lo l.kept.hi) l.i 0 ≡ tab (sums_at l.n l.coef l.u (box_in l.n l.boxes l.place)) l.i 0) × HoldUpTo (covered_at l.n l.coef l.limits l.base l.u (box_in l.n l.boxes l.place)) l.n l.i × Within add_limit l.i l.kept.lo l.kept.hi
