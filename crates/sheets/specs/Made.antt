@@ -1,5 +1,5 @@
 -- The plant of a sheet as the code holds it: its coefficients one by one, or the place of the first number that does not fit. Definitions alone.
-use Rattle.std.specs.Prelude.{ℕ, ◌+◌, ◌*◌, ◌/◌, ◌%◌, cond, List, ltb, ℤ, Result}
+use Rattle.std.specs.Prelude.{ℕ, ◌+◌, ◌*◌, ◌/◌, ◌%◌, ◌≡◌, cond, List, ltb, ℤ, Ok, Err, Result}
 use Rattle.laws.specs.Lists.{tab}
 use Rattle.meaning.specs.Answers.{Whole}
 use Rattle.meaning.specs.declared.Outline.{Outline}
@@ -26,7 +26,12 @@ entry_at h p =
 abbrev pub entries_of : Sheet → ℕ → ℕ → Result (List ℤ) Refusal
 entries_of h place count = all_near place (tab (entry_at h) count 0) (held most_entries (entry_at h) count)
 
--- the plant that is made, as the code holds it: 0 where a number is out, and the sheet's own arrays of edges
+-- what is told of them where they are left in an array: done, it holds them, and refused nothing is said of it
+abbrev pub EntriesTold : Sheet → ℕ → ℕ → List ℤ → Result (Unit {0}) Refusal → Type 0
+EntriesTold h place count coef (Ok x) = entries_of h place count ≡ Ok coef
+EntriesTold h place count coef (Err e) = entries_of h place count ≡ Err e
+
+-- the plant that is made, as the code holds it: 0 where a number is out, and the sheet's own arrays of edges; its coefficients stand apart
 abbrev pub held_outline : Sheet → Outline
 held_outline h = record {
   form = 1;
@@ -51,7 +56,7 @@ abbrev pub held_plant : Sheet → Plant
 held_plant h = plant_from (held_outline h) (held_ends h) (held_coef h)
 
 abbrev pub held_made : Sheet → Made
-held_made h = record { outline = held_outline h; ends = held_ends h; coef = held_coef h }
+held_made h = record { outline = held_outline h; ends = held_ends h }
 
 abbrev pub made_of : Sheet → Result Made Refusal
 made_of h = all_near 0 (made_numbers h) (held_made h)

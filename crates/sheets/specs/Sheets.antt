@@ -19,7 +19,7 @@ use Rattle.sheets.specs.Floats.{two_part, float_bytes}
 use Rattle.sheets.specs.Rooms.{bytes_of_room}
 use Rattle.sheets.specs.Sizes.{Sized}
 use Rattle.sheets.specs.declared.made.Made.{Made}
-use Rattle.sheets.specs.Made.{made_of}
+use Rattle.sheets.specs.Made.{held_coef, made_of}
 
 -- ---- judged up to and with 5
 
@@ -117,7 +117,7 @@ rest_bytes h = float_bytes h.time ++ (float_bytes h.outside ++ tabs (bytes_of_ro
 unfoldable pub sheet_draft : Sheet → List ℕ
 sheet_draft h = draft_bytes 1000 (sheet_beginning h) (rest_bytes h)
 
--- ---- the plant of a sheet's file, with its arrays; 14 is told by what makes it
+-- ---- the plant of a sheet's file, and its coefficients; 14 is told by what makes it
 
 abbrev pub planned_by : SheetRead → Result Made Refusal
 planned_by (Ok h) = made_of h
@@ -125,3 +125,10 @@ planned_by (Err e) = Err e
 
 abbrev pub planned_of : List ℕ → Result Made Refusal
 planned_of s = planned_by (unfitted s)
+
+abbrev pub coef_by : SheetRead → List ℤ
+coef_by (Ok h) = held_coef h
+coef_by (Err e) = []
+
+abbrev pub planned_coef : List ℕ → List ℤ
+planned_coef s = coef_by (unfitted s)

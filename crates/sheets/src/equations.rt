@@ -13,7 +13,9 @@ fn room_of(h: Sheet, i: usize) -> Room
     requires { i < 4 }
     ensures { result ≡ room_at h i }
 {
-    h.rooms[i]
+    // bound first: indexed in the sheet, the whole of it would be copied for each coefficient
+    let rooms = h.rooms;
+    rooms[i]
 }
 
 // A room's exchange with the j-th of the other rooms.

@@ -1,10 +1,10 @@
 // The plant made of a sheet: its numbers in plant order, or the place of the first that the plant cannot hold. Relies on bands, equations,
 // wholes and refusals. Leaves out the files (the sheet's and the plant's).
-ghost use Rattle.std.specs.Prelude.{◌≡◌, ◌≤◌};
+ghost use Rattle.std.specs.Prelude.{◌≡◌, ◌≤◌, IfOk, pos, replicate};
 ghost use Rattle.meaning.specs.Sheets.{made_modes};
 ghost use Rattle.sheets.specs.Sizes.{Sized};
 ghost use Rattle.sheets.specs.Equations.{sums_of, bits_of};
-ghost use Rattle.sheets.specs.Made.{most_entries, entry_at, entries_of, made_of};
+ghost use Rattle.sheets.specs.Made.{most_entries, entry_at, EntriesTold, held_coef, made_of};
 
 use crate::bands::ENDS;
 use crate::{bands, equations, refusals, wholes};
@@ -35,23 +35,29 @@ fn entry(h: Sheet, sums: [f64; 4], bits: [usize; 4], p: usize) -> Option<i64>
     wholes::whole(10_000_000_000, h.q * h.r, equations::offset(h, bit, u, i))
 }
 
-// The coefficients, zeros behind them; or 14 at the first that is out, `place` being that of the first of them.
-// Always inlined: its array is part of what `make` answers, and is not to be copied on the way.
-#[inline(always)]
-fn coefficients(h: Sheet, place: usize, count: usize) -> Result<[i64; ENTRIES], Refusal>
+// The coefficients, in an array of zeros; or 14 at the first that is out, `place` being that of the first of them. The array is lent, since one that is
+// answered is zeroed and copied at each return.
+fn coefficients(
+    h: Sheet,
+    place: usize,
+    count: usize,
+    coef: &mut [i64; ENTRIES],
+) -> Result<(), Refusal>
     requires fact_1 { Sized h }
     requires fact_2 { count ≤ most_entries }
     requires fact_3 { place ≤ 100 }
-    ensures { result ≡ entries_of h place count }
+    requires zeros { coef.old ≡ replicate most_entries (pos 0) }
+    ensures { EntriesTold h place count coef.new result }
 {
     let sums = equations::loss_sums(h);
     let bits = equations::bits(h);
-    let mut coef = [0i64; ENTRIES];
     for p in 0..count {
-        let v = entry(h, sums, bits, p).ok_or(refusals::bad_result(place + p))?;
+        let Some(v) = entry(h, sums, bits, p) else {
+            return Err(refusals::bad_result(place + p));
+        };
         coef[p] = v;
     }
-    Ok(coef)
+    Ok(())
 }
 
 // N is 2 to the number of rooms that have an emitter.
@@ -62,25 +68,26 @@ fn modes(h: Sheet) -> usize
     1 << equations::emitters(h, h.n)
 }
 
-// The plant, with its arrays.
+// The plant, but for its coefficients, which stand in a lent array.
 #[derive(Clone, Copy)]
 pub struct Made {
     pub outline: Outline,
     pub ends: [i64; ENDS],
-    pub coef: [i64; ENTRIES],
 }
 
 // The plant of a sheet; or 14 at the first of the plant file's numbers, its form being 0, that the plant cannot hold. Those in front of the bands it can.
-#[inline(always)]
-pub fn make(h: Sheet) -> Result<Made, Refusal>
-    requires { Sized h }
-    ensures { result ≡ made_of h }
+// The coefficients go into an array of zeros.
+pub fn make(h: Sheet, coef: &mut [i64; ENTRIES]) -> Result<Made, Refusal>
+    requires sized { Sized h }
+    requires zeros { coef.old ≡ replicate most_entries (pos 0) }
+    ensures plant { result ≡ made_of h }
+    ensures coef { IfOk result (λ m. coef.new ≡ held_coef h) }
 {
     let n = h.n;
     let modes = modes(h);
     let place = 6 + 4 * n;
     let ends = bands::widened(h, place)?;
-    let coef = coefficients(h, place + 2 * n, modes * n * (n + 1))?;
+    coefficients(h, place + 2 * n, modes * n * (n + 1), coef)?;
     let Sheet {
         rlo,
         rhi,
@@ -100,9 +107,5 @@ pub fn make(h: Sheet) -> Result<Made, Refusal>
         slo,
         shi,
     };
-    Ok(Made {
-        outline,
-        ends,
-        coef,
-    })
+    Ok(Made { outline, ends })
 }

@@ -1,15 +1,16 @@
 // Sheet files, read and written, and made into plant files. Relies on files' beginnings and on floats and rooms for the parts of a file, on made for the
 // plant. Leaves out what a plant does: that is crates/tables.
-ghost use Rattle.std.specs.Prelude.{◌≡◌};
+ghost use Rattle.std.specs.Prelude.{◌≡◌, IfOk, pos, replicate};
 ghost use Rattle.laws.specs.Writing.{Put};
 ghost use Rattle.meaning.specs.Files.{good, bad};
 ghost use Rattle.meaning.specs.Sheets.{sheet_read_of, sheet_read, sheet_left, made_left};
 ghost use Rattle.files.specs.Beginnings.{relation, Begun};
-ghost use Rattle.sheets.specs.Sheets.{unfitted, then_fitting, body_read, sheet_with, TakenSized, sheet_draft, planned_of};
+ghost use Rattle.sheets.specs.Sheets.{unfitted, then_fitting, body_read, sheet_with, TakenSized, sheet_draft, planned_of, planned_coef};
+ghost use Rattle.sheets.specs.Made.{most_entries};
 ghost use Rattle.sheets.specs.Sizes.{Sized};
 
 use crate::floats::Asked;
-use crate::made::Made;
+use crate::made::{ENTRIES, Made};
 use crate::{floats, made, rooms};
 use files::beginnings::Beginning;
 use files::bounds::Sides;
@@ -87,7 +88,8 @@ fn fitted(h: Sheet) -> Result<Sheet, Refusal>
     requires { Sized h }
     ensures { result ≡ sheet_read_of (then_fitting (good h)) }
 {
-    made::make(h)?;
+    let mut coef = [0i64; ENTRIES];
+    made::make(h, &mut coef)?;
     Ok(h)
 }
 
@@ -149,12 +151,13 @@ pub fn write_sheet(h: Sheet, buf: &mut [u8]) -> Result<usize, Refusal>
     buffers::leave(read_sheet(file), file, buf)
 }
 
-// The plant of a sheet's file, judged as the sheet, with its arrays.
-#[inline(always)]
-fn planned(sheet: &[u8]) -> Result<Made, Refusal>
-    ensures { result ≡ planned_of sheet.now }
+// The plant of a sheet's file, judged as the sheet; its coefficients in an array of zeros.
+fn planned(sheet: &[u8], coef: &mut [i64; ENTRIES]) -> Result<Made, Refusal>
+    requires zeros { coef.old ≡ replicate most_entries (pos 0) }
+    ensures plant { result ≡ planned_of sheet.now }
+    ensures coef { IfOk result (λ m. coef.new ≡ planned_coef sheet.now) }
 {
-    made::make(read_values(sheet)?)
+    made::make(read_values(sheet)?, coef)
 }
 
 // The plant file of a sheet's file, judged as the sheet, then 10. Finished, only the file's bytes are changed; refused, the buffer is all zeros.
@@ -162,8 +165,9 @@ pub fn make_plant(sheet: &[u8], buf: &mut [u8]) -> Result<usize, Refusal>
     ensures answer { result ≡ (made_left sheet.now buf.old).answer }
     ensures bytes { buf.new ≡ (made_left sheet.now buf.old).buffer }
 {
-    match planned(sheet) {
+    let mut coef = [0i64; ENTRIES];
+    match planned(sheet, &mut coef) {
         Err(e) => buffers::refuse(e, buf),
-        Ok(made) => plants::write_plant(made.outline, &made.ends, &made.coef, buf),
+        Ok(made) => plants::write_plant(made.outline, &made.ends, &coef, buf),
     }
 }

@@ -1,5 +1,5 @@
-// A float times a count, rounded to a whole number of the plant: exact, halves away from zero (document 01, "The sheet"). Relies on
-// meaning's Whole. Leaves out where the floats come from (equations).
+// A float times a count, rounded to a whole number of the plant: exact, halves away from zero (document 01, "The sheet"). Assumes nothing.
+// Leaves out where the floats come from (equations).
 ghost use Rattle.std.specs.Prelude.{◌≡◌, ◌≤◌};
 ghost use Rattle.meaning.specs.Sheets.{signed_by, limited_to, whole_of};
 

@@ -120,7 +120,11 @@ module _ (h : Sheet) (s : Sized h) where
     pub entries-stop : (e : Refusal) → entries_of h (6 + 4 * h.n + 2 * h.n) count ≡ Err e → made_of h ≡ Err e
     entries-stop e g = bands-fit ∙ near-same (6 + 4 * h.n + 2 * h.n) entries (held_made h) (held_coef h) e g
 
-    pub made-is : (coef' : List ℤ) → entries_of h (6 + 4 * h.n + 2 * h.n) count ≡ Ok coef' → ◌≡◌ {A = Result Made Refusal} (Ok (record { outline = held_outline h; ends = ends'; coef = coef' })) (made_of h)
-    made-is coef' g =
-        rw (near-holds (6 + 4 * h.n) bands (held_ends h) ends' q, near-holds (6 + 4 * h.n + 2 * h.n) entries (held_coef h) coef' g)
-        (sym (bands-fit ∙ near-fits (6 + 4 * h.n + 2 * h.n) entries (held_made h) (held_coef h) coef' g))
+    module _ (coef' : List ℤ) (g : entries_of h (6 + 4 * h.n + 2 * h.n) count ≡ Ok coef') where
+      pub made-is : ◌≡◌ {A = Result Made Refusal} (Ok (record { outline = held_outline h; ends = ends' })) (made_of h)
+      made-is =
+          rw (near-holds (6 + 4 * h.n) bands (held_ends h) ends' q)
+          (sym (bands-fit ∙ near-fits (6 + 4 * h.n + 2 * h.n) entries (held_made h) (held_coef h) coef' g))
+
+      pub coef-is : coef' ≡ held_coef h
+      coef-is = near-holds (6 + 4 * h.n + 2 * h.n) entries (held_coef h) coef' g

@@ -19,8 +19,9 @@ use Rattle.meaning.specs.Plants.{plant_from, plant_left}
 use Rattle.meaning.specs.Sheets.{sheet_form, made_numbers, is_near, sheet_judged, sheet_read_of, made_left}
 use Rattle.promises.specs.Sheets.SheetPlants.{made-refused}
 use Rattle.sheets.specs.declared.made.Made.{Made}
-use Rattle.sheets.specs.Made.{held_made, made_of}
-use Rattle.sheets.specs.Sheets.{unfitted_of, unfitted, then_fitting, fitted, planned_by, planned_of}
+use lib.IntN.{ℤ}
+use Rattle.sheets.specs.Made.{held_outline, held_ends, held_made, made_of}
+use Rattle.sheets.specs.Sheets.{unfitted_of, unfitted, then_fitting, fitted, planned_by, planned_of, coef_by, planned_coef}
 use Rattle.sheets.proofs.wholes.Counts.{near-holds}
 use Rattle.sheets.proofs.made.Written.{held-left}
 
@@ -76,11 +77,12 @@ module _ (s : List ℕ) where
         go (Ok h) v q = values-taken h v ∙ not-fitting h e q
         go (Err x) v q = let r : x ≡ e = cc in values-refused x v ∙ ap bad r
 
-    pub fit-left : (m : Made) → planned_of s ≡ Ok m → made_left s buf ≡ plant_left (plant_from m.outline m.ends m.coef) buf
-    fit-left m q = go (unfitted s) refl q
+    pub fit-left : (m : Made) (coef : List ℤ) → planned_of s ≡ Ok m → coef ≡ planned_coef s → made_left s buf ≡ plant_left (plant_from m.outline m.ends coef) buf
+    fit-left m coef q k = go (unfitted s) refl q k
       where
-        go : (r : SheetRead) → unfitted s ≡ r → planned_by r ≡ Ok m → made_left s buf ≡ plant_left (plant_from m.outline m.ends m.coef) buf
-        go (Ok h) v q =
-            sym (ap (λ (x : Made). plant_left (plant_from x.outline x.ends x.coef) buf) (made_held h m q)
+        go : (r : SheetRead) → unfitted s ≡ r → planned_by r ≡ Ok m → coef ≡ coef_by r → made_left s buf ≡ plant_left (plant_from m.outline m.ends coef) buf
+        go (Ok h) v q k =
+            sym (ap (λ (x : Made). plant_left (plant_from x.outline x.ends coef) buf) (made_held h m q)
+            ∙ ap (λ (cs : List ℤ). plant_left (plant_from (held_outline h) (held_ends h) cs) buf) k
             ∙ held-left s h buf (values-taken h v ∙ all-fitting h m q))
-        go (Err x) v q = never cc
+        go (Err x) v q k = never cc
