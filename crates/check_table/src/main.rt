@@ -1,14 +1,13 @@
 // The checker as a program: check_table PLANT TABLE says "accepted", or the refusal of a table's file for a plant's file; check_table start PLANT START says it of
 // a start file. A word tells them apart, since both kinds of file may begin with 01.
 // Relies on crate tables for the verdict and on crate desk for files. The kit has a library of the name check, so the program has another.
-// Where memory runs out, the program says so on standard error and fails; it has given no verdict then.
+// Where memory runs out, the program says so on standard error; it has given no verdict then.
 
 #![tactic(auto)]
 
 use desk::papers::{Fault, Word};
 use desk::{papers, tellings};
 use meaning::Refusal;
-use std::alloc::AllocError;
 use std::rt::Files;
 use tables::{checks, start_checks};
 
@@ -34,12 +33,14 @@ fn verdict<'a>(
     }
 }
 
-fn main(rt: HostRuntime) -> Result<(), AllocError> {
-    let words = papers::words(&rt)?;
+fn main(rt: HostRuntime) {
+    let words = match papers::words(&rt) {
+        Ok(words) => words,
+        Err(error) => return Fault::Memory(error).tell(rt.stderr()),
+    };
     match verdict(&rt, words.as_slice()) {
         Ok(Ok(())) => tellings::say(&rt, b"accepted\n"),
         Ok(Err(e)) => tellings::tell(&rt, e),
-        Err(fault) => return fault.tell(rt.alloc(), rt.stderr()),
+        Err(fault) => fault.tell(rt.stderr()),
     }
-    Ok(())
 }

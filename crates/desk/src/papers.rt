@@ -2,14 +2,14 @@
 // standard error. Leaves out what a file says. No more of a file is read than a right one of its kind can have, and as many bytes as settle what is said of
 // one that goes on behind that; so every file is judged, however long. A start file's lengths may reach as far as they like, so that no number of bytes
 // settles what is said of it: one that goes on is not judged (read_whole).
-ghost use Rattle.std.specs.Prelude.{◌≡◌, ◌≤◌, ◌↔◌, false, codes, IfOk, IsTrue, MatchOption, vec_len};
+ghost use Rattle.std.specs.Prelude.{◌≡◌, ◌≤◌, ◌+◌, ◌↔◌, false, codes, length, IfOk, IsTrue, MatchOption, vec_len};
 ghost use Rattle.io.specs.Counts.{IsPrefixLen};
 
 use crate::tellings;
 use std::alloc::{AllocError, Global};
 use std::env::{Env, FillError};
 use std::fs::File;
-use std::io::{Read, Stderr};
+use std::io::{Cursor, Read, Stderr, Write};
 use std::rt::Files;
 use std::{io, str};
 
@@ -57,47 +57,58 @@ impl From<AllocError> for Fault<'_> {
 }
 
 impl Fault<'_> {
-    // A line to standard error. Where memory has run out, that is left to the caller.
-    pub fn tell(self, alloc: Global, err: Stderr) -> Result<(), AllocError> {
+    // A line to standard error. It takes no memory but the stack's.
+    pub fn tell(self, err: Stderr) {
         match self {
             Fault::Usage(words) => {
                 tellings::say(&err, b"usage: ");
                 tellings::say(&err, words.as_bytes());
                 tellings::say(&err, b"\n");
-                Ok(())
             }
-            Fault::Word => fail(
-                alloc,
-                err,
-                b"argument",
-                io::Error::from_raw_os_error(TOO_LONG),
-            ),
-            Fault::File(path, error) => fail(alloc, err, path, error),
-            Fault::Length => {
-                tellings::say(&err, b"longer than any such file can be\n");
-                Ok(())
-            }
-            Fault::Memory(error) => Err(error),
+            Fault::Word => fail(err, b"argument", io::Error::from_raw_os_error(TOO_LONG)),
+            Fault::File(path, error) => fail(err, path, error),
+            Fault::Length => tellings::say(&err, b"longer than any such file can be\n"),
+            Fault::Memory(_) => tellings::say(&err, b"out of memory\n"),
         }
     }
 }
 
-// An error in the system's words. std puts its number behind them in brackets: that is left out.
-fn without_number(told: &str) -> &str {
-    match told.split_once(" (") {
-        Some((words, _)) => words,
-        None => told,
+// Why a call failed, in the system's words, at the start of buf, which is all zeros; how many bytes. std puts the error's number behind them in brackets:
+// that is left out, with the blank before it.
+fn reason(error: io::Error, buf: &mut [u8]) -> usize
+    ensures { result ≤ length buf.new }
+{
+    let mut text = Cursor::new(&mut *buf);
+    let _ = write!(text, "{error}");
+    match buf
+        .iter()
+        .position(|letter| *letter == b'(' || *letter == 0)
+    {
+        Some(at) if buf[at] == b'(' => at.saturating_sub(1),
+        Some(at) => at,
+        None => buf.len(),
     }
 }
 
 // A line to standard error: what failed, as the caller names it, a colon and why.
-fn fail(alloc: Global, err: Stderr, what: &[u8], error: io::Error) -> Result<(), AllocError> {
-    let told = error.to_string(alloc)?;
+fn fail(err: Stderr, what: &[u8], error: io::Error) {
+    let mut text = [0u8; 128];
+    let n = reason(error, &mut text);
     tellings::say(&err, what);
     tellings::say(&err, b": ");
-    tellings::say(&err, without_number(told.as_str()).as_bytes());
+    tellings::say(&err, &text[..n]);
     tellings::say(&err, b"\n");
-    Ok(())
+}
+
+// How many words the program was called with, its own name among them.
+pub fn given(rt: &impl Env) -> usize {
+    let mut byte = [0u8; 1];
+    for i in 0..usize::MAX {
+        if let Err(FillError::NotPresent) = rt.arg(i, &mut byte) {
+            return i;
+        }
+    }
+    usize::MAX
 }
 
 // The words that the program was called with, its own name first.
@@ -106,7 +117,7 @@ pub fn words(rt: &(impl Env + AllocGlobal)) -> Result<Vec<Word>, AllocError>
 {
     let mut words = Vec::new(rt.alloc());
     let mut room = [0u8; WORD];
-    for i in 0..WORDS {
+    for i in 0..given(rt).min(WORDS) {
         match rt.arg(i, &mut room) {
             Ok(length) => words.push(Some(Vec::from_slice(rt.alloc(), &room[..length])?))?,
             Err(FillError::TooLong) => words.push(None)?,
@@ -136,18 +147,26 @@ pub fn number(word: &Word) -> Option<usize> {
     Some(digits.parse().unwrap_or(usize::MAX))
 }
 
-// Reads until buf is full, the input ends or a read fails; how many bytes stand at the start of buf.
-pub fn read_full(file: &mut impl Read, buf: &mut [u8]) -> usize
-    ensures { IsPrefixLen result buf.new }
+// Reads until buf is full, the input ends or a read fails; how many bytes stand at the start of buf, and whether all went well.
+fn fill(file: &mut impl Read, buf: &mut [u8]) -> (usize, io::Result<()>)
+    ensures { IsPrefixLen result.0 buf.new }
 {
     let mut done: usize = 0;
     while done < buf.len() {
         match file.read(&mut buf[done..]) {
             Ok(0) => break,
             Ok(n) => done += n,
-            Err(_) => break,
+            Err(error) => return (done, Err(error)),
         }
     }
+    (done, Ok(()))
+}
+
+// The same of an input whose errors nobody is told.
+pub fn read_full(file: &mut impl Read, buf: &mut [u8]) -> usize
+    ensures { IsPrefixLen result buf.new }
+{
+    let (done, _) = fill(file, buf);
     done
 }
 
@@ -159,21 +178,21 @@ fn open<R: Files>(rt: &R, path: &[u8]) -> io::Result<R::File> {
     }
 }
 
-// The file of that name, as many bytes at most.
-fn read_named(rt: &(impl Files + AllocGlobal), path: &[u8], most: u64) -> io::Result<Vec<u8>> {
-    let mut bytes = Vec::new(rt.alloc());
-    open(rt, path)?.take(most).read_to_end(&mut bytes)?;
-    Ok(bytes)
-}
-
-// The file that a word names, as many bytes and one more, where there are so many.
+// The file that a word names, as many bytes and one more, where there are so many: no more are read, into memory for so many.
 fn read_past<'a>(
     rt: &(impl Files + AllocGlobal),
     word: &'a Word,
     most: usize,
-) -> Result<Vec<u8>, Fault<'a>> {
+) -> Result<Vec<u8>, Fault<'a>>
+    ensures { IfOk result (λ v. vec_len v ≤ most + 1) }
+{
     let path = word.as_ref().ok_or(Fault::Word)?.as_slice();
-    read_named(rt, path, (most as u64).saturating_add(1)).map_err(|error| Fault::File(path, error))
+    let mut file = open(rt, path).map_err(|error| Fault::File(path, error))?;
+    let mut bytes = vec![in rt.alloc(); 0u8; most.saturating_add(1)]?;
+    let (length, ended) = fill(&mut file, bytes.as_mut_slice());
+    ended.map_err(|error| Fault::File(path, error))?;
+    bytes.truncate(length);
+    Ok(bytes)
 }
 
 // The file that a word names, as many bytes at most.
@@ -242,6 +261,24 @@ mod tests {
         assert_eq!(rt; number(&word(alloc, "+1")?), None);
         assert_eq!(rt; number(&word(alloc, "")?), None);
         assert_eq!(rt; number(&None), None);
+        Ok(())
+    }
+
+    #[test]
+    fn reads_files(rt: HostRuntime) -> Result<(), Fail> {
+        let zeros = word(rt.alloc(), "/dev/zero")?;
+        let nothing = word(rt.alloc(), "/dev/null")?;
+        if let Ok(bytes) = read(&rt, &zeros, 3) {
+            assert_eq!(rt; bytes.as_slice(), b"\0\0\0".as_slice());
+        } else {
+            assert!(rt; false, "not read");
+        }
+        if let Ok(bytes) = read_whole(&rt, &nothing, 3) {
+            assert!(rt; bytes.is_empty());
+        } else {
+            assert!(rt; false, "not read whole");
+        }
+        assert!(rt; read_whole(&rt, &zeros, 3).is_err());
         Ok(())
     }
 

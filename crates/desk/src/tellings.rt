@@ -1,21 +1,37 @@
-// What a program tells: a refusal, words. Relies on std to print. Leaves out what was refused, and why. A program that cannot write goes on, here and in
-// what it says: there is nobody left to tell.
+// What a program tells: a refusal, words. Relies on crate figures for numbers, and on std to write. Leaves out what was refused, and why. A program that
+// cannot write goes on, here and in what it says: there is nobody left to tell.
+use figures::texts;
 use meaning::Refusal;
+
+// Room for a refusal's numbers: each has twenty digits at most.
+const LINE: usize = 80;
+
+// "refused", number and place, at the start of a line; the place behind them.
+fn put_refused(line: &mut [u8], e: Refusal) -> usize {
+    let word = texts::put(line, 0, b"refused ");
+    let number = texts::put_decimal(line, word, e.number as usize);
+    let blank = texts::put(line, number, b" ");
+    texts::put_decimal(line, blank, e.place)
+}
 
 // The listing's line: number and place.
 pub fn tell_place(out: &impl Print, e: Refusal) {
-    let _ = println!(out; "refused {} {}", e.number, e.place);
+    let mut line = [0u8; LINE];
+    let place = put_refused(&mut line, e);
+    let end = texts::put(&mut line, place, b"\n");
+    say(out, &line[..end.min(LINE)]);
 }
 
 // The other programs' line: number, place, step, and the words of the row.
 pub fn tell(out: &impl Print, e: Refusal) {
-    let _ = println!(out;
-        "refused {} {} {}: {}",
-        e.number,
-        e.place,
-        e.step,
-        row(e.number)
-    );
+    let mut line = [0u8; LINE];
+    let place = put_refused(&mut line, e);
+    let blank = texts::put(&mut line, place, b" ");
+    let step = texts::put_decimal(&mut line, blank, e.step);
+    let end = texts::put(&mut line, step, b": ");
+    say(out, &line[..end.min(LINE)]);
+    say(out, row(e.number).as_bytes());
+    say(out, b"\n");
 }
 
 // The words of document 01's row with this number.
