@@ -13,16 +13,13 @@ pub fn answer(a: Result<(usize, State), Refusal>, out: &mut [u64; 5]) -> u64
     ensures mode { result ≡ mode (answer_shown a) }
     ensures state { out.new ≡ number_and_state (answer_shown a) }
 {
-    match a {
-        Ok((u, next)) => {
-            *out = [0, 0, 0, next.place as u64, next.left as u64];
-            u as u64
-        }
-        Err(e) => {
-            *out = [e.number as u64, e.place as u64, e.step as u64, 0, 0];
-            NO_MODE
-        }
-    }
+    let Ok((u, next)) = a else {
+        let Err(e) = a else { unreachable!() };
+        *out = [e.number as u64, e.place as u64, e.step as u64, 0, 0];
+        return NO_MODE;
+    };
+    *out = [0, 0, 0, next.place as u64, next.left as u64];
+    u as u64
 }
 
 // The mode of a start controller's answer, NO_MODE where it is refused; out holds number, place and step of the refusal, then the next state.
@@ -30,15 +27,12 @@ pub fn start_answer(a: Result<(usize, StartState), Refusal>, out: &mut [u64; 6])
     ensures mode { result ≡ mode (start_answer_shown a) }
     ensures state { out.new ≡ numbers_and_state (start_answer_shown a) }
 {
-    match a {
-        Ok((u, next)) => {
-            let s = next.state;
-            *out = [0, 0, 0, next.index as u64, s.place as u64, s.left as u64];
-            u as u64
-        }
-        Err(e) => {
-            *out = [e.number as u64, e.place as u64, e.step as u64, 0, 0, 0];
-            NO_MODE
-        }
-    }
+    let Ok((u, next)) = a else {
+        let Err(e) = a else { unreachable!() };
+        *out = [e.number as u64, e.place as u64, e.step as u64, 0, 0, 0];
+        return NO_MODE;
+    };
+    let s = next.state;
+    *out = [0, 0, 0, next.index as u64, s.place as u64, s.left as u64];
+    u as u64
 }
