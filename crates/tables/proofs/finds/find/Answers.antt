@@ -5,6 +5,7 @@ use Prim.Native.Nat.{ℕ, ◌-◌}
 use mathlib.Core.Path.{◌≡◌, sym, ap, ◌∙◌}
 use mathlib.Core.List.{List, []}
 use native.Mathlib.Omega.{arith}
+use borrow.Author.Tests.{ne_eqb}
 use Rattle.meaning.specs.declared.Refusal.{Refusal}
 use Rattle.meaning.specs.Boxes.{Side}
 use Rattle.meaning.specs.Control.{find}
@@ -19,6 +20,9 @@ use Rattle.tables.proofs.finds.Told.{told-stuck, told-refused, told_child}
 use Rattle.tables.proofs.parts.Laws.{number-within}
 use Rattle.tables.proofs.refusals.Laws.{there, nothing}
 use Rattle.tables.proofs.finds.find.Goals as goal
+
+pub find_walking-requires : goal.find_walking-requires
+find_walking-requires c = (c.requires.0, c.requires.1, ne_eqb c.args.f.form 2 c.if-f-ne2.true)
 
 pub returns-in_err-k : goal.returns-in_err-k
 returns-in_err-k c =

@@ -27,17 +27,6 @@ image-c-requires c =
     let l = c.loop-i in
     (sound l.i c.loop-i-test.true, l.invariant.1)
 
-pub returns-then-not-within : goal.returns-then-not-within
-returns-then-not-within c =
-    let bands : List ℤ = c.args.bands.now in
-    let coef : List ℤ = c.args.coef.now in
-    let frame : Frame = frame_from c.args.f c.args.edges.now in
-    let modes : ℕ → ℕ = mode_at c.args.us in
-    let box : Sides → List Side = λ b. box_of c.args.f.n b in
-    let l = c.loop-i in
-    let e = sym c.within.ensures ∙ c.if-not-within.true in
-    sym (tile-leaves frame bands coef modes c.args.k l.i (box l.c) (box c.image-c.result) c.loop-i-test.true c.image-c.ensures e) ∙ l.invariant.2
-
 pub loop-i-preserved : goal.loop-i-preserved
 loop-i-preserved c =
     let bands : List ℤ = c.args.bands.now in
@@ -52,6 +41,17 @@ loop-i-preserved c =
       tile-small frame bands coef modes c.args.k l.i (box l.c) (box c.image-c.result) h c.image-c.ensures e c.requires.plant.0 (c.requires.pattern.each l.i h) l.invariant.1,
       sym (tile-more frame bands coef modes c.args.k l.i (box l.c) (box c.image-c.result) h c.image-c.ensures e) ∙ l.invariant.2,
     )
+
+pub returns-then-not-within : goal.returns-then-not-within
+returns-then-not-within c =
+    let bands : List ℤ = c.args.bands.now in
+    let coef : List ℤ = c.args.coef.now in
+    let frame : Frame = frame_from c.args.f c.args.edges.now in
+    let modes : ℕ → ℕ = mode_at c.args.us in
+    let box : Sides → List Side = λ b. box_of c.args.f.n b in
+    let l = c.loop-i in
+    let e = sym c.within.ensures ∙ c.if-not-within.true in
+    sym (tile-leaves frame bands coef modes c.args.k l.i (box l.c) (box c.image-c.result) c.loop-i-test.true c.image-c.ensures e) ∙ l.invariant.2
 
 pub returns-then-within : goal.returns-then-within
 returns-then-within c =
