@@ -262,7 +262,7 @@ plant_related (read vs next) =
 unfoldable pub plant_judged : List ℕ → Judged Plant
 plant_judged s = plant_related (values_of plant_form s)
 
--- what a plant's reader answers; a refused one's outline is all zeros
+-- what a plant's reader answers: an outline, or the refusal
 abbrev pub outline_of : Plant → Outline
 outline_of p = record { form = p.form; n = p.n; modes = p.modes; q = p.q; k = p.k; d = p.d; rlo = p.rlo; rhi = p.rhi; slo = p.slo; shi = p.shi }
 

@@ -313,7 +313,7 @@ sheet_related (read vs next) =
 unfoldable pub sheet_judged : List ℕ → Judged Sheet
 sheet_judged s = sheet_related (values_of sheet_form s)
 
--- what a sheet's reader answers; a refused one's sheet is all zeros
+-- what a sheet's reader answers: the sheet, or the refusal
 abbrev pub sheet_read_of : Judged Sheet → SheetRead
 sheet_read_of (good h) = Ok h
 sheet_read_of (bad r) = Err r
