@@ -5,9 +5,9 @@
    The two controllers answer a mode, and their out has the number before these.
    Every number is 64 bits wide, answers and lengths too, so that one proved module serves every processor.
 
-   Stack, in bytes, measured on an emulated Cortex-M4, each on a table of form 3 that is halved twelve times: plant 2,480, sheet 20,312, control 13,240,
-   start_control 14,568, whatever the plant; start_check 19,424 and start_make 56,404 on a plant of one mode; check 70,912, relay 71,752 and make 167,164 on
-   one of 129, whose larger arrays they keep. On tables of form 1, split six times at most, each takes 5,280 less, and a maker 6,048. On tables of form 2,
+   Stack, in bytes, measured on an emulated Cortex-M4, each on a table of form 3 that is halved twelve times: plant 2,480, sheet 12,576, control 13,240,
+   start_control 14,568, whatever the plant; start_check 19,424 and start_make 54,652 on a plant of one mode; check 70,912, relay 71,752 and make 165,412 on
+   one of 129, whose larger arrays they keep. On tables of form 1, split six times at most, each takes 5,280 less, and a maker 5,136. On tables of form 2,
    down which a call goes in a loop, control takes 3,088 and start_control 4,416. */
 #ifndef HOACHULIM_H
 #define HOACHULIM_H
