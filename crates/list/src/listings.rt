@@ -1,43 +1,85 @@
 // The listing (document 01, "The listing program"; requests 2026-06 and 2026-01): the table of a plant in the form that is asked for, a line for each tile in file order.
 // Relies on crate tables for the table, on boxes for the tiles' boxes. Leaves out whether a table is right: it lists what the maker made.
-// The header tells how many tiles there are: the tiles' lines are kept until it is told.
+// A table is walked twice: its header tells how many tiles there are, before the first of them.
 use crate::boxes::Bx;
 use crate::readers::Reader;
 use desk::tellings;
 use figures::lines::Lines;
 use files::plants;
 use meaning::Outline;
-use std::alloc::{AllocError, Global};
+use std::alloc::AllocError;
 use tables::makes;
 
-// How far a walk over a table has come: what is left of it, the tiles passed and their lines, their longest pattern.
-#[derive(Drop)]
-struct Listing<'a> {
-    form: usize,
-    table: Reader<'a>,
+// Lines are told once there are so many bytes of them. No line has more than 98: what is told at once, fewer than 4,096 bytes, takes no more memory than that
+// and goes into a pipe whole or not at all.
+const FULL: usize = 3_968;
+
+// What a walk does with a table's tiles.
+trait Tiles {
+    // A tile over box b, of k modes, which come next in the table.
+    fn tile(&mut self, k: usize, b: Bx, table: &mut Reader) -> Result<(), AllocError>;
+}
+
+// How many tiles were passed, and their longest pattern.
+#[derive(Clone, Copy)]
+struct Tally {
     tiles: usize,
     longest: usize,
+}
+
+impl Tiles for Tally {
+    fn tile(&mut self, k: usize, _b: Bx, table: &mut Reader) -> Result<(), AllocError> {
+        for _ in 0..k {
+            let _ = table.number();
+        }
+        self.tiles = self.tiles.saturating_add(1);
+        self.longest = self.longest.max(k);
+        Ok(())
+    }
+}
+
+// The lines that are not told yet, and where they are told.
+#[derive(Drop)]
+struct Listing<'a, P> {
+    out: &'a P,
     lines: Lines,
 }
 
-impl Listing<'_> {
-    // A tile of k modes over box b: the sides, a colon, and each mode behind a blank.
-    fn tile(&mut self, k: usize, b: Bx) -> Result<(), AllocError> {
+impl<P: Print> Listing<'_, P> {
+    fn tell(&mut self) {
+        tellings::say(self.out, self.lines.as_bytes());
+        self.lines.bytes.clear();
+    }
+}
+
+impl<P: Print> Tiles for Listing<'_, P> {
+    // The sides, a colon, and each mode behind a blank.
+    fn tile(&mut self, k: usize, b: Bx, table: &mut Reader) -> Result<(), AllocError> {
         b.tell(&mut self.lines)?;
         self.lines.text(":")?;
         for _ in 0..k {
-            let Some(mode) = self.table.number() else {
+            let Some(mode) = table.number() else {
                 break;
             };
             self.lines.text(" ")?;
             self.lines.number(mode)?;
         }
         self.lines.text("\n")?;
-        self.tiles = self.tiles.saturating_add(1);
-        self.longest = self.longest.max(k);
+        if FULL <= self.lines.as_bytes().len() {
+            self.tell();
+        }
         Ok(())
     }
+}
 
+// A table's form, and what is left of it.
+#[derive(Clone, Copy)]
+struct Rest<'a> {
+    form: usize,
+    table: Reader<'a>,
+}
+
+impl Rest<'_> {
     // Past the lengths that a split of form 2 tells, one of each child but the last.
     fn past_lengths(&mut self, children: usize) {
         if self.form == 2 {
@@ -48,12 +90,12 @@ impl Listing<'_> {
     }
 
     // The tree over box b, with depth d left.
-    fn tree(&mut self, d: usize, b: Bx) -> Result<(), AllocError> {
+    fn tree(&mut self, d: usize, b: Bx, tiles: &mut impl Tiles) -> Result<(), AllocError> {
         let Some(k) = self.table.number() else {
             return Ok(());
         };
         if 0 < k {
-            return self.tile(k, b);
+            return tiles.tile(k, b, &mut self.table);
         }
         if d == 0 {
             return Ok(());
@@ -61,20 +103,8 @@ impl Listing<'_> {
         let count = b.count(self.form);
         self.past_lengths(count);
         for x in 0..count {
-            self.tree(d - 1, b.child(self.form, x))?;
+            self.tree(d - 1, b.child(self.form, x), tiles)?;
         }
-        Ok(())
-    }
-
-    // Tiles and longest pattern behind a header, and the tiles' lines.
-    fn show(self, rt: &impl Print, mut header: Lines) -> Result<(), AllocError> {
-        header.text(" ")?;
-        header.number(self.tiles)?;
-        header.text(" ")?;
-        header.number(self.longest)?;
-        header.text("\n")?;
-        tellings::say(rt, header.as_bytes());
-        tellings::say(rt, self.lines.as_bytes());
         Ok(())
     }
 }
@@ -90,19 +120,38 @@ fn depth(form: usize, d: usize, b: &Bx) -> usize {
 }
 
 // The walk of a whole table over its box, by the table's own form, which stands in front, and n behind it.
-fn walk(alloc: Global, d: usize, table: &[u8], root: Bx) -> Result<Listing<'_>, AllocError> {
+fn walk(d: usize, table: &[u8], root: Bx, tiles: &mut impl Tiles) -> Result<(), AllocError> {
     let mut table = Reader::new(table);
     let form = table.number().unwrap_or(0);
     let _n = table.number();
-    let mut listing = Listing {
-        form,
-        table,
+    Rest { form, table }.tree(depth(form, d, &root), root, tiles)
+}
+
+// A table over its box: behind what the header says already, tiles and longest pattern, and then the tiles.
+fn show(
+    rt: &impl Print,
+    mut header: Lines,
+    d: usize,
+    table: &[u8],
+    root: Bx,
+) -> Result<(), AllocError> {
+    let mut tally = Tally {
         tiles: 0,
         longest: 0,
-        lines: Lines::new(alloc),
     };
-    listing.tree(depth(form, d, &root), root)?;
-    Ok(listing)
+    walk(d, table, root, &mut tally)?;
+    header.text(" ")?;
+    header.number(tally.tiles)?;
+    header.text(" ")?;
+    header.number(tally.longest)?;
+    header.text("\n")?;
+    let mut listing = Listing {
+        out: rt,
+        lines: header,
+    };
+    walk(d, table, root, &mut listing)?;
+    listing.tell();
+    Ok(())
 }
 
 // A table made for that plant, behind a header: n, tiles, longest pattern.
@@ -114,7 +163,7 @@ fn show_table(
     let mut header = Lines::new(rt.alloc());
     header.text("table ")?;
     header.number(p.n)?;
-    walk(rt.alloc(), p.d, table, Bx::from(p))?.show(rt, header)
+    show(rt, header, p.d, table, Bx::from(p))
 }
 
 // The table of box i of a start file, behind a header: index, edges, a colon, tiles, longest pattern.
@@ -131,7 +180,7 @@ pub fn show_part(
     header.text(" ")?;
     b.tell(&mut header)?;
     header.text(":")?;
-    walk(rt.alloc(), d, table, b)?.show(rt, header)
+    show(rt, header, d, table, b)
 }
 
 // The listing of a plant's table of that form, or the refusal. No table has more bytes than there is room for.

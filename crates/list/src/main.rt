@@ -1,7 +1,7 @@
 // The listing program (document 01): a plant's file on standard input, the listing of its table or the refusal on standard output. A word of digits is the form of
 // the table (request 2026-06), 1 where there is none. And list start PLANT START: the listing of a start file, box by box.
 // Relies on pages listings and starts. 27,705 bytes of input decide every plant file: no more are read.
-// Where memory runs out, the program says so on standard error; what it has listed by then are whole tables.
+// Where memory runs out, the program says so on standard error; what it has listed by then are whole lines.
 
 #![tactic(auto)]
 
