@@ -6,7 +6,7 @@ ghost use Rattle.std.specs.Prelude.{◌≡◌, ◌≤◌, ◌+◌, ◌↔◌, fa
 ghost use Rattle.io.specs.Counts.{IsPrefixLen};
 
 use crate::tellings;
-use std::alloc::{AllocError, Global};
+use std::alloc::AllocError;
 use std::env::{Env, FillError};
 use std::fs::File;
 use std::io::{Cursor, Read, Stderr, Write};
@@ -226,6 +226,7 @@ pub fn read_whole<'a>(
 #[cfg(test)]
 mod tests {
     use super::*;
+    use std::alloc::Global;
     use std::test::Fail;
 
     fn word(alloc: Global, letters: &str) -> Result<Word, AllocError> {

@@ -2,7 +2,7 @@
 // plant. Leaves out what a plant does: that is crates/tables.
 ghost use Rattle.std.specs.Prelude.{◌≡◌, IfOk, pos, replicate};
 ghost use Rattle.laws.specs.Writing.{Put};
-ghost use Rattle.meaning.specs.Files.{good, bad};
+ghost use Rattle.meaning.specs.Files.{good};
 ghost use Rattle.meaning.specs.Sheets.{sheet_read_of, sheet_read, sheet_left, made_left};
 ghost use Rattle.files.specs.Beginnings.{relation, Begun};
 ghost use Rattle.sheets.specs.Sheets.{unfitted, then_fitting, body_read, sheet_with, TakenSized, sheet_draft, planned_of, planned_coef};
