@@ -29,9 +29,7 @@ struct Tally {
 
 impl Tiles for Tally {
     fn tile(&mut self, k: usize, _b: Bx, table: &mut Reader) -> Result<(), AllocError> {
-        for _ in 0..k {
-            let _ = table.number();
-        }
+        table.pass(k);
         self.tiles = self.tiles.saturating_add(1);
         self.longest = self.longest.max(k);
         Ok(())
@@ -83,9 +81,7 @@ impl Rest<'_> {
     // Past the lengths that a split of form 2 tells, one of each child but the last.
     fn past_lengths(&mut self, children: usize) {
         if self.form == 2 {
-            for _ in 1..children {
-                let _ = self.table.number();
-            }
+            self.table.pass(children.saturating_sub(1));
         }
     }
 

@@ -26,6 +26,13 @@ impl<'a> Reader<'a> {
         Some(v)
     }
 
+    // Past so many numbers.
+    pub fn pass(&mut self, count: usize) {
+        for _ in 0..count {
+            let _ = self.number();
+        }
+    }
+
     // So many bytes.
     pub fn part(&mut self, length: usize) -> Option<&'a [u8]> {
         let (part, rest) = self.rest.split_at_checked(length)?;
