@@ -20,13 +20,13 @@ fn verdict<'a>(
 ) -> Result<Result<(), Refusal>, Fault<'a>> {
     match words {
         [_, plant, table] => {
-            let plant = papers::read(rt, plant, papers::PLANT)?;
-            let table = papers::read(rt, table, papers::TABLE)?;
+            let plant = papers::read_at_once(rt, plant, papers::PLANT)?;
+            let table = papers::read_at_once(rt, table, papers::TABLE)?;
             Ok(checks::check(plant.as_slice(), table.as_slice()))
         }
         [_, word, plant, start] if papers::says_start(word) => {
-            let plant = papers::read(rt, plant, papers::PLANT)?;
-            let start = papers::read_whole(rt, start, papers::START)?;
+            let plant = papers::read_at_once(rt, plant, papers::PLANT)?;
+            let start = papers::read_whole_at_once(rt, start, papers::START)?;
             Ok(start_checks::start_check(plant.as_slice(), start.as_slice()))
         }
         _ => Err(Fault::Usage(USAGE)),

@@ -1,15 +1,15 @@
 // The words that a program is called with: files that they name, read into memory, and numbers. Relies on std for input and output, on page tellings for
 // standard error. Leaves out what a file says. No more of a file is read than a right one of its kind can have, and as many bytes as settle what is said of
 // one that goes on behind that; so every file is judged, however long. A start file's lengths may reach as far as they like, so that no number of bytes
-// settles what is said of it: one that goes on is not judged (read_whole).
+// settles what is said of it: one that goes on is not judged (read_whole_at_once).
 ghost use Rattle.std.specs.Prelude.{◌≡◌, ◌≤◌, ◌+◌, ◌↔◌, false, codes, length, IfOk, IsTrue, MatchOption, vec_len};
 ghost use Rattle.io.specs.Counts.{IsPrefixLen};
 
 use crate::tellings;
-use std::alloc::AllocError;
+use std::alloc::{AllocError, Global};
 use std::env::{Env, FillError};
 use std::fs::File;
-use std::io::{Cursor, Read, Stderr, Write};
+use std::io::{Cursor, ErrorKind, Read, Stderr, Write};
 use std::rt::Files;
 use std::{io, str};
 
@@ -73,21 +73,19 @@ impl Fault<'_> {
     }
 }
 
-// Why a call failed, in the system's words, at the start of buf, which is all zeros; how many bytes. std puts the error's number behind them in brackets:
-// that is left out, with the blank before it.
+// Why a call failed, in the system's words, at the start of buf; how many bytes. From the first blank with a bracket behind it on nothing is told: there std
+// puts the error's number.
 fn reason(error: io::Error, buf: &mut [u8]) -> usize
     ensures { result ≤ length buf.new }
 {
     let mut text = Cursor::new(&mut *buf);
     let _ = write!(text, "{error}");
-    match buf
-        .iter()
-        .position(|letter| *letter == b'(' || *letter == 0)
-    {
-        Some(at) if buf[at] == b'(' => at.saturating_sub(1),
-        Some(at) => at,
-        None => buf.len(),
-    }
+    let end = text.position() as usize;
+    let end = end.min(buf.len());
+    buf[..end]
+        .windows(2)
+        .position(|pair| pair == b" (".as_slice())
+        .unwrap_or(end)
 }
 
 // A line to standard error: what failed, as the caller names it, a colon and why.
@@ -117,7 +115,7 @@ pub fn words(rt: &(impl Env + AllocGlobal)) -> Result<Vec<Word>, AllocError>
 {
     let mut words = Vec::new(rt.alloc());
     let mut room = [0u8; WORD];
-    for i in 0..given(rt).min(WORDS) {
+    for i in 0..WORDS {
         match rt.arg(i, &mut room) {
             Ok(length) => words.push(Some(Vec::from_slice(rt.alloc(), &room[..length])?))?,
             Err(FillError::TooLong) => words.push(None)?,
@@ -195,8 +193,8 @@ fn read_past<'a>(
     Ok(bytes)
 }
 
-// The file that a word names, as many bytes at most.
-pub fn read<'a>(
+// The file that a word names, as many bytes at most. Memory for so many and one more is taken at once: the programs, which read so, know beforehand how much.
+pub fn read_at_once<'a>(
     rt: &(impl Files + AllocGlobal),
     word: &'a Word,
     most: usize,
@@ -209,7 +207,7 @@ pub fn read<'a>(
 }
 
 // The same, of a file that has to be read whole.
-pub fn read_whole<'a>(
+pub fn read_whole_at_once<'a>(
     rt: &(impl Files + AllocGlobal),
     word: &'a Word,
     most: usize,
@@ -223,11 +221,96 @@ pub fn read_whole<'a>(
     Ok(bytes)
 }
 
+// An input to its end, as many bytes at most. std takes memory as it reads, and tries a read that is interrupted again.
+fn read_growing(input: impl Read + Drop, alloc: Global, most: usize) -> io::Result<Vec<u8>>
+    ensures { IfOk result (λ v. vec_len v ≤ most) }
+{
+    let mut taken = Vec::new(alloc);
+    input.take(most as u64).read_to_end(&mut taken)?;
+    taken.truncate(most);
+    Ok(taken)
+}
+
+// The file that a word names, as many bytes and one more, where there are so many, into memory that grows with it.
+fn grow_past<'a>(
+    rt: &(impl Files + AllocGlobal),
+    word: &'a Word,
+    most: usize,
+) -> Result<Vec<u8>, Fault<'a>>
+    ensures { IfOk result (λ v. vec_len v ≤ most + 1) }
+{
+    let path = word.as_ref().ok_or(Fault::Word)?.as_slice();
+    let file = open(rt, path).map_err(|error| Fault::File(path, error))?;
+    read_growing(file, rt.alloc(), most.saturating_add(1)).map_err(|error| Fault::File(path, error))
+}
+
+// The file that a word names, as many bytes at most. Memory is taken as it is read, for what the file has, however large `most` is.
+pub fn read<'a>(
+    rt: &(impl Files + AllocGlobal),
+    word: &'a Word,
+    most: usize,
+) -> Result<Vec<u8>, Fault<'a>>
+    ensures { IfOk result (λ v. vec_len v ≤ most) }
+{
+    let mut grown = grow_past(rt, word, most)?;
+    grown.truncate(most);
+    Ok(grown)
+}
+
+// The same, of a file that has to be read whole.
+pub fn read_whole<'a>(
+    rt: &(impl Files + AllocGlobal),
+    word: &'a Word,
+    most: usize,
+) -> Result<Vec<u8>, Fault<'a>>
+    ensures { IfOk result (λ v. vec_len v ≤ most) }
+{
+    let grown = grow_past(rt, word, most)?;
+    if most < grown.len() {
+        return Err(Fault::Length);
+    }
+    Ok(grown)
+}
+
 #[cfg(test)]
 mod tests {
     use super::*;
-    use std::alloc::Global;
     use std::test::Fail;
+
+    // An input whose reads are interrupted, every other one.
+    #[derive(Drop)]
+    struct Halting<'a> {
+        rest: &'a [u8],
+        halts: bool,
+    }
+
+    impl Read for Halting<'_> {
+        fn read(&mut self, buf: &mut [u8]) -> io::Result<usize> {
+            self.halts = !self.halts;
+            if self.halts {
+                return Err(io::Error::from(ErrorKind::Interrupted));
+            }
+            self.rest.read(buf)
+        }
+    }
+
+    // A program that is called with empty words, one behind the other without end.
+    #[derive(Clone, Copy)]
+    struct Endless;
+
+    impl Env for Endless {
+        fn arg(&self, _i: usize, _buf: &mut [u8]) -> Result<usize, FillError> {
+            Ok(0)
+        }
+
+        fn var(&self, _name: &str, _buf: &mut [u8]) -> Result<usize, FillError> {
+            Err(FillError::NotPresent)
+        }
+
+        fn var_at(&self, _i: usize, _buf: &mut [u8]) -> Result<usize, FillError> {
+            Err(FillError::NotPresent)
+        }
+    }
 
     fn word(alloc: Global, letters: &str) -> Result<Word, AllocError> {
         Ok(Some(Vec::from_slice(alloc, letters.as_bytes())?))
@@ -284,9 +367,78 @@ mod tests {
     }
 
     #[test]
+    fn reads_at_once(rt: HostRuntime) -> Result<(), Fail> {
+        let zeros = word(rt.alloc(), "/dev/zero")?;
+        let nothing = word(rt.alloc(), "/dev/null")?;
+        if let Ok(bytes) = read_at_once(&rt, &zeros, 3) {
+            assert_eq!(rt; bytes.as_slice(), b"\0\0\0".as_slice());
+        } else {
+            assert!(rt; false, "not read");
+        }
+        if let Ok(bytes) = read_whole_at_once(&rt, &nothing, 3) {
+            assert!(rt; bytes.is_empty());
+        } else {
+            assert!(rt; false, "not read whole");
+        }
+        assert!(rt; read_whole_at_once(&rt, &zeros, 3).is_err());
+        Ok(())
+    }
+
+    #[test]
+    fn reads_however_much(rt: HostRuntime) -> Result<(), Fail> {
+        let nothing = word(rt.alloc(), "/dev/null")?;
+        assert!(rt; read(&rt, &nothing, usize::MAX).is_ok_and(|bytes| bytes.is_empty()));
+        assert!(rt; read_whole(&rt, &nothing, usize::MAX).is_ok_and(|bytes| bytes.is_empty()));
+        assert!(rt; read_at_once(&rt, &nothing, usize::MAX).is_err());
+        assert!(rt; read_whole_at_once(&rt, &nothing, usize::MAX).is_err());
+        Ok(())
+    }
+
+    #[test]
+    fn interrupted(rt: HostRuntime) -> Result<(), Fail> {
+        for most in [1, 6, 7, usize::MAX] {
+            let input = Halting {
+                rest: b"a plant".as_slice(),
+                halts: false,
+            };
+            if let Ok(bytes) = read_growing(input, rt.alloc(), most) {
+                assert_eq!(rt; bytes.as_slice(), &b"a plant"[..most.min(7)]);
+            } else {
+                assert!(rt; false, "not read");
+            }
+        }
+        Ok(())
+    }
+
+    #[test]
+    fn reasons(rt: HostRuntime) -> Result<(), Fail> {
+        let mut text = [0u8; 128];
+        let length = reason(io::Error::from_raw_os_error(TOO_LONG), &mut text);
+        assert_eq!(rt; &text[..length], b"File name too long".as_slice());
+        let length = reason(io::Error::other("wait(2) failed"), &mut text);
+        assert_eq!(rt; &text[..length], b"wait(2) failed".as_slice());
+        let length = reason(io::Error::other("no room (of 3)"), &mut text);
+        assert_eq!(rt; &text[..length], b"no room".as_slice());
+        Ok(())
+    }
+
+    #[test]
     fn own_name_first(rt: HostRuntime) -> Result<(), Fail> {
         let words = words(&rt)?;
         assert!(rt; !words.is_empty());
+        Ok(())
+    }
+
+    #[test]
+    fn no_word_too_many(rt: HostRuntime) -> Result<(), Fail> {
+        let words = words(&(Endless, rt.alloc()))?;
+        assert_eq!(rt; words.len(), WORDS);
+        Ok(())
+    }
+
+    #[test]
+    fn as_many_as_given(rt: HostRuntime) -> Result<(), Fail> {
+        assert_eq!(rt; words(&rt)?.len(), given(&rt).min(WORDS));
         Ok(())
     }
 }

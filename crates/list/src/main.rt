@@ -25,8 +25,8 @@ fn list_table(rt: &HostRuntime, form: usize) -> Result<(), AllocError> {
 
 // The start file, for the plant's file.
 fn list_files<'a>(rt: &HostRuntime, plant: &'a Word, start: &'a Word) -> Result<(), Fault<'a>> {
-    let plant = papers::read(rt, plant, papers::PLANT)?;
-    let start = papers::read_whole(rt, start, papers::START)?;
+    let plant = papers::read_at_once(rt, plant, papers::PLANT)?;
+    let start = papers::read_whole_at_once(rt, start, papers::START)?;
     starts::list(rt, plant.as_slice(), start.as_slice())?;
     Ok(())
 }
