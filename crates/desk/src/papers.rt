@@ -9,7 +9,7 @@ use crate::tellings;
 use std::alloc::{AllocError, Global};
 use std::env::{Env, FillError};
 use std::fs::File;
-use std::io::{Cursor, ErrorKind, Read, Stderr, Write};
+use std::io::{Cursor, Read, Stderr, Write};
 use std::rt::Files;
 use std::{io, str};
 
@@ -275,6 +275,7 @@ pub fn read_whole<'a>(
 #[cfg(test)]
 mod tests {
     use super::*;
+    use std::io::ErrorKind;
     use std::test::Fail;
 
     // An input whose reads are interrupted, every other one.
